@@ -1,0 +1,5 @@
+//! What every crate of the checker shares: how names are spelled, the one error of memory, and files by name.
+#![tactic(auto)]
+
+pub mod memory;
+pub mod spelling;
