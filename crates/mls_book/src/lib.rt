@@ -1,0 +1,5 @@
+//! Books of types, finite tests upon them, and the laws of their order.
+#![tactic(auto)]
+
+pub mod book;
+pub mod name;
