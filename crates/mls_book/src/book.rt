@@ -16,14 +16,14 @@ use std::marker::Model;
 pub struct NodeId(pub usize);
 
 /// A field of a record.
-#[derive(Clone, Drop)]
+#[derive(Clone, Debug, Drop)]
 pub struct Field {
     pub label: Name,
     pub node: NodeId,
 }
 
 /// The fields of a record. In a book their labels rise strictly. Contracts see the list.
-#[derive(Clone, Drop)]
+#[derive(Clone, Debug, Drop)]
 pub struct Fields {
     items: Vec<Field>,
 }
@@ -38,7 +38,7 @@ impl Model for Fields {
 }
 
 /// A node of a book: what a type is made of.
-#[derive(Clone, Drop)]
+#[derive(Clone, Debug, Drop)]
 pub enum Node {
     /// The least type.
     Bot,

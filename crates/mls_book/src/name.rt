@@ -16,7 +16,7 @@ use std::hash::{Hash, Hasher};
 use std::marker::Model;
 
 /// A name: a letter `a` to `z` and then letters, digits and `_`, and no reserved word. Contracts see its bytes.
-#[derive(Clone, Drop)]
+#[derive(Clone, Debug, Drop)]
 pub struct Name {
     letters: Vec<u8>,
 }
