@@ -1,0 +1,5 @@
+//! Texts as tokens: their kinds and places, the first fault of a text, lines and columns.
+#![tactic(auto)]
+
+pub mod scan;
+pub mod token;
