@@ -1,0 +1,5 @@
+pub mod Modules
+pub mod Phrases
+pub mod Resolution
+pub mod Terms
+pub mod Trees
