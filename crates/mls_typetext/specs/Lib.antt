@@ -1,0 +1,5 @@
+pub mod Phrases
+pub mod Trees
+pub mod Faults
+pub mod Books
+pub mod Texts

@@ -1,0 +1,4 @@
+//! The texts of types: their grammar, their trees, their books and their faults.
+#![tactic(auto)]
+
+pub mod scheme;

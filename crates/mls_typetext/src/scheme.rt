@@ -1,0 +1,45 @@
+//! What the text of a type is read as.
+use mls_book::book::{Book, NodeId};
+use mls_lexer::token::Kind;
+use thiserror::Error;
+
+/// What the text of a type is read as: the book of its tree, which is closed, its root, and how many variables it
+/// has, which are numbered from 0 in the order of their first appearance.
+#[derive(Drop)]
+pub struct ReadScheme {
+    pub book: Book,
+    pub root: NodeId,
+    pub vars: usize,
+}
+
+/// The first fault of a text of a type, with its place in the text in bytes.
+#[derive(Clone, Copy, Debug, PartialEq, Eq, Error)]
+pub enum TypeFault {
+    /// A byte outside comments with which no token begins.
+    #[error("a byte that begins no token, at {0}")]
+    BadByte(usize),
+    /// The first digit of a number above 9223372036854775807.
+    #[error("a number above 9223372036854775807, at {0}")]
+    BigNumber(usize),
+    /// The first token with which no type can go on.
+    #[error("unexpected token in a type, at {0}")]
+    Unexpected(usize, Kind),
+    /// All tokens can go on, and they are no type.
+    #[error("the type ends too early")]
+    Ended,
+    /// A `|` or `bot` in a negative place, or a `&` or `top` in a positive place.
+    #[error("not a polar type, at {0}")]
+    NotPolar(usize),
+    /// A recursive name with no function and no record between it and its `rec`.
+    #[error("unguarded recursion, at {0}")]
+    Unguarded(usize),
+    /// A recursive name whose place has another sign than that of its `rec`.
+    #[error("contravariant recursion, at {0}")]
+    Contravariant(usize),
+    /// A label that an earlier field of the same record has.
+    #[error("label given twice, at {0}")]
+    DuplicateLabel(usize),
+    /// Memory was wanting.
+    #[error("out of memory")]
+    Memory,
+}
