@@ -1,0 +1,6 @@
+pub mod Answers
+pub mod Commands
+pub mod Lines
+pub mod Outcomes
+pub mod Runs
+pub mod Statuses

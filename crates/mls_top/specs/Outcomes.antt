@@ -1,0 +1,102 @@
+-- What is found when a module's signature is asked for.
+use Rattle.std.specs.Prelude.{◌≡◌, ℕ, ◌<◌, nat_lt, if◌then◌else◌, List, [], ◌∷◌, ◌++◌, length, codes, Option, Some, None, Result, Ok, Err}
+use Rattle.mls_base.specs.Files.{Files, bytes_at}
+use Rattle.mls_lexer.specs.Tokens.{line_of, column_of}
+use Rattle.mls_syntax.specs.declared.module.Module.{Module}
+use Rattle.mls_syntax.specs.declared.term.Resolved.{Resolved}
+use Rattle.mls_syntax.specs.declared.term.ResolvedBinding.{ResolvedBinding}
+use Rattle.mls_syntax.specs.declared.parse.Fault.{Fault}
+use Rattle.mls_syntax.specs.Modules.{IsPlainModuleOf, HasFault}
+use Rattle.mls_syntax.specs.Resolution.{Resolves}
+use Rattle.mls_typetext.specs.declared.scheme.ReadScheme.{ReadScheme}
+use Rattle.mls_typetext.specs.Texts.{IsTypeText}
+use Rattle.mls_top.specs.declared.status.Status.{Status}
+use Rattle.mls_top.specs.declared.status.Status.TheVariants.{Done, BadText, NoFile, TooLong}
+use Rattle.mls_top.specs.Lines.{module_file, not_found_line, too_long_line, fault_line, fault_number, fault_text, fault_place}
+
+-- the most bytes that the text of a module may have
+abbrev pub module_limit : ℕ
+module_limit = 1048576
+
+-- why a command is refused
+pub data Refusal : Type 0 where
+  -- there is no such file
+  no_file : (file : List ℕ) → Refusal
+  -- the file has more bytes than this
+  too_long : (file : List ℕ) (limit : ℕ) → Refusal
+  -- the text of the file has this first fault
+  bad_text : (file text : List ℕ) (fault : Fault) → Refusal
+
+-- the bytes of a file that has at most so many, or why there are none
+abbrev pub within : List ℕ → ℕ → List ℕ → Result (List ℕ) Refusal
+within file limit bytes = if nat_lt limit (length bytes) then Err (too_long file limit) else Ok bytes
+
+abbrev pub found : List ℕ → ℕ → Option (List ℕ) → Result (List ℕ) Refusal
+found file limit None = Err (no_file file)
+found file limit (Some bytes) = within file limit bytes
+
+abbrev pub text_at : Files → List ℕ → ℕ → Result (List ℕ) Refusal
+text_at files file limit = found file limit (bytes_at files file)
+
+-- an entry of a signature: a name, the text of its type, and what that is read as
+pub record Entry : Type 0 where
+  pub x : List ℕ
+  pub text : List ℕ
+  pub read : ReadScheme
+
+-- the entry is one for the binding
+pub record IsEntryOf (b : ResolvedBinding) (e : Entry) : Type 0 where
+  pub name : e.x ≡ b.name
+  pub reads : IsTypeText e.text e.read
+
+-- the entries are those of the bindings, in order
+abbrev pub AreEntriesOf : List ResolvedBinding → List Entry → Type 0
+AreEntriesOf [] entries = entries ≡ []
+AreEntriesOf (b ∷ bs) entries = (first : Entry) × (rest : List Entry) × (entries ≡ first ∷ rest) × IsEntryOf b first × AreEntriesOf bs rest
+
+-- the text of a signature: a line `val NAME : TYPE` for each entry
+abbrev pub entry_line : Entry → List ℕ
+entry_line e = codes "val " ++ e.x ++ codes " : " ++ e.text ++ codes "\n"
+
+abbrev pub signature_text : List Entry → List ℕ
+signature_text [] = []
+signature_text (e ∷ es) = entry_line e ++ signature_text es
+
+-- what is found for a module
+pub data Outcome : Type 0 where
+  refused : Refusal → Outcome
+  inferred : List Entry → Outcome
+
+-- what is found for the module of this name over these files, by the first case that holds
+pub data Infers (files : Files) (x : List ℕ) : Outcome → Type 0 where
+  -- the text is not there or too long
+  no_text : {r : Refusal} → text_at files (module_file x) module_limit ≡ Err r → Infers files x (refused r)
+  -- the text has a first fault
+  faulty : {text : List ℕ} {fault : Fault} → text_at files (module_file x) module_limit ≡ Ok text → HasFault text fault
+      → Infers files x (refused (bad_text (module_file x) text fault))
+  -- each binding has an entry
+  signed : {text : List ℕ} {m : Module} {r : Resolved} {entries : List Entry} → text_at files (module_file x) module_limit ≡ Ok text
+      → IsPlainModuleOf text m → Resolves m [] r → AreEntriesOf r.bindings entries
+      → Infers files x (inferred entries)
+
+-- the status and the text that tell a refusal
+abbrev pub refusal_status : Refusal → Status
+refusal_status (no_file file) = NoFile
+refusal_status (too_long file limit) = TooLong
+refusal_status (bad_text file text fault) = BadText
+
+abbrev pub refusal_text : Refusal → List ℕ
+refusal_text (no_file file) = not_found_line file
+refusal_text (too_long file limit) = too_long_line file limit
+refusal_text (bad_text file text fault) =
+    let at = fault_place (length text) fault in
+    fault_line file (line_of text at) (column_of text at) (fault_number fault) (fault_text fault)
+
+-- the status and the text that tell an outcome
+abbrev pub outcome_status : Outcome → Status
+outcome_status (refused r) = refusal_status r
+outcome_status (inferred entries) = Done
+
+abbrev pub outcome_text : Outcome → List ℕ
+outcome_text (refused r) = refusal_text r
+outcome_text (inferred entries) = signature_text entries

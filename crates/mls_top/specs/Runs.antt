@@ -1,0 +1,43 @@
+-- What a run of the program does to its store and its sink.
+use Rattle.std.specs.Prelude.{◌≡◌, ◌⊎◌, ℕ, List, map, string_bytes, Ok, Some}
+use Rattle.mls_base.specs.Files.{Files}
+use Rattle.mls_io.specs.Counts.{Rose}
+use Rattle.mls_io.specs.Sinks.{Written, Adds, TakesNone}
+use Rattle.mls_syntax.specs.declared.module.Module.{Module}
+use Rattle.mls_syntax.specs.Modules.{IsPlainModuleOf}
+use Rattle.mls_top.specs.declared.status.Status.{Status}
+use Rattle.mls_top.specs.declared.status.Status.TheVariants.{Done, WriteFault, Memory, Usage}
+use Rattle.mls_top.specs.Answers.{IsAnswer, IsFrontOfAnswer}
+use Rattle.mls_top.specs.Commands.{command_of}
+use Rattle.mls_top.specs.Commands as command
+use Rattle.mls_top.specs.Lines.{module_file}
+use Rattle.mls_top.specs.Outcomes.{text_at, module_limit}
+
+-- the whole text of an answer with this status was written
+pub record IsAnswered (files : Files) (words : List (List ℕ)) (old new : Written) (status : Status) : Type 0 where
+  pub text : List ℕ
+  pub answer : IsAnswer files words status text
+  pub adds : Adds old new text
+
+-- a front of the text of some answer was written
+pub record IsCutOff (files : Files) (words : List (List ℕ)) (old new : Written) : Type 0 where
+  pub front : List ℕ
+  pub of_answer : IsFrontOfAnswer files words front
+  pub adds : Adds old new front
+
+-- nothing was written, or a front of the text of some answer
+abbrev pub IsCutOffOrNothing : Files → List (List ℕ) → (old new : Written) → Type 0
+IsCutOffOrNothing files words old new = TakesNone old new ⊎ IsCutOff files words old new
+
+-- the statuses of words that are no command
+abbrev pub IsWithoutCommand : Status → Type 0
+IsWithoutCommand status = (status ≡ Usage) ⊎ (status ≡ WriteFault) ⊎ (status ≡ Memory)
+
+-- the words ask for the signature of a module whose text the files have within its limit and which is a module
+pub record CanBeInferred (files : Files) (words : List (List ℕ)) : Type 0 where
+  pub x : List ℕ
+  pub text : List ℕ
+  pub «module» : Module
+  pub is_command : command_of words ≡ Some (command.infer x)
+  pub is_there : text_at files (module_file x) module_limit ≡ Ok text
+  pub is_module : IsPlainModuleOf text «module»

@@ -1,0 +1,22 @@
+-- The exit codes.
+use Rattle.std.specs.Prelude.{ℕ, Bool, true, false}
+use Rattle.mls_top.specs.declared.status.Status.{Status}
+use Rattle.mls_top.specs.declared.status.Status.TheVariants.{Done, BadText, NoFile, ReadFault, WriteFault, Memory, Usage, TooLong}
+
+-- the exit code of each status
+abbrev pub code_of : Status → ℕ
+code_of Done = 0
+code_of BadText = 3
+code_of NoFile = 4
+code_of ReadFault = 5
+code_of WriteFault = 6
+code_of Memory = 7
+code_of Usage = 8
+code_of TooLong = 11
+
+-- a run that ended so did not give its whole answer
+abbrev pub is_cut : Status → Bool
+is_cut ReadFault = true
+is_cut WriteFault = true
+is_cut Memory = true
+is_cut _ = false
