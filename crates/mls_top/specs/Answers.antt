@@ -1,20 +1,27 @@
 -- The answers of the commands.
-use Rattle.std.specs.Prelude.{◌≡◌, ℕ, List, [], ◌++◌, Some, None}
+use Rattle.std.specs.Prelude.{◌≡◌, ℕ, List, ◌++◌, Some, None}
 use Rattle.mls_base.specs.Files.{Files}
+use Rattle.mls_top.specs.declared.command.Command.{Command}
+use Rattle.mls_top.specs.declared.command.Command.TheVariants.{Infer}
 use Rattle.mls_top.specs.declared.status.Status.{Status}
 use Rattle.mls_top.specs.declared.status.Status.TheVariants.{Usage}
 use Rattle.mls_top.specs.Commands.{command_of}
-use Rattle.mls_top.specs.Commands as command
 use Rattle.mls_top.specs.Lines.{usage_line}
 use Rattle.mls_top.specs.Outcomes.{Outcome, Infers, outcome_status, outcome_text}
+
+-- the command answers with this status and this text over these files
+pub data IsAnswerOf (files : Files) : Command → Status → List ℕ → Type 0 where
+  -- the signature of a module
+  infer : {status : Status} {text : List ℕ} (x : List ℕ) (outcome : Outcome)
+      → Infers files x outcome → status ≡ outcome_status outcome → text ≡ outcome_text outcome
+      → IsAnswerOf files (Infer x) status text
 
 -- the words answer with this status and this text over these files
 pub data IsAnswer (files : Files) (words : List (List ℕ)) : Status → List ℕ → Type 0 where
   -- the words are no command
   no_command : command_of words ≡ None → IsAnswer files words Usage usage_line
-  -- the signature of a module
-  infer : {status : Status} {text : List ℕ} (x : List ℕ) (outcome : Outcome)
-      → command_of words ≡ Some (command.infer x) → Infers files x outcome → status ≡ outcome_status outcome → text ≡ outcome_text outcome
+  -- the words are a command
+  of_command : {status : Status} {text : List ℕ} (command : Command) → command_of words ≡ Some command → IsAnswerOf files command status text
       → IsAnswer files words status text
 
 -- these bytes are a front of the text of some answer

@@ -67,17 +67,20 @@ pub data Outcome : Type 0 where
   refused : Refusal → Outcome
   inferred : List Entry → Outcome
 
+-- what is found for the text of the module of this name, by the first case that holds
+pub data InfersFrom (x text : List ℕ) : Outcome → Type 0 where
+  -- the text has a first fault
+  faulty : {fault : Fault} → HasFault text fault → InfersFrom x text (refused (bad_text (module_file x) text fault))
+  -- each binding has an entry
+  signed : {m : Module} {r : Resolved} {entries : List Entry} → IsPlainModuleOf text m → Resolves m [] r → AreEntriesOf r.bindings entries
+      → InfersFrom x text (inferred entries)
+
 -- what is found for the module of this name over these files, by the first case that holds
 pub data Infers (files : Files) (x : List ℕ) : Outcome → Type 0 where
   -- the text is not there or too long
   no_text : {r : Refusal} → text_at files (module_file x) module_limit ≡ Err r → Infers files x (refused r)
-  -- the text has a first fault
-  faulty : {text : List ℕ} {fault : Fault} → text_at files (module_file x) module_limit ≡ Ok text → HasFault text fault
-      → Infers files x (refused (bad_text (module_file x) text fault))
-  -- each binding has an entry
-  signed : {text : List ℕ} {m : Module} {r : Resolved} {entries : List Entry} → text_at files (module_file x) module_limit ≡ Ok text
-      → IsPlainModuleOf text m → Resolves m [] r → AreEntriesOf r.bindings entries
-      → Infers files x (inferred entries)
+  has_text : {text : List ℕ} {outcome : Outcome} → text_at files (module_file x) module_limit ≡ Ok text → InfersFrom x text outcome
+      → Infers files x outcome
 
 -- the status and the text that tell a refusal
 abbrev pub refusal_status : Refusal → Status

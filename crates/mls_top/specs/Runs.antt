@@ -9,7 +9,7 @@ use Rattle.mls_top.specs.declared.status.Status.{Status}
 use Rattle.mls_top.specs.declared.status.Status.TheVariants.{Done, WriteFault, Memory, Usage}
 use Rattle.mls_top.specs.Answers.{IsAnswer, IsFrontOfAnswer}
 use Rattle.mls_top.specs.Commands.{command_of}
-use Rattle.mls_top.specs.Commands as command
+use Rattle.mls_top.specs.declared.command.Command.TheVariants.{Infer}
 use Rattle.mls_top.specs.Lines.{module_file}
 use Rattle.mls_top.specs.Outcomes.{text_at, module_limit}
 
@@ -38,6 +38,6 @@ pub record CanBeInferred (files : Files) (words : List (List ℕ)) : Type 0 wher
   pub x : List ℕ
   pub text : List ℕ
   pub «module» : Module
-  pub is_command : command_of words ≡ Some (command.infer x)
+  pub is_command : command_of words ≡ Some (Infer x)
   pub is_there : text_at files (module_file x) module_limit ≡ Ok text
   pub is_module : IsPlainModuleOf text «module»

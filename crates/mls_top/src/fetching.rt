@@ -1,0 +1,38 @@
+//! The first phase of a run: the texts that a command needs are fetched. No sink is in scope here.
+ghost use Rattle.std.specs.Prelude.{◌≡◌, Ok, Err, IfSome, IfOk, IfErr};
+ghost use Rattle.mls_io.specs.Stores.{Follows};
+ghost use Rattle.mls_top.specs.Outcomes.{text_at};
+ghost use Rattle.mls_top.specs.Fetching.{IsCounted, IsTold};
+
+use mls_io::store::{Fetch, Store};
+use std::alloc::Global;
+
+/// Why there is no text.
+#[derive(Clone, Copy, Debug, PartialEq, Eq)]
+pub enum Stop {
+    /// There is no such file.
+    NoFile,
+    /// The file has more bytes than the limit.
+    TooLong,
+    /// The store failed.
+    ReadFault,
+    /// Memory was wanting.
+    Memory,
+}
+
+/// The bytes of a file that has at most `limit`.
+pub fn text_of<S: Store>(alloc: Global, store: &mut S, file: &str, limit: usize) -> Result<Vec<u8>, Stop>
+    ensures follows { Follows (S.holdings store.old) (S.holdings store.new) }
+    ensures found { IfSome (S.holdings store.old).files (λ files. IfOk result (λ text. text_at files file.now limit ≡ Ok text.items)) }
+    ensures stopped { IfSome (S.holdings store.old).files (λ files. IfErr result (λ stop. IsTold stop files file.now limit)) }
+    ensures counted { IfErr result (λ stop. IsCounted stop (S.holdings store.old) (S.holdings store.new)) }
+{
+    let mut text = Vec::new(alloc);
+    match store.fetch(file, limit, &mut text) {
+        Fetch::Found => Ok(text),
+        Fetch::Missing => Err(Stop::NoFile),
+        Fetch::Long => Err(Stop::TooLong),
+        Fetch::Failed => Err(Stop::ReadFault),
+        Fetch::Memory => Err(Stop::Memory),
+    }
+}
