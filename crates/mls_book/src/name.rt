@@ -53,6 +53,17 @@ impl Name {
     {
         self.letters.as_slice()
     }
+
+    /// The name as text.
+    #[tactic(auto, using(crate::proofs::NameText::name_is_text))]
+    pub fn as_str(&self) -> &str
+        ensures { result.now ≡ self.now }
+    {
+        match str::from_utf8(self.bytes()) {
+            Ok(text) => text,
+            Err(_) => unreachable!(),
+        }
+    }
 }
 
 /// Names are equal where their bytes are.
