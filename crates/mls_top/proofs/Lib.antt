@@ -1,1 +1,3 @@
+pub mod Inferring
+pub mod Running
 pub mod Written

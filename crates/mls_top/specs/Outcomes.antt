@@ -103,3 +103,10 @@ outcome_status (inferred entries) = Done
 abbrev pub outcome_text : Outcome → List ℕ
 outcome_text (refused r) = refusal_text r
 outcome_text (inferred entries) = signature_text entries
+
+-- these are the status and the text of what is found for the text of the module of this name
+pub record IsInferred (x text : List ℕ) (status : Status) (said : List ℕ) : Type 0 where
+  pub outcome : Outcome
+  pub found : InfersFrom x text outcome
+  pub status_is : status ≡ outcome_status outcome
+  pub text_is : said ≡ outcome_text outcome

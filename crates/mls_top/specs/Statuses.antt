@@ -20,3 +20,11 @@ is_cut ReadFault = true
 is_cut WriteFault = true
 is_cut Memory = true
 is_cut _ = false
+
+-- a status of an answer of a command
+abbrev pub is_answer : Status → Bool
+is_answer Done = true
+is_answer BadText = true
+is_answer NoFile = true
+is_answer TooLong = true
+is_answer _ = false

@@ -7,12 +7,19 @@ ghost use Rattle.mls_io.specs.Sinks.{Adds, TakesNone};
 ghost use Rattle.mls_top.specs.Commands.{command_of};
 ghost use Rattle.mls_top.specs.Lines.{usage_line};
 ghost use Rattle.mls_top.specs.Runs.{IsAnswered, IsCutOff, IsCutOffOrNothing, IsWithoutCommand, CanBeInferred};
+ghost use Rattle.mls_top.specs.Writing.{IsTold};
 ghost use Rattle.mls_top.specs.Statuses.{is_cut};
 
+use crate::answer::{Halt, answer_to};
+use crate::command::command_of;
 use crate::status::Status;
-use mls_io::sink::Sink;
+use crate::writing::write_lines;
+use mls_io::sink::{Put, Sink};
 use mls_io::store::Store;
 use std::alloc::Global;
+
+// What is printed where the words are no command.
+const USAGE: &[u8] = b"usage: mlsub COMMAND OPERANDS\n";
 
 /// Runs the command that the words are on a store, and writes its answer to a sink. The words are a command line
 /// without the program's own name.
@@ -49,5 +56,27 @@ pub fn run<S: Store, K: Sink>(
     // A module that is there and has no fault has a signature, unless the store, the sink or memory fails.
     ensures complete { IfSome (S.holdings store.old).files (λ files. CanBeInferred files (map string_bytes words.now.items) → ¬ Rose (S.holdings store.old).faults (S.holdings store.new).faults → ¬ Rose (K.written sink.old).faults (K.written sink.new).faults → (result ≡ Status.Done) ⊎ (result ≡ Status.Memory)) }
 {
-    Status::Memory
+    let command = match command_of(alloc, words) {
+        Ok(Some(command)) => command,
+        Ok(None) => return told(sink, Status::Usage, USAGE),
+        Err(_) => return Status::Memory,
+    };
+    match answer_to(alloc, &command, store) {
+        Ok(answer) => told(sink, answer.status, answer.text.as_slice()),
+        Err(Halt::ReadFault) => Status::ReadFault,
+        Err(Halt::Memory) => Status::Memory,
+    }
+}
+
+// Writes the text of an answer, and gives the status that the run then has.
+fn told<K: Sink>(sink: &mut K, status: Status, text: &[u8]) -> Status
+    requires { IsFalse (is_cut status) }
+    ensures follows { sinks.Follows (K.written sink.old) (K.written sink.new) }
+    ensures cases { IsTold status text.now (K.written sink.old) (K.written sink.new) result }
+{
+    match write_lines(sink, text) {
+        Put::All => status,
+        Put::Failed => Status::WriteFault,
+        Put::Memory => Status::Memory,
+    }
 }
