@@ -1,0 +1,6 @@
+pub mod Follows
+pub mod Gaps
+pub mod Longest
+pub mod Pieces
+pub mod Shapes
+pub mod Values
