@@ -2,5 +2,6 @@ pub mod Follows
 pub mod Gaps
 pub mod Longest
 pub mod Pieces
+pub mod Readings
 pub mod Shapes
 pub mod Values

@@ -59,7 +59,7 @@ shape-longer (first ∷ front) back h none = by_kind (shape (first ∷ (front ++
         let wrong : false ≡ true = sym (ap (λ (o : Option Kind). is_some o) none) ∙ shape-front first front back kind is in absurd (cc)
 
 -- the front of a slice is a slice
-slice_front : (text : List ℕ) (start end further : ℕ) → start ≤ end → end ≤ further
+pub slice_front : (text : List ℕ) (start end further : ℕ) → start ≤ end → end ≤ further
     → slice_range text start further ≡ slice_range text start end ++ slice_range text end further
 slice_front text start end further low high =
     let both : further - start ≡ (end - start) + (further - end) = omega arith in
