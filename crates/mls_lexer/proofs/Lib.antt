@@ -4,4 +4,6 @@ pub mod Longest
 pub mod Pieces
 pub mod Readings
 pub mod Shapes
+pub mod Shifts
+pub mod Terminals
 pub mod Values

@@ -1,5 +1,5 @@
 -- A text is read in one way.
-use Rattle.std.proofs.Common.{◌≡◌, ℕ, suc, ◌+◌, ◌-◌, ◌<◌, ◌≤◌, Bool, true, false, not, cond, List, [], ◌∷◌, ◌++◌, length, take, drop, get_or, slice_range, slice_index, Option, Some, None, IsSome, is_some, Err, ◌⊎◌, inl, inr, sym, ap, subst, ◌∙◌, refl, arith, rules, drop-cons, take-append-drop, drop-drop}
+use Rattle.std.proofs.Common.{◌≡◌, ℕ, suc, ◌-◌, ◌<◌, ◌≤◌, Bool, true, false, not, List, [], ◌∷◌, length, take, drop, get_or, slice_range, Option, Some, None, is_some, Err, ◌⊎◌, inl, inr, sym, ap, subst, ◌∙◌, refl, arith, drop-cons}
 use Rattle.std.proofs.lemmas.Bool.{and_parts, not-true, cases_order, cases_lt}
 use Rattle.std.proofs.lemmas.Bool.Decides.{nat_tests}
 use Rattle.mls_base.specs.Spelling.{is_lower}
@@ -8,11 +8,11 @@ use Rattle.mls_lexer.specs.declared.token.Kind.TheVariants.{Number}
 use Rattle.mls_lexer.specs.declared.token.Token.{Token}
 use Rattle.mls_lexer.specs.declared.token.LexFault.{LexFault}
 use Rattle.mls_lexer.specs.declared.token.LexFault.TheVariants.{BadByte, BigNumber, Memory}
-use Rattle.mls_lexer.specs.Tokens.{begins_gap, is_digit, is_number, gap, IsGap, IsLastGap, shape, symbols, digits_value, largest_number, IsLongest, IsToken, Follow, IsTokens, HasTokenFault, bad_byte, big_number}
-use Rattle.mls_lexer.specs.Steps.{ComesNext, IsBigNumber, StandsAt}
+use Rattle.mls_lexer.specs.Tokens.{begins_gap, is_digit, is_number, gap, IsGap, IsLastGap, shape, digits_value, largest_number, IsLongest, IsToken, Follow, IsTokens, HasTokenFault, bad_byte, big_number}
+use Rattle.mls_lexer.specs.Steps.{ComesNext, StandsAt}
 use Rattle.mls_lexer.proofs.Gaps.{gap-append, gap-stop}
 use Rattle.mls_lexer.proofs.Shapes.{IsShaped, a_word, a_number, a_symbol, IsShaped-from_shape, symbol_tested, shape-number}
-use Rattle.mls_lexer.proofs.Longest.{slice_front}
+use Rattle.mls_lexer.proofs.Longest.{slice_front, drop_front}
 use Rattle.mls_lexer.proofs.Follows.{Follow-map}
 
 -- a separator begins with the first byte
@@ -75,10 +75,7 @@ one_next text from at other one two = by_order (cases_order at other)
 -- a text does not end with separators where something comes next
 not_last : (text : List ℕ) (from at : ℕ) → IsLastGap (drop from text) → ComesNext text from at → ⊥
 not_last text from at last next =
-    let both : at - from + (length text - at) ≡ length text - from = omega arith in
-    let back : from + (at - from) ≡ at = omega arith in
-    let split : drop from text ≡ slice_range text from at ++ drop at text =
-    sym (take-append-drop (at - from) (drop from text)) ∙ ap (λ xs. slice_range text from at ++ xs) (drop-drop (at - from) from text ∙ ap (λ n. drop n text) back) in
+    let split = drop_front text from at next.inside.0 in
     let rest = gap-append false (slice_range text from at) (drop at text) false next.separated in
     let stop = gap-stop (get_or text at 0) (drop (suc at) text) next.stop in
     let none : gap false (drop from text) ≡ None = ap (gap false) split ∙ rest ∙ ap (gap false) (drop-cons text at 0 next.inside.1) ∙ stop in
