@@ -2,5 +2,8 @@ pub mod Follows
 pub mod Gaps
 pub mod Longest
 pub mod Pieces
+pub mod Readings
 pub mod Shapes
+pub mod Shifts
+pub mod Terminals
 pub mod Values

@@ -1,5 +1,5 @@
 -- When a piece of a text is the longest token from its place.
-use Rattle.std.proofs.Common.{◌≡◌, ℕ, suc, ◌+◌, ◌-◌, ◌<◌, ◌≤◌, Bool, true, false, ◌&&◌, List, [], ◌∷◌, ◌++◌, length, take, drop, slice_range, Option, Some, None, IsSome, is_some, sym, ap, ◌∙◌, refl, arith, length-drop, length-take, take-add, drop-drop}
+use Rattle.std.proofs.Common.{take-append-drop, ◌≡◌, ℕ, suc, ◌+◌, ◌-◌, ◌<◌, ◌≤◌, Bool, true, false, ◌&&◌, List, [], ◌∷◌, ◌++◌, length, take, drop, slice_range, Option, Some, None, IsSome, is_some, sym, ap, ◌∙◌, refl, arith, length-drop, length-take, take-add, drop-drop}
 use Rattle.std.specs.List.{list_all}
 use Rattle.std.proofs.lemmas.Bool.{and_parts, and_from}
 use Rattle.std.proofs.lemmas.List.Folds.{list_all-append}
@@ -59,13 +59,20 @@ shape-longer (first ∷ front) back h none = by_kind (shape (first ∷ (front ++
         let wrong : false ≡ true = sym (ap (λ (o : Option Kind). is_some o) none) ∙ shape-front first front back kind is in absurd (cc)
 
 -- the front of a slice is a slice
-slice_front : (text : List ℕ) (start end further : ℕ) → start ≤ end → end ≤ further
+pub slice_front : (text : List ℕ) (start end further : ℕ) → start ≤ end → end ≤ further
     → slice_range text start further ≡ slice_range text start end ++ slice_range text end further
 slice_front text start end further low high =
     let both : further - start ≡ (end - start) + (further - end) = omega arith in
     let back : start + (end - start) ≡ end = omega arith in
     ap (λ n. take n (drop start text)) both ∙ take-add (end - start) (further - end) (drop start text)
     ∙ ap (λ xs. take (end - start) (drop start text) ++ take (further - end) xs) (drop-drop (end - start) start text ∙ ap (λ n. drop n text) back)
+
+-- and the end of a text is a slice and the rest
+pub drop_front : (text : List ℕ) (start end : ℕ) → start ≤ end → drop start text ≡ slice_range text start end ++ drop end text
+drop_front text start end low =
+    let back : start + (end - start) ≡ end = omega arith in
+    sym (take-append-drop (end - start) (drop start text))
+    ∙ ap (λ xs. slice_range text start end ++ xs) (drop-drop (end - start) start text ∙ ap (λ n. drop n text) back)
 
 -- a piece is the longest where one more byte gives it no shape
 pub IsLongest-by_next : (text : List ℕ) (start end : ℕ) → start ≤ end

@@ -51,7 +51,7 @@ no_symbol test all bytes fails = by_kind (symbol_kind bytes) refl
     by_kind (Some kind) is = absurd (cc (symbol_tested test all bytes kind is))
 
 -- the first byte is a digit
-abbrev begins_digit : List ℕ → Bool
+abbrev pub begins_digit : List ℕ → Bool
 begins_digit [] = false
 begins_digit (first ∷ rest) = is_digit first
 

@@ -2,6 +2,7 @@
 #![tactic(auto)]
 
 pub mod kinds;
+pub mod laws;
 pub mod number;
 pub mod place;
 pub mod scan;
