@@ -1,6 +1,6 @@
 -- What a map of files has, read as a list of files.
 use Rattle.std.proofs.Common.{◌≡◌, ℕ, Bool, true, false, List, [], ◌∷◌, ◌++◌, refl, ap, subst, sym, ◌∙◌, append_assoc, true≢false}
-use Rattle.std.specs.Prelude.{Option, Some, None, is_some, option_map, bytes_eq, cond, map, find}
+use Rattle.std.specs.Prelude.{Some, None, is_some, option_map, bytes_eq, cond, map, find}
 use Rattle.std.specs.Map.{lookup}
 use Rattle.std.proofs.lemmas.Cmp.{nat_list_eq_equiv}
 use Rattle.indexmap.specs.IndexMap.{insert_entry}

@@ -1,5 +1,5 @@
 -- What the stores and sinks in memory hold.
-use Rattle.std.specs.Prelude.{◌≡◌, ℕ, List, [], ◌∷◌, map, Option, Some, None, string_bytes}
+use Rattle.std.specs.Prelude.{◌≡◌, ℕ, List, [], ◌∷◌, Some, None}
 use Rattle.mls_base.specs.Files.{Files, bytes_at}
 use Rattle.mls_io.specs.Counts.{Count, no_count}
 use Rattle.mls_io.specs.Stores.{Holdings}

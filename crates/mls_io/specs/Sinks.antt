@@ -1,6 +1,6 @@
 -- What a sink was given, and what its answers say.
-use Rattle.std.specs.Prelude.{◌≡◌, ℕ, List, ◌++◌, Option, None, is_some, option_map}
-use Rattle.mls_io.specs.Counts.{Count, Grows, Rose, no_count}
+use Rattle.std.specs.Prelude.{◌≡◌, ℕ, List, ◌++◌, Option, is_some, option_map}
+use Rattle.mls_io.specs.Counts.{Count, Grows, Rose}
 
 -- the bytes so far, where the sink tells them, and how often writing failed
 pub record Written : Type 0 where
@@ -31,7 +31,3 @@ pub record TakesSome (old new : Written) (piece : List ℕ) : Type 0 where
 -- nothing was added
 abbrev pub TakesNone : Written → Written → Type 0
 TakesNone old new = new.bytes ≡ old.bytes
-
--- a new sink that does not tell its bytes
-abbrev pub untold_written : Written
-untold_written = record { bytes = None; faults = no_count }

@@ -2,6 +2,7 @@
 #![tactic(auto)]
 
 mod count;
+pub mod directory;
 pub mod memory;
 pub mod output;
 pub mod sink;

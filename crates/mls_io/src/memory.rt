@@ -41,9 +41,9 @@ impl Model for SureStore {
     ghost Value = { Shelf };
 
     ghost view = { λ store. record {
-        files = map (λ entry. (string_bytes entry.0, entry.1.items)) store.files.entries;
-        misses = store.misses;
-        longs = store.longs;
+      files = map (λ entry. (string_bytes entry.0, entry.1.items)) store.files.entries;
+      misses = store.misses;
+      longs = store.longs;
     } };
 }
 

@@ -1,5 +1,5 @@
 -- Each turn adds its file at the end, since its name is new.
-use Rattle.std.proofs.Common.{◌≡◌, refl, sym, ap, subst, ◌∙◌}
+use Rattle.std.proofs.Common.{refl, sym, ap, subst, ◌∙◌}
 use Rattle.std.specs.Prelude.{string_bytes}
 use Rattle.std.specs.String.{string_eq}
 use Rattle.mls_io.specs.Memory.{HasDistinctNames}
