@@ -44,17 +44,11 @@ impl<R: Print + Drop> Sink for OutSink<R> {
         let mut left = piece;
         while !left.is_empty() {
             match self.rt.write_some(left) {
-                Ok(0) => {
+                Ok(0) | Err(_) => {
                     self.faults.rise();
                     return Put::Failed;
                 }
-                Ok(n) => {
-                    left = &left[n..];
-                }
-                Err(_) => {
-                    self.faults.rise();
-                    return Put::Failed;
-                }
+                Ok(n) => left = &left[n..],
             }
         }
         Put::All
