@@ -1,6 +1,6 @@
 -- How counts go on over several calls, and what stays of what stores and sinks say.
-use Rattle.std.proofs.Common.{inl, inr, refl, ◌∙◌, arith}
-use Rattle.mls_io.specs.Counts.{Count, Grows, Rose}
+use Rattle.std.proofs.Common.{inl, inr, refl, sym, ◌∙◌, true≢false, arith}
+use Rattle.mls_io.specs.Counts.{Count, Grows, Rose, no_count}
 use Rattle.mls_io.specs.Stores as stores
 use Rattle.mls_io.specs.Stores.{Holdings}
 use Rattle.mls_io.specs.Sinks as sinks
@@ -26,6 +26,10 @@ Grows-Rose a b c first next =
 pub Rose-Grows : (a b c : Count) → Rose a b → Grows b c → Rose a c
 Rose-Grows a b c first next =
     elim first [ inl rose ↦ inl (omega (arith, rose, next.value)) | inr worn ↦ inr (next.worn worn) ]
+
+-- a count that stays 0 never rose, so nothing that comes only where it rose ever comes
+pub no_count-never-rose : Rose no_count no_count → ⊥
+no_count-never-rose rose = elim rose [ inl less ↦ omega (arith, less) | inr worn ↦ absurd (true≢false (sym worn)) ]
 
 -- a store that was not called
 pub Store-Follows-refl : (a : Holdings) → stores.Follows a a

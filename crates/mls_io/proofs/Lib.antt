@@ -1,1 +1,3 @@
 pub mod CountLaws
+pub mod ShelfLaws
+pub mod SinkLaws

@@ -1,3 +1,6 @@
 pub mod Counts
+pub mod Directory
+pub mod Memory
+pub mod Output
 pub mod Sinks
 pub mod Stores

@@ -1,5 +1,9 @@
 //! Where texts come from, and where answers go: traits for both, and what reads and writes in memory, in a directory and on standard output.
 #![tactic(auto)]
 
+mod count;
+pub mod directory;
+pub mod memory;
+pub mod output;
 pub mod sink;
 pub mod store;

@@ -1,0 +1,165 @@
+//! The store over a directory.
+ghost use Rattle.std.specs.Prelude.{◌≡◌, ◌+◌, ◌≤◌, ◌⊎◌, IfOk, vec_len};
+ghost use Rattle.std.specs.Io.{StartsWith};
+ghost use Rattle.mls_io.specs.Counts.{Rose};
+ghost use Rattle.mls_io.specs.Directory.{new_tally, untold_holdings};
+ghost use Rattle.mls_io.specs.Stores.{Follows};
+
+use crate::count::Counter;
+use crate::store::{Fetch, Store};
+use mls_base::memory::Memory;
+use std::alloc::Global;
+use std::fs::File;
+use std::io;
+use std::io::{ErrorKind, Read};
+use std::marker::Model;
+use std::rt::Files;
+
+/// Reads the files of one directory. It tells nothing of them. Contracts see it as its counts.
+#[derive(Drop)]
+pub struct DirStore<R: Files + Clone + Drop> {
+    rt: R,
+    alloc: Global,
+    folder: String,
+    faults: Counter,
+    misses: Counter,
+    longs: Counter,
+}
+
+impl<R: Files + Clone + Drop> Model for DirStore<R> {
+    ghost use Rattle.mls_io.specs.Directory.{Tally};
+
+    ghost Value = { Tally };
+
+    ghost view = { λ store. record {
+      faults = store.faults;
+      misses = store.misses;
+      longs = store.longs;
+    } };
+}
+
+impl<R: Files + Clone + Drop> DirStore<R> {
+    /// Takes the runtime and the path of the directory.
+    pub fn new(rt: R, alloc: Global, folder: &str) -> Result<DirStore<R>, Memory>
+        ensures { IfOk result (λ store. store ≡ new_tally) }
+    {
+        Ok(DirStore {
+            rt,
+            alloc,
+            folder: String::from_str(alloc, folder)?,
+            faults: Counter::new(),
+            misses: Counter::new(),
+            longs: Counter::new(),
+        })
+    }
+
+    // Reads the file of this name to the end of `into`, but no more than `limit` bytes and one.
+    fn read(&self, name: &str, limit: usize, into: &mut Vec<u8>) -> Fetch
+        ensures kept { StartsWith into.new.items into.old.items }
+        ensures within { result ≡ Fetch.Found → vec_len into.new ≤ vec_len into.old + limit }
+    {
+        let file = match self.open(name) {
+            Ok(file) => file,
+            Err(error) if error.kind() == ErrorKind::NotFound => return Fetch::Missing,
+            Err(error) => return failure(&error),
+        };
+        let most = (limit as u64).saturating_add(1);
+        match file.take(most).read_to_end(into) {
+            Ok(n) if n <= limit => Fetch::Found,
+            Ok(_) => Fetch::Long,
+            Err(error) => failure(&error),
+        }
+    }
+
+    // Opens the file of this name for reading.
+    fn open(&self, name: &str) -> io::Result<R::File> {
+        let path = format!(in self.alloc; "{}/{name}", self.folder)?;
+        File::open(&self.rt, path.as_str())
+    }
+
+    // Counts an answer.
+    fn count(&mut self, answer: Fetch)
+        ensures follows { Follows (untold_holdings self.old) (untold_holdings self.new) }
+        ensures missing { answer ≡ Fetch.Missing → Rose self.old.misses self.new.misses }
+        ensures long { answer ≡ Fetch.Long → Rose self.old.longs self.new.longs }
+        ensures failed { answer ≡ Fetch.Failed → Rose self.old.faults self.new.faults }
+    {
+        match answer {
+            Fetch::Missing => self.misses.rise(),
+            Fetch::Long => self.longs.rise(),
+            Fetch::Failed => self.faults.rise(),
+            Fetch::Found | Fetch::Memory => {}
+        }
+    }
+}
+
+// What an error comes to that is no missing file: a want of memory, or a fault.
+fn failure(error: &io::Error) -> Fetch
+    ensures { (result ≡ Fetch.Memory) ⊎ (result ≡ Fetch.Failed) }
+{
+    if error.kind() == ErrorKind::OutOfMemory {
+        Fetch::Memory
+    } else {
+        Fetch::Failed
+    }
+}
+
+impl<R: Files + Clone + Drop> Store for DirStore<R> {
+    ghost use Rattle.mls_io.specs.Directory.{untold_holdings};
+
+    ghost holdings = { untold_holdings };
+
+    /// Opens the file of this name in the directory, and reads it to its end or to one byte past the limit.
+    ///
+    /// Missing where opening it said that it is not found, Memory where memory was wanting, and Failed
+    /// after any other error.
+    fn fetch(&mut self, name: &str, limit: usize, into: &mut Vec<u8>) -> Fetch {
+        let start = into.len();
+        let answer = self.read(name, limit, into);
+        if answer != Fetch::Found {
+            into.truncate(start);
+        }
+        self.count(answer);
+        answer
+    }
+}
+
+#[cfg(test)]
+mod tests {
+    use super::*;
+    use std::test::Fail;
+    use std::{env, fs, process};
+
+    #[test]
+    fn reads_a_directory(rt: HostRuntime) -> Result<(), Fail> {
+        let alloc = rt.alloc();
+        let name = format!(in alloc; "mls_io-{}", process::id(rt.process()))?;
+        let folder = env::temp_dir(&rt)?.join(alloc, name.as_str())?;
+        fs::create_dir(&rt, folder.as_path())?;
+        fs::create_dir(&rt, folder.join(alloc, "folder.ml")?)?;
+        fs::write(&rt, folder.join(alloc, "a.ml")?, "let x = 1")?;
+        fs::write(
+            &rt,
+            folder.join(alloc, "large.ml")?,
+            vec![in alloc; 32u8; 1048577]?.as_slice(),
+        )?;
+
+        let mut store = DirStore::new(rt, alloc, folder.as_str())?;
+        let mut text = Vec::from_slice(alloc, b"> ")?;
+        assert_eq!(rt; store.fetch("b.ml", 9, &mut text), Fetch::Missing);
+        assert_eq!(rt; store.fetch("folder.ml", 9, &mut text), Fetch::Failed);
+        assert_eq!(rt; store.fetch("a.ml/b.ml", 9, &mut text), Fetch::Failed);
+        assert_eq!(rt; store.fetch("a.ml", 8, &mut text), Fetch::Long);
+        assert_eq!(rt; store.fetch("large.ml", 1048576, &mut text), Fetch::Long);
+        assert_eq!(rt; text.as_slice(), b"> ".as_slice());
+        assert_eq!(rt; store.fetch("a.ml", 9, &mut text), Fetch::Found);
+        assert_eq!(rt; text.as_slice(), b"> let x = 1".as_slice());
+        assert_eq!(rt;
+            store.fetch("large.ml", usize::MAX, &mut text),
+            Fetch::Found
+        );
+        assert_eq!(rt; text.len(), 1048588);
+        fs::remove_dir_all(&rt, folder.as_path())?;
+        Ok(())
+    }
+}
