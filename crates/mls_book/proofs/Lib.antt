@@ -1,0 +1,9 @@
+pub mod Table
+pub mod Shown
+pub mod Depths
+pub mod Lattice
+pub mod Constructors
+pub mod Children
+pub mod Guarded
+pub mod OrderLaws
+pub mod Heads
