@@ -7,3 +7,6 @@ pub mod Children
 pub mod Guarded
 pub mod OrderLaws
 pub mod Heads
+pub mod LongerBooks
+pub mod Systems
+pub mod Representation
