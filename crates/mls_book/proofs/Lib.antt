@@ -1,1 +1,13 @@
+pub mod Table
+pub mod Shown
+pub mod Depths
+pub mod Lattice
+pub mod Constructors
+pub mod Children
+pub mod Guarded
+pub mod OrderLaws
+pub mod Heads
+pub mod LongerBooks
+pub mod Systems
+pub mod Representation
 pub mod NameText

@@ -1,1 +1,10 @@
 pub mod Books
+pub mod Laws
+pub mod Order
+pub mod Passes
+pub mod Predicates
+pub mod Schemes
+pub mod TestCode
+pub mod TestFalls
+pub mod TestView
+pub mod Tests

@@ -2,4 +2,6 @@
 #![tactic(auto)]
 
 pub mod book;
+pub mod laws;
 pub mod name;
+pub mod test;
