@@ -1,3 +1,5 @@
+pub mod ChainTexts
+pub mod Entries
 pub mod Inferring
 pub mod Running
 pub mod Written

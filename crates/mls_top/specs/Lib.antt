@@ -1,5 +1,6 @@
 pub mod Answering
 pub mod Answers
+pub mod Chains
 pub mod Commands
 pub mod Fetching
 pub mod Lines
