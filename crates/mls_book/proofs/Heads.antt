@@ -10,10 +10,10 @@ use Rattle.mls_book.specs.declared.book.Node.TheVariants as node
 use Rattle.mls_book.specs.Books.{node_at, IsOrdered, IsBook}
 use Rattle.mls_book.specs.Tests.{Test, test, never_function, always_function, never_record, always_record}
 use Rattle.mls_book.specs.Predicates.{Predicate, var, bool, int, arrow, rcd}
-use Rattle.mls_book.specs.Passes.{passes, passes_by, node_value}
+use Rattle.mls_book.specs.Passes.{answer, answer_below, passes, passes_by, node_value, field_values}
 use Rattle.mls_book.specs.Order.{IsBelow}
 use Rattle.mls_book.specs.Laws.{Head, variable, boolean, integer, function, fields, head_of, HeadsUnlike, IsPrime, PrimeInJoin}
-use Rattle.mls_book.proofs.Table.{passes_by-value, value-join}
+use Rattle.mls_book.proofs.Table.{answers_of, function_passes-answer, record_passes-answer, passes_by-value, value-join}
 use Rattle.mls_book.proofs.Lattice.{or_left, or_right, or_cases, and_left, and_right, and_both}
 
 -- the test that this head alone passes
@@ -80,33 +80,38 @@ pub record IsWider (v : ℕ → Predicate) (s t : Test) : Type 0 where
   pub functions : (f g : Predicate) → arrow f g s ≡ true → arrow f g t ≡ true
   pub records : (fs : List ℕ → Option Predicate) → rcd fs s ≡ true → rcd fs t ≡ true
 
-value_wider : (v : ℕ → Predicate) (s t : Test) → IsWider v s t → (f : ℕ → Predicate) (i : ℕ) (x : Node) → IsOrdered i x → ((j : ℕ) → j < i → f j s ≡ true → f j t ≡ true) → node_value v f x s ≡ true → node_value v f x t ≡ true
-value_wider v s t wider f i node.Bot ordered less e = e
-value_wider v s t wider f i node.Top ordered less e = e
-value_wider v s t wider f i (node.Var x) ordered less e = wider.variables x e
-value_wider v s t wider f i node.Bool ordered less e = wider.booleans e
-value_wider v s t wider f i node.Int ordered less e = wider.integers e
-value_wider v s t wider f i (node.Arrow j k) ordered less e = wider.functions (f j.0) (f k.0) e
-value_wider v s t wider f i (node.Rcd all) ordered less e = wider.records _ e
-value_wider v s t wider f i (node.Join j k) ordered less e =
-    elim (or_cases (f j.0 s) (f k.0 s) e) [
-      | inl h ↦ or_left (f j.0 t) (f k.0 t) (less j.0 ordered.0 h)
-      | inr h ↦ or_right (f j.0 t) (f k.0 t) (less k.0 ordered.1 h)
-    ]
-value_wider v s t wider f i (node.Meet j k) ordered less e =
-    and_both (f j.0 t) (f k.0 t) (less j.0 ordered.0 (and_left (f j.0 s) (f k.0 s) e)) (less k.0 ordered.1 (and_right (f j.0 s) (f k.0 s) e))
-
 -- then it does so of each node
-passes_wider_below : (v : ℕ → Predicate) (b : List Node) → IsBook b → (s t : Test) → IsWider v s t → (n i : ℕ) → i < n → passes_by v b i s ≡ true → passes_by v b i t ≡ true
-passes_wider_below v b book s t wider zero i h e = absurd (omega arith)
-passes_wider_below v b book s t wider (suc n) i h e =
-    (λ k. passes_by-value v b book i k t)
-    ∙ value_wider v s t wider (passes_by v b) i (node_at b i) (book i)
-    (λ j lower. passes_wider_below v b book s t wider n j (omega arith))
-    ((λ k. sym (passes_by-value v b book i) k s) ∙ e)
+module _ (v : ℕ → Predicate) (b : List Node) where
+  wider_node : (s t : Test) → IsWider v s t → (c d : ℕ → Bool) → ((j : ℕ) → c j ≡ true → d j ≡ true) → (x : Node) → answer (answers_of v b s) c x ≡ true → answer (answers_of v b t) d x ≡ true
+  wider_node s t wider c d more node.Bot e = e
+  wider_node s t wider c d more node.Top e = e
+  wider_node (test vars p q part record_part) (test vars' p' q' part' record_part') wider c d more (node.Var x) e = wider.variables x e
+  wider_node (test vars p q part record_part) (test vars' p' q' part' record_part') wider c d more node.Bool e = wider.booleans e
+  wider_node (test vars p q part record_part) (test vars' p' q' part' record_part') wider c d more node.Int e = wider.integers e
+  wider_node (test vars p q part record_part) (test vars' p' q' part' record_part') wider c d more (node.Arrow j k) e =
+      function_passes-answer v b part' j.0 k.0
+      ∙ wider.functions (passes_by v b j.0) (passes_by v b k.0) (sym (function_passes-answer v b part j.0 k.0) ∙ e)
+  wider_node (test vars p q part record_part) (test vars' p' q' part' record_part') wider c d more (node.Rcd all) e =
+      record_passes-answer v b record_part' all
+      ∙ wider.records (field_values (passes_by v b) all) (sym (record_passes-answer v b record_part all) ∙ e)
+  wider_node s t wider c d more (node.Join j k) e =
+      elim (or_cases (c j.0) (c k.0) e) [
+        | inl h ↦ or_left (d j.0) (d k.0) (more j.0 h)
+        | inr h ↦ or_right (d j.0) (d k.0) (more k.0 h)
+      ]
+  wider_node s t wider c d more (node.Meet j k) e =
+      and_both (d j.0) (d k.0) (more j.0 (and_left (c j.0) (c k.0) e)) (more k.0 (and_right (c j.0) (c k.0) e))
 
-pub passes_wider : (v : ℕ → Predicate) (b : List Node) → IsBook b → (s t : Test) → IsWider v s t → (i : ℕ) → passes_by v b i s ≡ true → passes_by v b i t ≡ true
-passes_wider v b book s t wider i = passes_wider_below v b book s t wider (suc i) i (omega arith)
+  wider_below : (s t : Test) → IsWider v s t → (n i : ℕ) → answer_below (answers_of v b s) b n i ≡ true → answer_below (answers_of v b t) b n i ≡ true
+  unfolding answer_below
+  wider_below s t wider zero i e = e
+  wider_below s t wider (suc n) i e =
+      wider_node s t wider (answer_below (answers_of v b s) b n) (answer_below (answers_of v b t) b n) (wider_below s t wider n) (node_at b i) e
+
+  pub passes_wider : (s t : Test) → IsWider v s t → (i : ℕ) → passes_by v b i s ≡ true → passes_by v b i t ≡ true
+  unfolding passes_by
+  passes_wider (test vars p q part record_part) (test vars' p' q' part' record_part') wider i e =
+      wider_below (test vars p q part record_part) (test vars' p' q' part' record_part') wider (suc i) i e
 
 -- the predicate of a variable, of `bool` and of `int`
 abbrev prime_head : Node → Head
@@ -159,7 +164,7 @@ module _ (b c : List Node) (book : IsBook b) (book' : IsBook c) (p : ℕ) (prime
   prime_below : (m : ℕ) → passes c m its_test ≡ true → IsBelow b p c m
   unfolding its_test
   prime_below m passed t e =
-      passes_wider var c book' (test_of (prime_head (node_at b p))) t
+      passes_wider var c (test_of (prime_head (node_at b p))) t
       (prime_wider (passes b) (node_at b p) prime t ((λ k. sym (passes_by-value var b book p) k t) ∙ e))
       m passed
 

@@ -10,3 +10,6 @@ pub mod Heads
 pub mod LongerBooks
 pub mod Systems
 pub mod Representation
+pub mod Variables
+pub mod Pulls
+pub mod Subsumption
