@@ -13,3 +13,4 @@ pub mod Representation
 pub mod Variables
 pub mod Pulls
 pub mod Subsumption
+pub mod MovedSchemes
