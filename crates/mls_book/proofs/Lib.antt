@@ -14,3 +14,4 @@ pub mod Variables
 pub mod Pulls
 pub mod Subsumption
 pub mod MovedSchemes
+pub mod Worked
