@@ -6,7 +6,7 @@ use Rattle.mls_book.specs.declared.book.NodeId.{NodeId}
 use Rattle.mls_book.specs.declared.book.Node.TheVariants as node
 use Rattle.mls_book.specs.Books.{node_at, field_at, IsOrdered, IsBook, IsClosedBook}
 use Rattle.mls_book.specs.Tests.{Test, test, depth, never_function, always_function, dom, cod, never_record, always_record, lacks, at}
-use Rattle.mls_book.specs.Predicates.{Predicate, field_answer}
+use Rattle.mls_book.specs.Predicates.{Predicate, field_answer, arrow, rcd, join, meet}
 use Rattle.mls_book.specs.Passes.{passes_by, node_value}
 use Rattle.mls_book.proofs.Table.{passes_by-value}
 use Rattle.mls_book.proofs.Children.{HasChildrenIn, closed_children, any_children, at_found}
@@ -74,6 +74,22 @@ node_value-agree v Q f g i (test vars p q function (at label t)) (node.Rcd all) 
     (λ id found. ask id.0 t (at_found Q label all within id found) (inl (omega arith)))
 node_value-agree v Q f g i t (node.Join j k) ordered within ask = λ n. ask j.0 t within.0 (inr (refl, ordered.0)) n || ask k.0 t within.1 (inr (refl, ordered.1)) n
 node_value-agree v Q f g i t (node.Meet j k) ordered within ask = λ n. ask j.0 t within.0 (inr (refl, ordered.0)) n && ask k.0 t within.1 (inr (refl, ordered.1)) n
+
+-- what a node passes depends on what its children pass alone
+option_map-same : (f g : ℕ → Predicate) (o : Option NodeId) → ((id : NodeId) → o ≡ Some id → f id.0 ≡ g id.0) → option_map (λ id. f id.0) o ≡ option_map (λ id. g id.0) o
+option_map-same f g None same = refl
+option_map-same f g (Some id) same = ap Some (same id refl)
+
+pub node_value-same : (v f g : ℕ → Predicate) (x : Node) → HasChildrenIn (λ j. f j ≡ g j) x → node_value v f x ≡ node_value v g x
+node_value-same v f g node.Bot same = refl
+node_value-same v f g node.Top same = refl
+node_value-same v f g (node.Var x) same = refl
+node_value-same v f g node.Bool same = refl
+node_value-same v f g node.Int same = refl
+node_value-same v f g (node.Arrow j k) same = λ i. arrow (same.0 i) (same.1 i)
+node_value-same v f g (node.Rcd fields) same = λ i. rcd (λ label. option_map-same f g (field_at label fields) (at_found (λ j. f j ≡ g j) label fields same) i)
+node_value-same v f g (node.Join j k) same = λ i. join (same.0 i) (same.1 i)
+node_value-same v f g (node.Meet j k) same = λ i. meet (same.0 i) (same.1 i)
 
 pub node_value-guarded : (v : ℕ → Predicate) (b : List Node) → IsBook b → (Q : ℕ → Type 0) → ((i : ℕ) → Q i → HasChildrenIn Q (node_at b i)) → IsGuarded Q (λ f i. node_value v f (node_at b i))
 node_value-guarded v b book Q within f g i t q ask = node_value-agree v Q f g i t (node_at b i) (book i) (within i q) ask

@@ -1,7 +1,8 @@
 -- Joins and meets of predicates.
-use Rattle.std.proofs.Common.{◌≡◌, ◌⊎◌, inl, inr, ℕ, Bool, true, false, ◌&&◌, ◌||◌, List, [], ◌∷◌, ◌++◌, refl, sym, ap, ◌∙◌}
+use Rattle.std.proofs.Common.{◌≡◌, ◌⊎◌, inl, inr, ℕ, zero, suc, ◌<◌, arith, length, get_or, Bool, true, false, ◌&&◌, ◌||◌, List, [], ◌∷◌, ◌++◌, refl, sym, ap, ◌∙◌, All, Contains, map}
+use Rattle.std.proofs.lemmas.List.Elements.{All-head, All-tail}
 use Rattle.mls_book.specs.Predicates.{Predicate, Implies, bot, top, join, meet, joins, meets}
-use Rattle.mls_book.proofs.Depths.{ImpliesTo}
+use Rattle.mls_book.proofs.Depths.{ImpliesTo, Implies-to, Implies-all}
 
 pub or_left : (p q : Bool) → p ≡ true → (p || q) ≡ true
 or_left true q e = refl
@@ -146,3 +147,54 @@ joins-append (f ∷ fs) gs = ap (join f) (joins-append fs gs) ∙ sym (join_grou
 pub meets-append : (fs gs : List Predicate) → meets (fs ++ gs) ≡ meet (meets fs) (meets gs)
 meets-append [] gs = refl
 meets-append (f ∷ fs) gs = ap (meet f) (meets-append fs gs) ∙ sym (meet_group f (meets fs) (meets gs))
+
+-- the joins and meets of the types of a list, to a depth
+module _ {X : Type 0} (f : X → Predicate) where
+  pub joins_least_to : (d : ℕ) (xs : List X) (g : Predicate) → All (λ x. ImpliesTo d (f x) g) xs → ImpliesTo d (joins (map f xs)) g
+  joins_least_to d [] g each = λ t low e. absurd (cc)
+  joins_least_to d (x ∷ rest) g each =
+      join_least_to d (f x) (joins (map f rest)) g
+      (All-head (λ x. ImpliesTo d (f x) g) x rest each)
+      (joins_least_to d rest g (All-tail (λ x. ImpliesTo d (f x) g) x rest each))
+
+  pub joins_upper : (xs : List X) (x : X) → Contains xs x → Implies (f x) (joins (map f xs))
+  joins_upper [] x it = let low : it.0 < 0 = it.1 in absurd (omega arith)
+  joins_upper (y ∷ rest) x it = go it.0 it.1 it.2 (joins_upper rest x)
+    where
+      go : (k : ℕ) → k < length (y ∷ rest) → get_or (y ∷ rest) k x ≡ x → (Contains rest x → Implies (f x) (joins (map f rest))) → Implies (f x) (join (f y) (joins (map f rest)))
+      go zero low same later t e = or_left (f y t) (joins (map f rest) t) ((λ k. f (same k) t) ∙ e)
+      go (suc k) low same later t e = or_right (f y t) (joins (map f rest) t) (later (k, omega arith, same) t e)
+
+  pub meets_greatest_to : (d : ℕ) (xs : List X) (g : Predicate) → All (λ x. ImpliesTo d g (f x)) xs → ImpliesTo d g (meets (map f xs))
+  meets_greatest_to d [] g each = λ t low e. refl
+  meets_greatest_to d (x ∷ rest) g each =
+      meet_greatest_to d (f x) (meets (map f rest)) g
+      (All-head (λ x. ImpliesTo d g (f x)) x rest each)
+      (meets_greatest_to d rest g (All-tail (λ x. ImpliesTo d g (f x)) x rest each))
+
+  pub meets_lower : (xs : List X) (x : X) → Contains xs x → Implies (meets (map f xs)) (f x)
+  meets_lower [] x it = let low : it.0 < 0 = it.1 in absurd (omega arith)
+  meets_lower (y ∷ rest) x it = go it.0 it.1 it.2 (meets_lower rest x)
+    where
+      go : (k : ℕ) → k < length (y ∷ rest) → get_or (y ∷ rest) k x ≡ x → (Contains rest x → Implies (meets (map f rest)) (f x)) → Implies (meet (f y) (meets (map f rest))) (f x)
+      go zero low same later t e = (λ k. f (sym same k) t) ∙ and_left (f y t) (meets (map f rest) t) e
+      go (suc k) low same later t e = later (k, omega arith, same) t (and_right (f y t) (meets (map f rest) t) e)
+
+  -- and to every depth
+  pub joins_least : (xs : List X) (g : Predicate) → All (λ x. Implies (f x) g) xs → Implies (joins (map f xs)) g
+  joins_least xs g each = Implies-all (joins (map f xs)) g (λ d. joins_least_to d xs g (λ k x low. Implies-to d (f (get_or xs k x)) g (each k x low)))
+
+  pub meets_greatest : (xs : List X) (g : Predicate) → All (λ x. Implies g (f x)) xs → Implies g (meets (map f xs))
+  meets_greatest xs g each = Implies-all g (meets (map f xs)) (λ d. meets_greatest_to d xs g (λ k x low. Implies-to d g (f (get_or xs k x)) (each k x low)))
+
+-- each type of the first list is below one of the second
+pub joins_within_to : {X Y : Type 0} (f : X → Predicate) (g : Y → Predicate) (d : ℕ) (xs : List X) (ys : List Y) → All (λ x. (y : Y) × Contains ys y × ImpliesTo d (f x) (g y)) xs → ImpliesTo d (joins (map f xs)) (joins (map g ys))
+joins_within_to f g d xs ys each =
+    joins_least_to f d xs (joins (map g ys))
+    (λ k x low t deep e. let it = each k x low in joins_upper g ys it.0 it.1 t (it.2 t deep e))
+
+-- each type of the second list is above one of the first
+pub meets_within_to : {X Y : Type 0} (f : X → Predicate) (g : Y → Predicate) (d : ℕ) (xs : List X) (ys : List Y) → All (λ y. (x : X) × Contains xs x × ImpliesTo d (f x) (g y)) ys → ImpliesTo d (meets (map f xs)) (meets (map g ys))
+meets_within_to f g d xs ys each =
+    meets_greatest_to g d ys (meets (map f xs))
+    (λ k y low t deep e. let it = each k y low in it.2 t deep (meets_lower f xs it.0 it.1 t e))

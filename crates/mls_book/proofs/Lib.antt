@@ -10,4 +10,9 @@ pub mod Heads
 pub mod LongerBooks
 pub mod Systems
 pub mod Representation
+pub mod Variables
+pub mod Pulls
+pub mod Subsumption
+pub mod MovedSchemes
+pub mod Worked
 pub mod NameText

@@ -15,8 +15,9 @@ use Rattle.mls_book.specs.declared.book.Node.TheVariants as node
 use Rattle.mls_book.specs.Books.{node_at, field_at, AreRising, IsOrdered, IsBook, HasChildrenBelow, IsClosed, IsClosedBook}
 use Rattle.mls_book.specs.Predicates.{Predicate, bot, top, bool, int, arrow, rcd, join, meet}
 use Rattle.mls_book.specs.Passes.{passes, passes_by, node_value, field_values}
-use Rattle.mls_book.proofs.Table.{passes_by-value}
-use Rattle.mls_book.proofs.Guarded.{passes_by-unique}
+use Rattle.mls_book.proofs.Table.{passes_by-value, value_at}
+use Rattle.mls_book.proofs.Children.{HasChildrenIn-more, children_below}
+use Rattle.mls_book.proofs.Guarded.{node_value-same, passes_by-unique}
 
 -- a number is below another, or it is that and some more
 pub below_or_more : (i n : ℕ) → (i < n) ⊎ ((j : ℕ) × (i ≡ n + j))
@@ -158,6 +159,13 @@ extended_with b x closed ordered below = (
 
     zero-more : length b ≡ length b + 0
     zero-more = omega arith
+
+-- what it passes, where its children are old
+pub extended-value : (b c : List Node) (x : Node) (n : ℕ) → IsClosedBook b → Extends b c → HasChildrenBelow (length b) x → node_at c n ≡ x → (v : ℕ → Predicate) → passes_by v c n ≡ node_value v (passes_by v b) x
+extended-value b c x n closed more below is v =
+    value_at v c more.closed.book n x is
+    ∙ node_value-same v (passes_by v c) (passes_by v b) x
+    (HasChildrenIn-more (λ j. j < length b) (λ j. passes_by v c j ≡ passes_by v b j) (Extends-value b c closed more v) x (children_below (length b) x below))
 
 -- the second book has the values of the nodes of the first, at these places
 pub record Holds (b c : List Node) (place : ℕ → ℕ) : Type 0 where
@@ -306,3 +314,41 @@ module _ (b c : List Node) (closed : IsClosedBook b) (closed' : IsClosedBook c) 
 -- so two closed books have a common longer one
 pub united : (b c : List Node) → IsClosedBook b → IsClosedBook c → (d : List Node) × Extends b d × ((place : ℕ → ℕ) × Holds c d place)
 united b c closed closed' = (both b c closed closed', Extends-both b c closed closed', (λ i. length b + i, Holds-both b c closed closed'))
+
+-- the book with other variables
+abbrev pub renamed_book : (ℕ → ℕ) → List Node → List Node
+renamed_book variable b = map (renamed (λ i. i) variable) b
+
+renamed_good : (variable : ℕ → ℕ) (n i : ℕ) (x : Node) → IsOrdered i x → HasChildrenBelow n x → IsGood n i (renamed (λ i. i) variable x)
+renamed_good variable n i node.Bot ordered below = record { ordered = tt; below = tt }
+renamed_good variable n i node.Top ordered below = record { ordered = tt; below = tt }
+renamed_good variable n i (node.Var x) ordered below = record { ordered = tt; below = tt }
+renamed_good variable n i node.Bool ordered below = record { ordered = tt; below = tt }
+renamed_good variable n i node.Int ordered below = record { ordered = tt; below = tt }
+renamed_good variable n i (node.Arrow k l) ordered below = record { ordered = tt; below = below }
+renamed_good variable n i (node.Rcd fields) ordered below = record {
+  ordered = AreRising-renamed (λ i. i) fields ordered;
+  below = fields_below-renamed (λ i. i) n n (λ i h. h) fields below;
+}
+renamed_good variable n i (node.Join k l) ordered below = record { ordered = ordered; below = below }
+renamed_good variable n i (node.Meet k l) ordered below = record { ordered = ordered; below = below }
+
+pub closed-renamed_book : (variable : ℕ → ℕ) (b : List Node) → IsClosedBook b → IsClosedBook (renamed_book variable b)
+closed-renamed_book variable b closed =
+    closed_from (renamed_book variable b)
+    (λ i low.
+    let size : length (renamed_book variable b) ≡ length b = length-map b (renamed (λ i. i) variable) in
+    let lower : i < length b = omega arith in
+    let at : i ≡ 0 + i = omega arith in
+    subst (λ n. IsGood n (0 + i) (node_at (renamed_book variable b) i)) (sym size)
+    (subst (λ j. IsGood (length b) j (node_at (renamed_book variable b) i)) at
+    (subst (IsGood (length b) i) (sym (get_or-map (renamed (λ i. i) variable) b i node.Bot))
+    (renamed_good variable (length b) i (node_at b i) (closed.book i) (closed.closed i node.Bot lower)))))
+
+pub value-renamed_book : (variable : ℕ → ℕ) (b : List Node) → IsClosedBook b → (v : ℕ → Predicate) (i : ℕ) → i < length b → passes_by v (renamed_book variable b) i ≡ passes_by (λ x. v (variable x)) b i
+value-renamed_book variable b closed =
+    IsCopied-value b (renamed_book variable b) (λ i. i) variable closed (closed-renamed_book variable b closed).book
+    (record {
+      in_range = λ i low. let size : length (renamed_book variable b) ≡ length b = length-map b (renamed (λ i. i) variable) in omega arith;
+      node = λ i low. get_or-map (renamed (λ i. i) variable) b i node.Bot;
+    })

@@ -166,15 +166,3 @@ record_order b c n m fs gs closed closed' is_n is_m = (forth, back)
         let k = node_of c (field_at label gs) h found in
         let it = each label k.0 k.1 in
         (passes b it.0.0, ap (type_of b) it.1, subst (Implies (passes b it.0.0)) k.2 it.2)))
-
-pub function_not_bot : FunctionNotBot
-function_not_bot b c n m i j closed closed' low is_arrow is_top is_bot is_m below =
-    let passed : passes c m (only_function always_function) ≡ true = below (only_function always_function) (λ k. value-arrow var b closed.book n i j is_arrow k (only_function always_function)) in
-    let failed : passes c m (only_function always_function) ≡ false = λ k. value-bot var c closed'.book m is_m k (only_function always_function) in
-    absurd (cc)
-
-pub top_not_function : TopNotFunction
-top_not_function b c n m i j closed closed' is_top is_arrow is_bot is_top' below =
-    let passed : passes c m (only_function never_function) ≡ true = below (only_function never_function) (λ k. value-top var b closed.book n is_top k (only_function never_function)) in
-    let failed : passes c m (only_function never_function) ≡ false = λ k. value-arrow var c closed'.book m i j is_arrow k (only_function never_function) in
-    absurd (cc)

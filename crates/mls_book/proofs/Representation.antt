@@ -19,7 +19,7 @@ use Rattle.mls_book.proofs.Table.{passes_by-value, value_at, value-join}
 use Rattle.mls_book.proofs.Lattice.{join_self}
 use Rattle.mls_book.proofs.Children.{closed_children}
 use Rattle.mls_book.proofs.Guarded.{passes_by-unique}
-use Rattle.mls_book.proofs.LongerBooks.{AllFrom, Stand, AllFrom-append, AllFrom-first, AllFrom-second, AllFrom-one, below_or_more, IsGood, closed_from, closed_all, Extends, Extends-value, renamed_id, renamed_field, AreRising-renamed, fields_below-renamed, field_values-renamed}
+use Rattle.mls_book.proofs.LongerBooks.{AllFrom, Stand, AllFrom-append, AllFrom-first, AllFrom-second, AllFrom-one, below_or_more, IsGood, closed_from, closed_all, Extends, Extends-value, renamed_id, renamed_field, AreRising-renamed, fields_below-renamed, field_values-renamed, Holds}
 use Rattle.mls_book.proofs.Systems.{Term, bot, top, bool, int, var, arrow, rcd, join, meet, base, member, term_value, IsTerm, IsSystem, IsSolution, solution_unique, term_map, term_value-map, IsTerm-map, term_of, term_value-term_of, IsTerm-term_of}
 
 -- how many nodes of a term come before its own
@@ -305,6 +305,10 @@ IsIn-longer b c f closed more it =
 
 pub IsIn-same : (b : List Node) (f g : Predicate) → f ≡ g → IsIn b f → IsIn b g
 IsIn-same b f g same it = (it.0, it.1, it.2 ∙ same)
+
+-- also where another book holds the values
+pub IsIn-held : (b c : List Node) (place : ℕ → ℕ) (f : Predicate) → Holds b c place → IsIn b f → IsIn c f
+IsIn-held b c place f holds it = (place it.0, holds.in_range it.0 it.1, holds.value predicate.var it.0 it.1 ∙ it.2)
 
 -- a predicate of a node of the book
 pub record Given (b : List Node) : Type 0 where

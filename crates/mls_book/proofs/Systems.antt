@@ -3,7 +3,8 @@
 --     IsSystem          the terms of a system name what is there, and a member alone, not in a function or record, comes before
 --     IsSolution        a family of predicates that is as the terms say
 --     solution_unique   it is the only one
-use Rattle.std.proofs.Common.{◌≡◌, ◌⊎◌, inl, inr, ℕ, ◌<◌, not, ◌&&◌, ◌||◌, List, refl, ap, ◌∙◌, arith, Some, None}
+use Rattle.std.proofs.lemmas.List.Elements.{All-head, All-tail}
+use Rattle.std.proofs.Common.{[], ◌∷◌, map, ◌≡◌, ◌⊎◌, inl, inr, ℕ, ◌<◌, not, ◌&&◌, ◌||◌, List, refl, ap, ◌∙◌, arith, Some, None, ◌∷◌, map}
 use Rattle.std.specs.Prelude.{All, Option, option_map, is_none}
 use Rattle.mls_book.specs.declared.book.Field.{Field}
 use Rattle.mls_book.specs.declared.book.NodeId.{NodeId}
@@ -82,6 +83,33 @@ module _ {B : Type 0} (There : B → Type 0) (v : ℕ → Predicate) (given : B 
   -- two solutions are the same
   pub solution_unique : (term : ℕ → Term B) → IsSystem There n term → (f g : ℕ → Predicate) → IsSolution v given n term f → IsSolution v given n term g → (k : ℕ) → k < n → f k ≡ g k
   solution_unique term is f g is_f is_g = guarded_unique (λ k. k < n) (λ f k. term_value v given f (term k)) (system-guarded term is) f g is_f is_g
+
+-- the join of a list of terms, and their meet
+abbrev pub join_all : {B : Type 0} → List (Term B) → Term B
+join_all [] = bot
+join_all (t ∷ rest) = join t (join_all rest)
+
+abbrev pub meet_all : {B : Type 0} → List (Term B) → Term B
+meet_all [] = top
+meet_all (t ∷ rest) = meet t (meet_all rest)
+
+module _ {B : Type 0} (v : ℕ → Predicate) (given : B → Predicate) (f : ℕ → Predicate) where
+  pub term_value-join_all : (terms : List (Term B)) → term_value v given f (join_all terms) ≡ predicate.joins (map (term_value v given f) terms)
+  term_value-join_all [] = refl
+  term_value-join_all (t ∷ rest) = ap (predicate.join (term_value v given f t)) (term_value-join_all rest)
+
+  pub term_value-meet_all : (terms : List (Term B)) → term_value v given f (meet_all terms) ≡ predicate.meets (map (term_value v given f) terms)
+  term_value-meet_all [] = refl
+  term_value-meet_all (t ∷ rest) = ap (predicate.meet (term_value v given f t)) (term_value-meet_all rest)
+
+module _ {B : Type 0} (There : B → Type 0) (n k : ℕ) where
+  pub IsTerm-join_all : (terms : List (Term B)) → All (IsTerm There n k) terms → IsTerm There n k (join_all terms)
+  IsTerm-join_all [] each = tt
+  IsTerm-join_all (t ∷ rest) each = (All-head (IsTerm There n k) t rest each, IsTerm-join_all rest (All-tail (IsTerm There n k) t rest each))
+
+  pub IsTerm-meet_all : (terms : List (Term B)) → All (IsTerm There n k) terms → IsTerm There n k (meet_all terms)
+  IsTerm-meet_all [] each = tt
+  IsTerm-meet_all (t ∷ rest) each = (All-head (IsTerm There n k) t rest each, IsTerm-meet_all rest (All-tail (IsTerm There n k) t rest each))
 
 -- the same term over other names for what is there
 abbrev pub term_map : {B C : Type 0} → (B → C) → Term B → Term C

@@ -51,10 +51,10 @@ passes_by-answer v nodes book (test vars boolean integer function fields) i =
 
 -- the parts of a test are answered as those of predicates
 module _ (v : ℕ → Predicate) (nodes : List Node) where
-  abbrev value : ℕ → Predicate
+  abbrev pub value : ℕ → Predicate
   value = passes_by v nodes
 
-  function_passes-answer : (part : FunctionPart) (j k : ℕ) → function_passes v nodes part j k ≡ function_answer (value j) (value k) part
+  pub function_passes-answer : (part : FunctionPart) (j k : ℕ) → function_passes v nodes part j k ≡ function_answer (value j) (value k) part
   unfolding passes_by
   function_passes-answer never_function j k = refl
   function_passes-answer always_function j k = refl
@@ -69,7 +69,7 @@ module _ (v : ℕ → Predicate) (nodes : List Node) where
   field_passes-map q None = refl
   field_passes-map q (Some id) = refl
 
-  record_passes-answer : (part : RecordPart) (fields : List Field) → record_passes v nodes part fields ≡ record_answer (field_values value fields) part
+  pub record_passes-answer : (part : RecordPart) (fields : List Field) → record_passes v nodes part fields ≡ record_answer (field_values value fields) part
   unfolding passes_by
   record_passes-answer never_record fields = refl
   record_passes-answer always_record fields = refl

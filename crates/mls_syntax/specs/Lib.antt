@@ -1,3 +1,4 @@
+pub mod Derivations
 pub mod Modules
 pub mod Phrases
 pub mod Resolution

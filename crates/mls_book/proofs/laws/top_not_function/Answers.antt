@@ -1,4 +1,4 @@
-use Rattle.mls_book.proofs.OrderLaws.{top_not_function}
+use Rattle.mls_book.proofs.Heads.{top_not_function}
 use Rattle.mls_book.proofs.laws.top_not_function.Goals as goal
 
 pub returns : goal.returns
