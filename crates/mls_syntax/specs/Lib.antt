@@ -4,3 +4,4 @@ pub mod Phrases
 pub mod Resolution
 pub mod Terms
 pub mod Trees
+pub mod WellFormed
