@@ -1,3 +1,4 @@
+pub mod ChainBooks
 pub mod ChainTexts
 pub mod Entries
 pub mod Inferring
