@@ -1,4 +1,5 @@
 pub mod ChainBooks
+pub mod ChainDerived
 pub mod ChainTexts
 pub mod Entries
 pub mod Inferring
