@@ -1,5 +1,6 @@
 pub mod ChainBooks
 pub mod ChainDerived
+pub mod ChainLeast
 pub mod ChainTexts
 pub mod Entries
 pub mod Inferring
