@@ -7,3 +7,4 @@ pub mod Shapes
 pub mod Shifts
 pub mod Terminals
 pub mod Values
+pub mod Writings

@@ -191,6 +191,9 @@ terminal-fixed Name bytes h = absurd (cc)
 terminal-fixed Number bytes h = absurd (cc)
 terminal-fixed _ bytes h = refl
 
+pub kind-fixed : (kind : Kind) → is_fixed kind ≡ true → kind ≡ Number → ⊥
+kind-fixed kind fixed same = let wrong : true ≡ false = sym fixed ∙ ap is_fixed same in absurd (cc)
+
 -- a name, a number, and a reserved word or symbol in front of a text
 pub HasTerminals-name : (bytes rest : List ℕ) (xs : List Terminal) → IsName bytes → StopsBefore bytes rest
     → HasTerminals rest xs → HasTerminals (bytes ++ rest) (name bytes ∷ xs)
@@ -204,7 +207,4 @@ pub HasTerminals-fixed : (kind : Kind) (rest : List ℕ) (xs : List Terminal) �
     → HasTerminals rest xs → HasTerminals (spelling kind ++ rest) (word kind ∷ xs)
 HasTerminals-fixed kind rest xs fixed stops h =
     subst (λ x. HasTerminals (spelling kind ++ rest) (x ∷ xs)) (terminal-fixed kind (spelling kind) fixed)
-    (HasTerminals-token (spelling kind) rest kind xs (shape-spelling kind fixed) (λ is. absurd (not_number fixed is)) stops h)
-  where
-    not_number : is_fixed kind ≡ true → kind ≡ Number → ⊥
-    not_number fixed is = let wrong : true ≡ false = sym fixed ∙ ap is_fixed is in absurd (cc)
+    (HasTerminals-token (spelling kind) rest kind xs (shape-spelling kind fixed) (λ number. absurd (kind-fixed kind fixed number)) stops h)
