@@ -1,3 +1,4 @@
+mod Example
 pub mod Follows
 pub mod Gaps
 pub mod Longest
