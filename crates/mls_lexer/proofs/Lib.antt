@@ -1,3 +1,4 @@
+mod Example
 pub mod Follows
 pub mod Gaps
 pub mod Longest
@@ -7,3 +8,4 @@ pub mod Shapes
 pub mod Shifts
 pub mod Terminals
 pub mod Values
+pub mod Writings

@@ -8,7 +8,7 @@ use Rattle.mls_lexer.specs.declared.token.Kind.TheVariants.{Number}
 use Rattle.mls_lexer.specs.declared.token.Token.{Token}
 use Rattle.mls_lexer.specs.declared.token.LexFault.{LexFault}
 use Rattle.mls_lexer.specs.declared.token.LexFault.TheVariants.{BadByte, BigNumber, Memory}
-use Rattle.mls_lexer.specs.Tokens.{begins_gap, is_digit, is_number, gap, IsGap, IsLastGap, shape, digits_value, largest_number, IsLongest, IsToken, Follow, IsTokens, HasTokenFault, bad_byte, big_number}
+use Rattle.mls_lexer.specs.Tokens.{begins_gap, is_digit, is_number, gap, IsGap, IsLastGap, shape, digits_value, largest_number, IsLongest, IsToken, Follow, IsTokens, HasTokenFault, bad_byte, big_number, Terminal, terminals, HasTerminals}
 use Rattle.mls_lexer.specs.Steps.{ComesNext, StandsAt}
 use Rattle.mls_lexer.proofs.Gaps.{gap-append, gap-stop}
 use Rattle.mls_lexer.proofs.Shapes.{IsShaped, a_word, a_number, a_symbol, IsShaped-from_shape, symbol_tested, shape-number}
@@ -223,3 +223,7 @@ one_first_fault text fault other h k =
     let two = reading_of text other k in
     let same = (one_way text 0 one.0 two.0 (Some fault) (Some other) one.1 two.1).1 in
     cc
+
+-- a text has one list of tokens without their places
+pub one_terminals : (text : List ℕ) (xs ys : List Terminal) → HasTerminals text xs → HasTerminals text ys → xs ≡ ys
+one_terminals text xs ys h k = sym h.2 ∙ ap (terminals text) (one_reading text h.0 k.0 h.1 k.1) ∙ k.2

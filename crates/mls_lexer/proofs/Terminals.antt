@@ -8,7 +8,7 @@ use Rattle.std.proofs.lemmas.List.{take_at}
 use Rattle.std.proofs.lemmas.List.Folds.{list_all-append}
 use Rattle.mls_base.specs.Spelling.{IsName, is_spelled, is_lower, is_name_byte, begins_lower}
 use Rattle.mls_lexer.specs.declared.token.Kind.{Kind}
-use Rattle.mls_lexer.specs.declared.token.Kind.TheVariants.{Name, Number}
+use Rattle.mls_lexer.specs.declared.token.Kind.TheVariants.{Name, Number, DoubleEquals, Arrow, BraceLeft, BraceRight, ParenLeft, ParenRight, Comma, Dot, Colon, Plus, Star, Less, Bar, Amp}
 use Rattle.mls_lexer.specs.declared.token.Token.{Token}
 use Rattle.mls_lexer.specs.Tokens.{is_space, is_digit, is_number, gap, IsGap, IsLastGap, symbol_kind, word_kind, shape, digits_value, largest_number, IsToken, Follow, IsTokens, Terminal, name, number, word, terminal_of, HasTerminals}
 use Rattle.mls_lexer.specs.Spellings.{is_fixed, spelling}
@@ -191,6 +191,55 @@ terminal-fixed Name bytes h = absurd (cc)
 terminal-fixed Number bytes h = absurd (cc)
 terminal-fixed _ bytes h = refl
 
+pub kind-fixed : (kind : Kind) → is_fixed kind ≡ true → kind ≡ Number → ⊥
+kind-fixed kind fixed same = let wrong : true ≡ false = sym fixed ∙ ap is_fixed same in absurd (cc)
+
+-- the symbols but `=` and `-`
+abbrev pub is_closed : Kind → Bool
+is_closed DoubleEquals = true
+is_closed Arrow = true
+is_closed BraceLeft = true
+is_closed BraceRight = true
+is_closed ParenLeft = true
+is_closed ParenRight = true
+is_closed Comma = true
+is_closed Dot = true
+is_closed Colon = true
+is_closed Plus = true
+is_closed Star = true
+is_closed Less = true
+is_closed Bar = true
+is_closed Amp = true
+is_closed _ = false
+
+closed_symbol : (kind : Kind) → is_closed kind ≡ true → (symbol_kind (spelling kind) ≡ Some kind) × (may_grow (spelling kind) ≡ false) × (is_fixed kind ≡ true)
+unfolding symbol_kind
+closed_symbol DoubleEquals h = (refl, refl, refl)
+closed_symbol Arrow h = (refl, refl, refl)
+closed_symbol BraceLeft h = (refl, refl, refl)
+closed_symbol BraceRight h = (refl, refl, refl)
+closed_symbol ParenLeft h = (refl, refl, refl)
+closed_symbol ParenRight h = (refl, refl, refl)
+closed_symbol Comma h = (refl, refl, refl)
+closed_symbol Dot h = (refl, refl, refl)
+closed_symbol Colon h = (refl, refl, refl)
+closed_symbol Plus h = (refl, refl, refl)
+closed_symbol Star h = (refl, refl, refl)
+closed_symbol Less h = (refl, refl, refl)
+closed_symbol Bar h = (refl, refl, refl)
+closed_symbol Amp h = (refl, refl, refl)
+closed_symbol _ h = absurd (cc)
+
+-- nothing follows, or a byte that is none of a name
+abbrev pub BeginsNoName : List ℕ → Type 0
+BeginsNoName [] = Unit {0}
+BeginsNoName (next ∷ rest) = is_name_byte next ≡ false
+
+-- A name or a reserved word stops before such bytes.
+pub StopsBefore-names : (bytes rest : List ℕ) → is_spelled bytes ≡ true → BeginsNoName rest → StopsBefore bytes rest
+StopsBefore-names bytes [] spelled off = tt
+StopsBefore-names bytes (next ∷ rest) spelled off = StopsBefore-word bytes next rest spelled off
+
 -- a name, a number, and a reserved word or symbol in front of a text
 pub HasTerminals-name : (bytes rest : List ℕ) (xs : List Terminal) → IsName bytes → StopsBefore bytes rest
     → HasTerminals rest xs → HasTerminals (bytes ++ rest) (name bytes ∷ xs)
@@ -204,7 +253,16 @@ pub HasTerminals-fixed : (kind : Kind) (rest : List ℕ) (xs : List Terminal) �
     → HasTerminals rest xs → HasTerminals (spelling kind ++ rest) (word kind ∷ xs)
 HasTerminals-fixed kind rest xs fixed stops h =
     subst (λ x. HasTerminals (spelling kind ++ rest) (x ∷ xs)) (terminal-fixed kind (spelling kind) fixed)
-    (HasTerminals-token (spelling kind) rest kind xs (shape-spelling kind fixed) (λ is. absurd (not_number fixed is)) stops h)
-  where
-    not_number : is_fixed kind ≡ true → kind ≡ Number → ⊥
-    not_number fixed is = let wrong : true ≡ false = sym fixed ∙ ap is_fixed is in absurd (cc)
+    (HasTerminals-token (spelling kind) rest kind xs (shape-spelling kind fixed) (λ number. absurd (kind-fixed kind fixed number)) stops h)
+
+-- a symbol that stops before any byte
+pub HasTerminals-closed : (kind : Kind) (rest : List ℕ) (xs : List Terminal) → is_closed kind ≡ true
+    → HasTerminals rest xs → HasTerminals (spelling kind ++ rest) (word kind ∷ xs)
+HasTerminals-closed kind rest xs closed h =
+    let symbol = closed_symbol kind closed in
+    HasTerminals-fixed kind rest xs symbol.2 (StopsBefore-symbol (spelling kind) rest kind symbol.0 symbol.1) h
+
+-- a name before bytes that begin with none of a name
+pub HasTerminals-name_off : (bytes rest : List ℕ) (xs : List Terminal) → IsName bytes → BeginsNoName rest
+    → HasTerminals rest xs → HasTerminals (bytes ++ rest) (name bytes ∷ xs)
+HasTerminals-name_off bytes rest xs is off h = HasTerminals-name bytes rest xs is (StopsBefore-names bytes rest is.spelled off) h

@@ -4,9 +4,9 @@ ghost use Rattle.mls_lexer.specs.Tokens.{word_kind, symbol_kind};
 
 use crate::token::Kind;
 
-/// The kind of a reserved word; of any other word that of a name.
+// The kind of a reserved word; of any other word that of a name.
 #[tactic(auto, unfolding(crate::specs::Tokens::word_kind))]
-pub fn word_kind(bytes: &[u8]) -> Kind
+pub(crate) fn word_kind(bytes: &[u8]) -> Kind
     ensures { result ≡ word_kind bytes.now }
 {
     match bytes {
@@ -32,9 +32,9 @@ pub fn word_kind(bytes: &[u8]) -> Kind
     }
 }
 
-/// The kind of a symbol of two bytes.
+// The kind of a symbol of two bytes.
 #[tactic(auto, unfolding(crate::specs::Tokens::symbol_kind))]
-pub fn two_byte_symbol(first: u8, second: u8) -> Option<Kind>
+pub(crate) fn two_byte_symbol(first: u8, second: u8) -> Option<Kind>
     ensures { result ≡ symbol_kind (first ∷ second ∷ []) }
 {
     match (first, second) {
@@ -44,9 +44,9 @@ pub fn two_byte_symbol(first: u8, second: u8) -> Option<Kind>
     }
 }
 
-/// The kind of a symbol of one byte.
+// The kind of a symbol of one byte.
 #[tactic(auto, unfolding(crate::specs::Tokens::symbol_kind))]
-pub fn one_byte_symbol(byte: u8) -> Option<Kind>
+pub(crate) fn one_byte_symbol(byte: u8) -> Option<Kind>
     ensures { result ≡ symbol_kind (byte ∷ []) }
 {
     match byte {

@@ -17,8 +17,8 @@ pub fn number_of(text: &[u8], token: &Token) -> u64
     value_of(&text[token.start..token.end]).unwrap()
 }
 
-/// The value of digits, if it is at most 9223372036854775807.
-pub fn value_of(digits: &[u8]) -> Option<u64>
+// The value of digits, if it is at most 9223372036854775807.
+pub(crate) fn value_of(digits: &[u8]) -> Option<u64>
     requires { IsTrue (list_all is_digit digits.now) }
     ensures { MatchOption result (largest_number < digits_value digits.now) (λ value. (value ≡ digits_value digits.now) × (value ≤ largest_number)) }
 {
@@ -31,4 +31,30 @@ pub fn value_of(digits: &[u8]) -> Option<u64>
         value = 10 * value + digit;
     }
     Some(value)
+}
+
+#[cfg(test)]
+mod tests {
+    use super::*;
+    use crate::scan::tokens;
+    use std::test::Fail;
+
+    #[test]
+    fn reads_numbers(rt: HostRuntime) -> Result<(), Fail> {
+        for (text, value) in [
+            (b"0".as_slice(), 0),
+            (b" 0072".as_slice(), 72),
+            (b"9223372036854775807".as_slice(), LARGEST),
+        ] {
+            let found = tokens(rt.alloc(), text)?;
+            assert_eq!(rt; found.len(), 1);
+            let token = found[0];
+            if token.kind == Kind::Number {
+                assert_eq!(rt; number_of(text, &token), value);
+            } else {
+                assert!(rt; false, "no number in {text:?}");
+            }
+        }
+        Ok(())
+    }
 }
