@@ -1,5 +1,5 @@
 -- One test for each head tells nodes with different heads apart, and is the least that a variable, `bool` or `int` passes.
-use Rattle.std.proofs.Common.{rules, ◌≡◌, ◌⊎◌, inl, inr, ℕ, zero, suc, ◌<◌, Bool, true, false, ◌||◌, ◌==◌, List, [], ◌∷◌, refl, sym, ap, ◌∙◌, subst, arith, Some}
+use Rattle.std.proofs.Common.{rules, ◌≡◌, ◌⊎◌, inl, inr, ℕ, zero, suc, Bool, true, false, ◌||◌, ◌==◌, List, [], ◌∷◌, refl, sym, ap, ◌∙◌, subst, arith, Some}
 use Rattle.std.specs.Prelude.{◌≢◌, Option}
 use Rattle.std.proofs.lemmas.Bool.{eqb-true}
 use Rattle.std.proofs.Math.Bool.{or-false}
@@ -7,7 +7,7 @@ use Rattle.std.proofs.lemmas.Grind.{common_steps}
 use Rattle.std.proofs.lemmas.Bool.Decides.{nat_tests}
 use Rattle.mls_book.specs.declared.book.Node.{Node}
 use Rattle.mls_book.specs.declared.book.Node.TheVariants as node
-use Rattle.mls_book.specs.Books.{node_at, IsOrdered, IsBook}
+use Rattle.mls_book.specs.Books.{node_at, IsBook}
 use Rattle.mls_book.specs.Tests.{Test, test, never_function, always_function, never_record, always_record}
 use Rattle.mls_book.specs.Predicates.{Predicate, var, bool, int, arrow, rcd, Implies, bot, top}
 use Rattle.mls_book.specs.Passes.{answer, answer_below, passes, passes_by, node_value, field_values}

@@ -1,4 +1,5 @@
 pub mod Table
+pub mod Rising
 pub mod Shown
 pub mod Depths
 pub mod Lattice

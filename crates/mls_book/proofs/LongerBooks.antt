@@ -12,9 +12,9 @@ use Rattle.mls_book.specs.declared.book.Field.{Field}
 use Rattle.mls_book.specs.declared.book.Node.{Node}
 use Rattle.mls_book.specs.declared.book.NodeId.{NodeId}
 use Rattle.mls_book.specs.declared.book.Node.TheVariants as node
-use Rattle.mls_book.specs.Books.{node_at, field_at, AreRising, IsOrdered, IsBook, HasChildrenBelow, IsClosed, IsClosedBook}
-use Rattle.mls_book.specs.Predicates.{Predicate, bot, top, bool, int, arrow, rcd, join, meet}
-use Rattle.mls_book.specs.Passes.{passes, passes_by, node_value, field_values}
+use Rattle.mls_book.specs.Books.{node_at, field_at, AreRising, IsOrdered, IsBook, HasChildrenBelow, IsClosedBook}
+use Rattle.mls_book.specs.Predicates.{Predicate, rcd}
+use Rattle.mls_book.specs.Passes.{passes_by, node_value, field_values}
 use Rattle.mls_book.proofs.Table.{passes_by-value, value_at}
 use Rattle.mls_book.proofs.Children.{HasChildrenIn-more, children_below}
 use Rattle.mls_book.proofs.Guarded.{node_value-same, passes_by-unique}

@@ -1,18 +1,17 @@
 -- The laws of the order, from those of predicates.
-use Rattle.std.proofs.Common.{◌≡◌, ℕ, true, false, List, refl, sym, ap, ◌∙◌, subst, Some, None}
+use Rattle.std.proofs.Common.{◌≡◌, ℕ, List, refl, sym, ap, ◌∙◌, subst, Some, None}
 use Rattle.std.specs.Prelude.{Option, option_map}
 use Rattle.mls_book.specs.declared.book.Node.{Node}
 use Rattle.mls_book.specs.declared.book.NodeId.{NodeId}
 use Rattle.mls_book.specs.Books.{field_at, IsClosedBook}
-use Rattle.mls_book.specs.Tests.{always_function, never_function}
 use Rattle.mls_book.specs.Predicates.{Predicate, Implies, bot, top, var, arrow, rcd, join, meet}
 use Rattle.mls_book.specs.Passes.{passes, field_values}
 use Rattle.mls_book.specs.Order.{IsBelow, AreEqual}
-use Rattle.mls_book.specs.Laws.{PassesIsTable, BotLeast, TopGreatest, JoinLeastUpper, MeetGreatestLower, Distributive, FunctionJoin, FunctionMeet, IsJoinedField, RecordJoin, IsMetField, RecordMeet, FunctionOrder, RecordOrder, FunctionNotBot, TopNotFunction}
+use Rattle.mls_book.specs.Laws.{PassesIsTable, BotLeast, TopGreatest, JoinLeastUpper, MeetGreatestLower, Distributive, FunctionJoin, FunctionMeet, IsJoinedField, RecordJoin, IsMetField, RecordMeet, FunctionOrder, RecordOrder}
 use Rattle.mls_book.proofs.Table.{passes_by-value, value-bot, value-top, value-arrow, value-rcd, value-join, value-meet}
 use Rattle.mls_book.proofs.Depths.{Implies-same, Implies-same_back}
 use Rattle.mls_book.proofs.Lattice.{join_left, join_right, join_least, meet_left, meet_right, meet_greatest, meet-join}
-use Rattle.mls_book.proofs.Constructors.{only_function, arrow-implies, arrow-domain, arrow-codomain, rcd-implies, rcd-fieldwise, join-arrow, meet-arrow, joined_field, met_field, join-rcd, meet-rcd}
+use Rattle.mls_book.proofs.Constructors.{arrow-implies, arrow-domain, arrow-codomain, rcd-implies, rcd-fieldwise, join-arrow, meet-arrow, joined_field, met_field, join-rcd, meet-rcd}
 use Rattle.mls_book.proofs.Guarded.{passes_by-unique}
 
 pub passes_is_table : PassesIsTable

@@ -3,15 +3,12 @@
 --     pulled           a predicate at the pulled test; it goes through joins, meets, functions and records
 --     passes-pulled    what a node passes under `v` is what it passes of the pulled test
 --     Implies-stays    an order of nodes stays under every reading of variables
-use Rattle.std.proofs.Common.{◌≡◌, ℕ, suc, ◌<◌, arith, Bool, true, false, not, ◌&&◌, ◌||◌, ◌==◌, List, [], ◌∷◌, ◌++◌, refl, sym, ap, ◌∙◌, Some, None}
+use Rattle.std.proofs.Common.{◌≡◌, ℕ, suc, arith, Bool, true, false, not, ◌&&◌, ◌==◌, List, [], ◌++◌, refl, sym, ap, ◌∙◌, Some, None}
 use Rattle.std.specs.Prelude.{filter, max, Option, option_map, is_none}
-use Rattle.std.specs.List.{list_any}
 use Rattle.std.proofs.lemmas.Bool.{eqb-true}
 use Rattle.std.proofs.lemmas.Map.Views.{any-filter_same}
 use Rattle.mls_book.specs.declared.book.Field.{Field}
 use Rattle.mls_book.specs.declared.book.Node.{Node}
-use Rattle.mls_book.specs.declared.book.NodeId.{NodeId}
-use Rattle.mls_book.specs.declared.book.Node.TheVariants as node
 use Rattle.mls_book.specs.Books.{field_at}
 use Rattle.mls_book.specs.Tests.{Test, test, depth, function_depth, record_depth, FunctionPart, never_function, always_function, dom, cod, RecordPart, never_record, always_record, lacks, at}
 use Rattle.mls_book.specs.Predicates.{Predicate, Implies, bot, top, var, bool, int, arrow, field_answer, rcd, join, meet}

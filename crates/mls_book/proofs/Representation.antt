@@ -6,20 +6,19 @@
 use Rattle.std.proofs.Common.{◌≡◌, ◌⊎◌, inl, inr, ℕ, zero, suc, ◌+◌, ◌<◌, ◌≤◌, List, [], ◌∷◌, ◌++◌, map, length, refl, sym, ap, ◌∙◌, subst, arith, length-append}
 use Rattle.std.proofs.Math.ListN.{get_or-append}
 use Rattle.std.proofs.lemmas.List.{get_or-append-add}
-use Rattle.mls_book.specs.declared.book.Field.{Field}
 use Rattle.mls_book.specs.declared.book.Node.{Node}
 use Rattle.mls_book.specs.declared.book.NodeId.{NodeId}
 use Rattle.mls_book.specs.declared.book.Node.TheVariants as node
 use Rattle.mls_book.specs.Books.{node_at, IsBook, IsClosedBook}
 use Rattle.mls_book.specs.Predicates as predicate
 use Rattle.mls_book.specs.Predicates.{Predicate}
-use Rattle.mls_book.specs.Passes.{passes, passes_by, node_value}
+use Rattle.mls_book.specs.Passes.{passes, passes_by}
 use Rattle.mls_book.specs.Schemes.{Substitution}
-use Rattle.mls_book.proofs.Table.{passes_by-value, value_at, value-join}
+use Rattle.mls_book.proofs.Table.{value_at}
 use Rattle.mls_book.proofs.Lattice.{join_self}
 use Rattle.mls_book.proofs.Children.{closed_children}
 use Rattle.mls_book.proofs.Guarded.{passes_by-unique}
-use Rattle.mls_book.proofs.LongerBooks.{AllFrom, Stand, AllFrom-append, AllFrom-first, AllFrom-second, AllFrom-one, below_or_more, IsGood, closed_from, closed_all, Extends, Extends-value, renamed_id, renamed_field, AreRising-renamed, fields_below-renamed, field_values-renamed, Holds}
+use Rattle.mls_book.proofs.LongerBooks.{AllFrom, Stand, AllFrom-append, AllFrom-first, AllFrom-second, AllFrom-one, below_or_more, IsGood, closed_from, closed_all, Extends, Extends-value, renamed_field, AreRising-renamed, fields_below-renamed, field_values-renamed, Holds}
 use Rattle.mls_book.proofs.Systems.{Term, bot, top, bool, int, var, arrow, rcd, join, meet, base, member, term_value, IsTerm, IsSystem, IsSolution, solution_unique, term_map, term_value-map, IsTerm-map, term_of, term_value-term_of, IsTerm-term_of}
 
 -- how many nodes of a term come before its own

@@ -6,13 +6,13 @@
 --     Subsumes-refl, Subsumes-trans
 --     HaveSameValues         schemes of different books that stand for the same: they subsume, and are subsumed by, the same
 --     Equivalent-..          equivalence, of such schemes, of a scheme in a longer book or moved, of one with other variables
-use Rattle.std.proofs.Common.{◌≡◌, inl, inr, ℕ, zero, suc, ◌+◌, ◌<◌, Bool, true, false, ◌||◌, ◌==◌, List, [], ◌∷◌, ◌++◌, map, length, refl, sym, ap, ◌∙◌, subst, arith, Some, None}
+use Rattle.std.proofs.Common.{◌≡◌, inl, inr, ℕ, zero, suc, ◌+◌, ◌<◌, Bool, true, false, List, [], ◌∷◌, ◌++◌, map, length, refl, sym, ap, ◌∙◌, subst, arith, Some, None}
 use Rattle.std.specs.Prelude.{Option, option_map}
 use Rattle.std.specs.FinMap as finmap
 use Rattle.mls_book.specs.declared.book.Node.{Node}
 use Rattle.mls_book.specs.declared.book.Node.TheVariants as node
-use Rattle.mls_book.specs.Books.{node_at, IsBook, IsClosedBook}
-use Rattle.mls_book.specs.Predicates.{Predicate, Implies, bot, top, var}
+use Rattle.mls_book.specs.Books.{node_at, IsClosedBook}
+use Rattle.mls_book.specs.Predicates.{Predicate, Implies, bot, var}
 use Rattle.mls_book.specs.Passes.{passes, passes_by}
 use Rattle.mls_book.specs.Schemes.{Scheme, IsScheme, Substitution, SubsumesBy, Subsumes, AreEquivalent, binder_passes, passes_at}
 use Rattle.mls_book.proofs.Table.{value-var, value-bot}

@@ -4,18 +4,17 @@
 --     IsSolution        a family of predicates that is as the terms say
 --     solution_unique   it is the only one
 use Rattle.std.proofs.lemmas.List.Elements.{All-head, All-tail}
-use Rattle.std.proofs.Common.{[], ◌∷◌, map, ◌≡◌, ◌⊎◌, inl, inr, ℕ, ◌<◌, not, ◌&&◌, ◌||◌, List, refl, ap, ◌∙◌, arith, Some, None, ◌∷◌, map}
-use Rattle.std.specs.Prelude.{All, Option, option_map, is_none}
+use Rattle.std.proofs.Common.{[], ◌∷◌, map, ◌≡◌, inr, ℕ, ◌<◌, ◌&&◌, ◌||◌, List, refl, ap, arith, ◌∷◌, map}
+use Rattle.std.specs.Prelude.{All}
 use Rattle.mls_book.specs.declared.book.Field.{Field}
-use Rattle.mls_book.specs.declared.book.NodeId.{NodeId}
 use Rattle.mls_book.specs.declared.book.Node.{Node}
 use Rattle.mls_book.specs.declared.book.Node.TheVariants as node
-use Rattle.mls_book.specs.Books.{field_at, AreRising, IsOrdered}
-use Rattle.mls_book.specs.Tests.{Test, test, depth, FunctionPart, never_function, always_function, dom, cod, RecordPart, never_record, always_record, lacks, at}
+use Rattle.mls_book.specs.Books.{AreRising, IsOrdered}
+use Rattle.mls_book.specs.Tests.{Test}
 use Rattle.mls_book.specs.Predicates as predicate
 use Rattle.mls_book.specs.Predicates.{Predicate}
 use Rattle.mls_book.specs.Passes.{node_value, field_values}
-use Rattle.mls_book.proofs.Children.{at_found, HasChildrenIn}
+use Rattle.mls_book.proofs.Children.{HasChildrenIn}
 use Rattle.mls_book.proofs.Guarded.{IsBefore, IsGuarded, guarded_unique, node_value-agree}
 
 -- the numbers under a function and in the fields of a record are those of members

@@ -1,10 +1,10 @@
 -- Worked values of `passes`, each by computation alone.
-use Rattle.std.proofs.Common.{◌≡◌, ℕ, Bool, true, false, List, [], ◌∷◌, refl, codes}
+use Rattle.std.proofs.Common.{◌≡◌, ℕ, true, false, List, [], ◌∷◌, refl, codes}
 use Rattle.mls_book.specs.declared.book.Field.{Field}
 use Rattle.mls_book.specs.declared.book.NodeId.{NodeId}
 use Rattle.mls_book.specs.declared.book.Node.{Node}
 use Rattle.mls_book.specs.declared.book.Node.TheVariants as node
-use Rattle.mls_book.specs.Tests.{Test, test, never_function, always_function, dom, cod, never_record, always_record, lacks, at}
+use Rattle.mls_book.specs.Tests.{test, never_function, always_function, dom, cod, never_record, always_record, lacks, at}
 use Rattle.mls_book.specs.Passes.{answer_below, passes, passes_by}
 use Rattle.mls_book.specs.Laws.{variable, boolean, integer}
 use Rattle.mls_book.proofs.Constructors.{only_function, only_record}

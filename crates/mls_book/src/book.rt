@@ -4,7 +4,7 @@
 //! These are the guarded recursive types of Dolan, Algebraic Subtyping, PhD thesis, University of Cambridge,
 //! without its demand that recursion is covariant.
 ghost use Rattle.std.specs.Prelude.{◌≡◌, ◌↔◌, ◌<◌, ◌++◌, ◌∷◌, [], length, IfOk, OnOk, OnErr, IsTrue};
-ghost use Rattle.mls_book.specs.Books.{IsOrdered, IsClosed, IsBook, HasChildrenBelow, node_at, field_at};
+ghost use Rattle.mls_book.specs.Books.{AreRising, IsOrdered, IsClosed, IsBook, HasChildrenBelow, node_at, field_at};
 
 use crate::name::Name;
 use mls_base::memory::Memory;
@@ -110,6 +110,13 @@ impl Fields {
             .map(|field| field.node)
     }
 
+    /// Whether the labels rise strictly in byte order, as those of a node in a book have to.
+    pub fn is_rising(&self) -> bool
+        ensures { IsTrue result ↔ AreRising self.now }
+    {
+        are_rising(self.items.as_slice())
+    }
+
     /// The fields in order.
     pub fn as_slice(&self) -> &[Field]
         ensures { result.now ≡ self.now }
@@ -125,6 +132,18 @@ impl Book {
     {
         Book {
             nodes: Vec::new(alloc),
+        }
+    }
+
+    /// Whether the node may be pushed: the children of a join or a meet are there, and the labels of a record rise.
+    pub fn can_push(&self, node: &Node) -> bool
+        ensures { IsTrue result ↔ IsOrdered (length self.now) node.now }
+    {
+        let number = self.nodes.len();
+        match node {
+            Node::Join(j, k) | Node::Meet(j, k) => j.0 < number && k.0 < number,
+            Node::Rcd(fields) => fields.is_rising(),
+            _ => true,
         }
     }
 
@@ -176,6 +195,18 @@ impl Book {
             .iter()
             .all(|node| has_children_below(self.nodes.len(), node))
     }
+}
+
+// Whether the labels of the fields rise strictly.
+fn are_rising(fields: &[Field]) -> bool
+    ensures { IsTrue result ↔ AreRising fields.now }
+{
+    for i in 1..fields.len() {
+        if !(fields[i - 1].label < fields[i].label) {
+            return false;
+        }
+    }
+    true
 }
 
 // Whether the children of a node are below this number.

@@ -153,3 +153,88 @@ pub fn passes(book: &Book, id: NodeId, test: &Test) -> bool
         Node::Meet(j, k) => passes(book, *j, test) && passes(book, *k, test),
     }
 }
+
+#[cfg(test)]
+mod tests {
+    use super::*;
+    use crate::book::{Field, Fields};
+    use mls_base::spelling::is_name;
+    use std::process::Abort;
+    use std::test::Fail;
+
+    // The function part of a test whose other parts are empty.
+    fn asking(alloc: Global, function: FunctionPart) -> Test {
+        Test {
+            vars: Vars::new(alloc),
+            boolean: false,
+            integer: false,
+            function,
+            fields: RecordPart::Never,
+        }
+    }
+
+    // The name of these bytes.
+    fn named(rt: &impl Abort, alloc: Global, bytes: &[u8]) -> Result<Name, Memory> {
+        assert!(rt; is_name(bytes));
+        Name::new(alloc, bytes)
+    }
+
+    #[test]
+    fn functions_pass_by_their_domain_and_codomain(rt: HostRuntime) -> Result<(), Fail> {
+        let alloc = rt.alloc();
+        let mut book = Book::new(alloc);
+        let top = book.push(Node::Top)?;
+        let bot = book.push(Node::Bot)?;
+        let function = book.push(Node::Arrow(top, bot))?;
+        let variable = book.push(Node::Var(3))?;
+        let join = book.push(Node::Join(bot, variable))?;
+        assert!(rt; book.is_closed() && book.len() == 5);
+
+        let always = asking(alloc, FunctionPart::Always);
+        assert!(rt; passes(&book, function, &always));
+        assert!(rt; !passes(&book, bot, &always));
+
+        let mut inner = asking(alloc, FunctionPart::Never);
+        inner.vars.push(3)?;
+        assert!(rt; passes(&book, join, &inner));
+        let domain = asking(alloc, FunctionPart::Dom(Box::new(alloc, inner)?));
+        assert!(rt; !passes(&book, function, &domain));
+        Ok(())
+    }
+
+    #[test]
+    fn records_pass_by_their_fields(rt: HostRuntime) -> Result<(), Fail> {
+        let alloc = rt.alloc();
+        let next = named(&rt, alloc, b"next")?;
+        let now = named(&rt, alloc, b"now")?;
+        assert!(rt; next < now && next == next.clone()?);
+
+        let mut fields = Fields::new(alloc);
+        fields.push(Field {
+            label: next.clone()?,
+            node: NodeId(0),
+        })?;
+        fields.push(Field {
+            label: now.clone()?,
+            node: NodeId(1),
+        })?;
+        let stream = Node::Rcd(fields);
+        let mut book = Book::new(alloc);
+        assert!(rt; book.is_empty() && book.can_push(&stream));
+        let root = book.push(stream)?;
+        let _ = book.push(Node::Int)?;
+        assert!(rt; book.is_closed());
+
+        let mut lacks = asking(alloc, FunctionPart::Never);
+        lacks.fields = RecordPart::Lacks(now.clone()?);
+        assert!(rt; !passes(&book, root, &lacks));
+        let mut at = asking(alloc, FunctionPart::Never);
+        at.fields = RecordPart::At(next, Box::new(alloc, lacks)?);
+        assert!(rt; !passes(&book, root, &at));
+        let mut inner = asking(alloc, FunctionPart::Never);
+        inner.integer = true;
+        at.fields = RecordPart::At(now, Box::new(alloc, inner)?);
+        assert!(rt; passes(&book, root, &at));
+        Ok(())
+    }
+}
