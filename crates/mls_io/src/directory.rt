@@ -1,8 +1,9 @@
 //! The store over a directory.
-ghost use Rattle.std.specs.Prelude.{◌≡◌, ◌+◌, ◌≤◌, ◌⊎◌, IfOk, vec_len};
+ghost use Rattle.std.specs.Prelude.{◌≡◌, ◌+◌, ◌≤◌, ◌⊎◌, ◌↔◌, IfOk, vec_len};
 ghost use Rattle.std.specs.Io.{StartsWith};
+ghost use Rattle.std.specs.IoError.{error_kind};
 ghost use Rattle.mls_io.specs.Counts.{Rose};
-ghost use Rattle.mls_io.specs.Directory.{new_tally, untold_holdings};
+ghost use Rattle.mls_io.specs.Directory.{new_directory, untold_holdings};
 ghost use Rattle.mls_io.specs.Stores.{Follows};
 
 use crate::count::Counter;
@@ -15,7 +16,7 @@ use std::io::{ErrorKind, Read};
 use std::marker::Model;
 use std::rt::Files;
 
-/// Reads the files of one directory. It tells nothing of them. Contracts see it as its counts.
+/// Reads the files of one directory. It tells nothing of them. Contracts see it as its path and its counts.
 #[derive(Drop)]
 pub struct DirStore<R: Files + Clone + Drop> {
     rt: R,
@@ -27,11 +28,13 @@ pub struct DirStore<R: Files + Clone + Drop> {
 }
 
 impl<R: Files + Clone + Drop> Model for DirStore<R> {
-    ghost use Rattle.mls_io.specs.Directory.{Tally};
+    ghost use Rattle.std.specs.Prelude.{string_bytes};
+    ghost use Rattle.mls_io.specs.Directory.{Directory};
 
-    ghost Value = { Tally };
+    ghost Value = { Directory };
 
     ghost view = { λ store. record {
+      folder = string_bytes store.folder;
       faults = store.faults;
       misses = store.misses;
       longs = store.longs;
@@ -41,7 +44,7 @@ impl<R: Files + Clone + Drop> Model for DirStore<R> {
 impl<R: Files + Clone + Drop> DirStore<R> {
     /// Takes the runtime and the path of the directory.
     pub fn new(rt: R, alloc: Global, folder: &str) -> Result<DirStore<R>, Memory>
-        ensures { IfOk result (λ store. store ≡ new_tally) }
+        ensures { IfOk result (λ store. store ≡ new_directory folder.now) }
     {
         Ok(DirStore {
             rt,
@@ -95,7 +98,8 @@ impl<R: Files + Clone + Drop> DirStore<R> {
 
 // What an error comes to that is no missing file: a want of memory, or a fault.
 fn failure(error: &io::Error) -> Fetch
-    ensures { (result ≡ Fetch.Memory) ⊎ (result ≡ Fetch.Failed) }
+    ensures memory { (result ≡ Fetch.Memory) ↔ (error_kind error.now ≡ ErrorKind.OutOfMemory) }
+    ensures answers { (result ≡ Fetch.Memory) ⊎ (result ≡ Fetch.Failed) }
 {
     if error.kind() == ErrorKind::OutOfMemory {
         Fetch::Memory
