@@ -1,5 +1,5 @@
 //! The store over a directory.
-ghost use Rattle.std.specs.Prelude.{◌≡◌, ◌+◌, ◌≤◌, ◌⊎◌, ◌↔◌, IfOk, vec_len};
+ghost use Rattle.std.specs.Prelude.{◌≡◌, ◌≢◌, ◌+◌, ◌<◌, ◌≤◌, ◌⊎◌, ◌↔◌, ◌++◌, IfOk, IfSome, length, vec_len};
 ghost use Rattle.std.specs.Io.{StartsWith};
 ghost use Rattle.std.specs.IoError.{error_kind};
 ghost use Rattle.mls_io.specs.Counts.{Rose};
@@ -56,20 +56,14 @@ impl<R: Files + Clone + Drop> DirStore<R> {
         })
     }
 
-    // Reads the file of this name to the end of `into`, but no more than `limit` bytes and one.
+    // Adds the bytes of the file of this name to `into`, or says why not. What was read may stay in `into`.
     fn read(&self, name: &str, limit: usize, into: &mut Vec<u8>) -> Fetch
         ensures kept { StartsWith into.new.items into.old.items }
         ensures within { result ≡ Fetch.Found → vec_len into.new ≤ vec_len into.old + limit }
     {
-        let file = match self.open(name) {
-            Ok(file) => file,
-            Err(error) if error.kind() == ErrorKind::NotFound => return Fetch::Missing,
-            Err(error) => return failure(&error),
-        };
-        let most = (limit as u64).saturating_add(1);
-        match file.take(most).read_to_end(into) {
-            Ok(n) if n <= limit => Fetch::Found,
-            Ok(_) => Fetch::Long,
+        match self.open(name) {
+            Ok(file) => read_whole(file, limit, into),
+            Err(error) if error.kind() == ErrorKind::NotFound => Fetch::Missing,
             Err(error) => failure(&error),
         }
     }
@@ -93,6 +87,22 @@ impl<R: Files + Clone + Drop> DirStore<R> {
             Fetch::Failed => self.faults.rise(),
             Fetch::Found | Fetch::Memory => {}
         }
+    }
+}
+
+// Adds what the reader gives to `into`, where it is at most `limit` bytes. It reads no more than these bytes and one.
+fn read_whole<F: Read + Drop>(reader: F, limit: usize, into: &mut Vec<u8>) -> Fetch
+    ensures kept { StartsWith into.new.items into.old.items }
+    ensures within { result ≡ Fetch.Found → vec_len into.new ≤ vec_len into.old + limit }
+    ensures found { result ≡ Fetch.Found → IfSome (F.remaining reader) (λ bytes. into.new.items ≡ into.old.items ++ bytes) }
+    ensures long { result ≡ Fetch.Long → IfSome (F.remaining reader) (λ bytes. limit < length bytes) }
+    ensures open { result ≢ Fetch.Missing }
+{
+    let most = (limit as u64).saturating_add(1);
+    match reader.take(most).read_to_end(into) {
+        Ok(n) if n <= limit => Fetch::Found,
+        Ok(_) => Fetch::Long,
+        Err(error) => failure(&error),
     }
 }
 
