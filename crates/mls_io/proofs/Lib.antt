@@ -1,3 +1,4 @@
 pub mod CountLaws
+mod OutputLaws
 pub mod ShelfLaws
 pub mod SinkLaws

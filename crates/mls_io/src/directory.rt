@@ -1,8 +1,9 @@
 //! The store over a directory.
-ghost use Rattle.std.specs.Prelude.{◌≡◌, ◌+◌, ◌≤◌, ◌⊎◌, IfOk, vec_len};
+ghost use Rattle.std.specs.Prelude.{◌≡◌, ◌≢◌, ◌+◌, ◌<◌, ◌≤◌, ◌⊎◌, ◌↔◌, ◌++◌, IfOk, IfSome, length, vec_len};
 ghost use Rattle.std.specs.Io.{StartsWith};
+ghost use Rattle.std.specs.IoError.{error_kind};
 ghost use Rattle.mls_io.specs.Counts.{Rose};
-ghost use Rattle.mls_io.specs.Directory.{new_tally, untold_holdings};
+ghost use Rattle.mls_io.specs.Directory.{new_directory, untold_holdings};
 ghost use Rattle.mls_io.specs.Stores.{Follows};
 
 use crate::count::Counter;
@@ -15,7 +16,7 @@ use std::io::{ErrorKind, Read};
 use std::marker::Model;
 use std::rt::Files;
 
-/// Reads the files of one directory. It tells nothing of them. Contracts see it as its counts.
+/// Reads the files of one directory. It tells nothing of them. Contracts see it as its path and its counts.
 #[derive(Drop)]
 pub struct DirStore<R: Files + Clone + Drop> {
     rt: R,
@@ -27,11 +28,13 @@ pub struct DirStore<R: Files + Clone + Drop> {
 }
 
 impl<R: Files + Clone + Drop> Model for DirStore<R> {
-    ghost use Rattle.mls_io.specs.Directory.{Tally};
+    ghost use Rattle.std.specs.Prelude.{string_bytes};
+    ghost use Rattle.mls_io.specs.Directory.{Directory};
 
-    ghost Value = { Tally };
+    ghost Value = { Directory };
 
     ghost view = { λ store. record {
+      folder = string_bytes store.folder;
       faults = store.faults;
       misses = store.misses;
       longs = store.longs;
@@ -41,7 +44,7 @@ impl<R: Files + Clone + Drop> Model for DirStore<R> {
 impl<R: Files + Clone + Drop> DirStore<R> {
     /// Takes the runtime and the path of the directory.
     pub fn new(rt: R, alloc: Global, folder: &str) -> Result<DirStore<R>, Memory>
-        ensures { IfOk result (λ store. store ≡ new_tally) }
+        ensures { IfOk result (λ store. store ≡ new_directory folder.now) }
     {
         Ok(DirStore {
             rt,
@@ -53,20 +56,14 @@ impl<R: Files + Clone + Drop> DirStore<R> {
         })
     }
 
-    // Reads the file of this name to the end of `into`, but no more than `limit` bytes and one.
+    // Adds the bytes of the file of this name to `into`, or says why not. What was read may stay in `into`.
     fn read(&self, name: &str, limit: usize, into: &mut Vec<u8>) -> Fetch
         ensures kept { StartsWith into.new.items into.old.items }
         ensures within { result ≡ Fetch.Found → vec_len into.new ≤ vec_len into.old + limit }
     {
-        let file = match self.open(name) {
-            Ok(file) => file,
-            Err(error) if error.kind() == ErrorKind::NotFound => return Fetch::Missing,
-            Err(error) => return failure(&error),
-        };
-        let most = (limit as u64).saturating_add(1);
-        match file.take(most).read_to_end(into) {
-            Ok(n) if n <= limit => Fetch::Found,
-            Ok(_) => Fetch::Long,
+        match self.open(name) {
+            Ok(file) => read_whole(file, limit, into),
+            Err(error) if error.kind() == ErrorKind::NotFound => Fetch::Missing,
             Err(error) => failure(&error),
         }
     }
@@ -93,9 +90,26 @@ impl<R: Files + Clone + Drop> DirStore<R> {
     }
 }
 
+// Adds what the reader gives to `into`, where it is at most `limit` bytes. It reads no more than these bytes and one.
+fn read_whole<F: Read + Drop>(reader: F, limit: usize, into: &mut Vec<u8>) -> Fetch
+    ensures kept { StartsWith into.new.items into.old.items }
+    ensures within { result ≡ Fetch.Found → vec_len into.new ≤ vec_len into.old + limit }
+    ensures found { result ≡ Fetch.Found → IfSome (F.remaining reader) (λ bytes. into.new.items ≡ into.old.items ++ bytes) }
+    ensures long { result ≡ Fetch.Long → IfSome (F.remaining reader) (λ bytes. limit < length bytes) }
+    ensures open { result ≢ Fetch.Missing }
+{
+    let most = (limit as u64).saturating_add(1);
+    match reader.take(most).read_to_end(into) {
+        Ok(n) if n <= limit => Fetch::Found,
+        Ok(_) => Fetch::Long,
+        Err(error) => failure(&error),
+    }
+}
+
 // What an error comes to that is no missing file: a want of memory, or a fault.
 fn failure(error: &io::Error) -> Fetch
-    ensures { (result ≡ Fetch.Memory) ⊎ (result ≡ Fetch.Failed) }
+    ensures memory { (result ≡ Fetch.Memory) ↔ (error_kind error.now ≡ ErrorKind.OutOfMemory) }
+    ensures answers { (result ≡ Fetch.Memory) ⊎ (result ≡ Fetch.Failed) }
 {
     if error.kind() == ErrorKind::OutOfMemory {
         Fetch::Memory

@@ -14,7 +14,9 @@ use std::marker::Model;
 /// A file: its name and its bytes. Contracts see it as this pair.
 #[derive(Drop)]
 pub struct FileEntry {
+    /// The name by which a fetch asks for it.
     pub name: String,
+    /// What stands in it.
     pub bytes: Vec<u8>,
 }
 

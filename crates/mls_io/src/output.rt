@@ -1,10 +1,13 @@
 //! The sink over standard output.
-ghost use Rattle.std.specs.Prelude.{◌≡◌};
+ghost use Rattle.std.specs.Prelude.{◌≡◌, [], IsTrue};
+ghost use Rattle.std.specs.Io.KnownBytes.{Appends};
 ghost use Rattle.mls_io.specs.Counts.{no_count};
+ghost use Rattle.mls_io.specs.Output.{AppendsPart};
 
 use crate::count::Counter;
 use crate::sink::{Put, Sink};
-use std::io::Print;
+use std::io;
+use std::io::{Print, Write};
 use std::marker::Model;
 
 /// Writes to standard output. It tells nothing of its bytes. Contracts see it as its count of faults.
@@ -41,18 +44,29 @@ impl<R: Print + Drop> Sink for OutSink<R> {
 
     /// Writes in a loop, at least a byte each turn. A write that takes nothing of what is left is a fault.
     fn put(&mut self, piece: &[u8]) -> Put {
-        let mut left = piece;
-        while !left.is_empty() {
-            match self.rt.write_some(left) {
-                Ok(0) | Err(_) => {
-                    self.faults.rise();
-                    return Put::Failed;
-                }
-                Ok(n) => left = &left[n..],
-            }
+        if write_whole(&mut io::writer(&self.rt), piece) {
+            Put::All
+        } else {
+            self.faults.rise();
+            Put::Failed
         }
-        Put::All
     }
+}
+
+// Writes the piece, at least a byte each turn, and says whether all of it was taken.
+fn write_whole<W: Write>(writer: &mut W, piece: &[u8]) -> bool
+    ensures all { IsTrue result → Appends (W.contents writer.old) (W.contents writer.new) piece.now }
+    ensures part { AppendsPart (W.contents writer.old) (W.contents writer.new) piece.now }
+    ensures empty { piece.now ≡ [] → IsTrue result }
+{
+    let mut left = piece;
+    while !left.is_empty() {
+        match writer.write(left) {
+            Ok(0) | Err(_) => return false,
+            Ok(n) => left = &left[n..],
+        }
+    }
+    true
 }
 
 #[cfg(test)]
@@ -60,7 +74,6 @@ mod tests {
     use super::*;
     use std::cell::Cell;
     use std::fmt::Display;
-    use std::io;
     use std::io::ErrorKind;
     use std::test::Fail;
 
