@@ -91,7 +91,7 @@ module _ (s u : Scheme) (r : Substitution) (h : SubsumesBy s u r) where
   abbrev v : ℕ → Predicate
   v x = passes r.book (r.node_of x)
 
-  kept : (names : List ℕ) → ((x : ℕ) → has x (variables_of s.book) ≡ true → has x names ≡ true) → (f : Predicate) (t : ChainType) → IsBelowRoot f t s → IsBelowRoot (pulled v names f) t u
+  pub kept : (names : List ℕ) → ((x : ℕ) → has x (variables_of s.book) ≡ true → has x names ≡ true) → (f : Predicate) (t : ChainType) → IsBelowRoot f t s → IsBelowRoot (pulled v names f) t u
   kept names known f t below =
       let at_pulled : Implies (pulled v names (chain_value f t)) (pulled v names (passes s.book s.root)) = Implies-pulled v names (chain_value f t) (passes s.book s.root) below in
       let Left : Predicate → Type 0 = λ g. Implies g (pulled v names (passes s.book s.root)) in
@@ -106,14 +106,14 @@ module _ (s u : Scheme) (r : Substitution) (h : SubsumesBy s u r) where
   needs-pulled names known (Some i) = passes-pulled v names s.book known i
 
 -- a function's type from those of its parts
-step : (f : Predicate) (d : Bool) (t : ChainType) (s : Scheme) → IsScheme s → (i j : NodeId) → node_at s.book s.root ≡ node.Arrow i j
+pub step : (f : Predicate) (d : Bool) (t : ChainType) (s : Scheme) → IsScheme s → (i j : NodeId) → node_at s.book s.root ≡ node.Arrow i j
     → Implies (passes s.book i.0) (domain_value f d) → Implies (chain_value f t) (passes s.book j.0) → IsBelowRoot f (from d t) s
 step f d t s scheme i j e domain codomain =
     let Right : Predicate → Type 0 = λ g. Implies (chain_value f (from d t)) g in
     subst Right (sym (value-arrow var s.book scheme.book.book s.root i j e))
     (arrow-implies (domain_value f d) (chain_value f t) (passes s.book i.0) (passes s.book j.0) domain codomain)
 
-below_top : (f : Predicate) → Implies f top
+pub below_top : (f : Predicate) → Implies f top
 below_top f t e = refl
 
 itself : (s : Scheme) (x : ℕ) → has x (variables_of s.book) ≡ true → has x (variables_of s.book) ≡ true

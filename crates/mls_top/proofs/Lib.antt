@@ -1,6 +1,7 @@
 pub mod ChainBooks
 pub mod ChainDerived
 pub mod ChainLeast
+pub mod ChainBest
 pub mod ChainTexts
 pub mod Entries
 pub mod Inferring
