@@ -22,9 +22,8 @@ use Rattle.mls_book.proofs.Representation.{IsIn, HoldsUnder, substituted_held}
 use Rattle.mls_book.proofs.Subsumption.{IsBelowAt, subsumes_where}
 use Rattle.mls_syntax.specs.Terms.{TermTree, bound, inner, global, number, truth, fun, apply, make, project, choice, local, fix}
 use Rattle.mls_syntax.specs.Resolution.{IsChain}
-use Rattle.mls_syntax.specs.Derivations.{Known, over, Takes, Derives, IsBest}
+use Rattle.mls_syntax.specs.Derivations.{Known, over, Takes, Derives, var_inner, var_global, var_fun, lit_truth, lit_number, abs, app, rcd, proj, cond, let_in, rec_fix, sub, IsBest}
 use Rattle.mls_syntax.proofs.Rules.{ByFun, Generated, generation}
-use Rattle.mls_syntax.proofs.Metatheory.{AreSchemes, derived_scheme}
 use Rattle.mls_top.specs.Chains.{is_used}
 use Rattle.mls_top.proofs.ChainTexts.{ChainType, from, chain_type}
 use Rattle.mls_top.proofs.ChainBooks.{Stands}
@@ -137,10 +136,26 @@ subsumes_below b closed p t h u it =
         } in
     subsumes_where (scheme_at b env.empty p) u it.book it.closed v (λ x. it.held) below
 
+-- what is derivable for a chain is a scheme
+chain_scheme : (known : Known) (m : ℕ) (t : TermTree) (u : Scheme) → IsChain m t → Derives known t u → IsScheme u
+chain_scheme known m t u chain (var_inner at k e h) = absurd (let P : TermTree → Type 0 = λ w. IsChain m w in subst P e chain)
+chain_scheme known m t u chain (var_global at k e h) = absurd (let P : TermTree → Type 0 = λ w. IsChain m w in subst P e chain)
+chain_scheme known m t u chain (var_fun at x e scheme env_is) = scheme
+chain_scheme known m t u chain (lit_truth at value e scheme env_is root_is) = scheme
+chain_scheme known m t u chain (lit_number at value e scheme env_is root_is) = scheme
+chain_scheme known m t u chain (abs at x body d i j e scheme env_is takes root_is h) = scheme
+chain_scheme known m t u chain (app at function argument f i e scheme function_is h h') = scheme
+chain_scheme known m t u chain (rcd at parts fields e scheme root_is labels nothing h) = scheme
+chain_scheme known m t u chain (proj at body label i field e scheme record_is label_is node_is h) = scheme
+chain_scheme known m t u chain (cond at condition first second i e scheme condition_is h h1 h2) = scheme
+chain_scheme known m t u chain (let_in at k first second d1 d2 t1 e scheme meet h1 h2) = scheme
+chain_scheme known m t u chain (rec_fix at x body d e scheme env_is root_is h) = scheme
+chain_scheme known m t u chain (sub first h subsumes scheme) = scheme
+
 -- around a literal every value will do
-literal_below : (known : Known) (t : TermTree) (u : Scheme) → AreSchemes known → IsChain 0 t → leaf_binder t ≡ None → Derives known t u → IsBelowSome (chain_type None t) u
-literal_below known t u all chain none derived =
-    let scheme : IsScheme u = derived_scheme known t u all derived in
+literal_below : (known : Known) (t : TermTree) (u : Scheme) → IsChain 0 t → leaf_binder t ≡ None → Derives known t u → IsBelowSome (chain_type None t) u
+literal_below known t u chain none derived =
+    let scheme : IsScheme u = chain_scheme known 0 t u chain derived in
     record {
       book = u.book;
       closed = scheme.book;
@@ -150,13 +165,13 @@ literal_below known t u all chain none derived =
     }
 
 -- the scheme of a chain's type is its most general one
-pub chain_best : (known : Known) → AreSchemes known → (b : List Node) → IsClosedBook b → (p : ℕ) (t : TermTree) (o : Option ℕ) → IsChain 0 t → leaf_binder t ≡ o → Stands b p (chain_type o t)
+pub chain_best : (known : Known) (b : List Node) → IsClosedBook b → (p : ℕ) (t : TermTree) (o : Option ℕ) → IsChain 0 t → leaf_binder t ≡ o → Stands b p (chain_type o t)
     → IsBest known t (scheme_at b env.empty p)
-chain_best known all b closed p t None chain is h = record {
+chain_best known b closed p t None chain is h = record {
   derives = literal_derived known b closed 0 p t chain is h;
-  least = λ u derived. subsumes_below b closed p (chain_type None t) h u (literal_below known t u all chain is derived);
+  least = λ u derived. subsumes_below b closed p (chain_type None t) h u (literal_below known t u chain is derived);
 }
-chain_best known all b closed p t (Some x) chain is h = record {
+chain_best known b closed p t (Some x) chain is h = record {
   derives = inside_derived known b closed x 0 p t (omega arith) chain is h;
   least = λ u derived. subsumes_below b closed p (chain_type (Some x) t) h u (inside_least known x 0 t u (omega arith) chain is derived);
 }

@@ -138,15 +138,6 @@ type_text-chain used b (choice at c e f) h = absurd h
 type_text-chain used b (local at k e f) h = absurd h
 type_text-chain used b (fix at x e) h = absurd h
 
--- the text that is made of the nodes of a chain is a text of a type
-pub nodes_are_type : (nodes : List TermNode) (t : TermTree) → IsChain 0 t → nodes ≡ postorder 0 t → (read : ReadScheme) × IsTypeText (type_text (leaf_use nodes) (reverse nodes)) read
-nodes_are_type nodes t chain same =
-    let used = leaf_use nodes in
-    let it = chain_type used t in
-    let e : type_text used (reverse nodes) ≡ chain_text it = ap (λ l. type_text used (reverse l)) same ∙ type_text-chain used 0 t chain in
-    let read = read_of (meaning (place_of (chain_terminals it).0) 0 (chain_phrase it)) in
-    (read, let P : List ℕ → Type 0 = λ l. IsTypeText l read in subst P (sym e) (chain_is_type it))
-
 -- a node more of the chain was added
 pub piece_added : (used : Option ℕ) (old text more : List ℕ) (nodes left rest : List TermNode) (node : TermNode)
     → text ++ type_text used (reverse left) ≡ old ++ type_text used (reverse nodes)

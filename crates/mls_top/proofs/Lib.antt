@@ -3,6 +3,7 @@ pub mod ChainDerived
 pub mod ChainLeast
 pub mod ChainBest
 pub mod ChainTexts
+pub mod ChainTypes
 pub mod Entries
 pub mod Inferring
 pub mod Running

@@ -1,5 +1,5 @@
 -- What the phases of a run say to one another.
-use Rattle.std.specs.Prelude.{◌≡◌, ℕ, List, ◌++◌, Result, Ok, Err, IfOk, IfErr, MatchResult}
+use Rattle.std.specs.Prelude.{◌≡◌, ℕ, List, [], ◌++◌, Result, Ok, Err, IfOk, IfErr, MatchResult}
 use Rattle.mls_io.specs.Counts.{Rose}
 use Rattle.mls_io.specs.Stores.{Holdings}
 use Rattle.mls_syntax.specs.declared.term.ResolvedBinding.{ResolvedBinding}
@@ -42,11 +42,11 @@ IsRefused stop.Memory file limit result = result ≡ Err halt.Memory
 -- the line of an entry of the binding was added
 pub record AddsEntry (old new : List ℕ) (b : ResolvedBinding) : Type 0 where
   pub entry : Entry
-  pub is_entry : IsEntryOf b entry
+  pub is_entry : (earlier : List Entry) → IsEntryOf earlier b entry
   pub adds : new ≡ old ++ entry_line entry
 
 -- the text is that of a signature of these bindings
 pub record IsSignature (bindings : List ResolvedBinding) (text : List ℕ) : Type 0 where
   pub entries : List Entry
-  pub are_entries : AreEntriesOf bindings entries
+  pub are_entries : AreEntriesOf [] bindings entries
   pub text_is : text ≡ signature_text entries

@@ -1,5 +1,6 @@
 -- What is found when a module's signature is asked for.
-use Rattle.std.specs.Prelude.{◌≡◌, ℕ, ◌<◌, nat_lt, if◌then◌else◌, List, [], ◌∷◌, ◌++◌, length, codes, Option, Some, None, Result, Ok, Err}
+use Rattle.std.specs.Prelude.{◌≡◌, ℕ, ◌<◌, nat_lt, if◌then◌else◌, List, [], ◌∷◌, ◌++◌, length, map, codes, Option, Some, None, Result, Ok, Err}
+use Rattle.std.specs.FinMap as env
 use Rattle.mls_base.specs.Files.{Files, bytes_at}
 use Rattle.mls_lexer.specs.Tokens.{line_of, column_of}
 use Rattle.mls_syntax.specs.declared.module.Module.{Module}
@@ -8,7 +9,10 @@ use Rattle.mls_syntax.specs.declared.term.ResolvedBinding.{ResolvedBinding}
 use Rattle.mls_syntax.specs.declared.parse.Fault.{Fault}
 use Rattle.mls_syntax.specs.Modules.{IsPlainModuleOf, HasFault}
 use Rattle.mls_syntax.specs.Resolution.{Resolves}
+use Rattle.mls_syntax.specs.Terms.{TermTree, postorder}
+use Rattle.mls_syntax.specs.Derivations.{Known, IsBest}
 use Rattle.mls_typetext.specs.declared.scheme.ReadScheme.{ReadScheme}
+use Rattle.mls_typetext.specs.Schemes.{scheme_of, environment}
 use Rattle.mls_typetext.specs.Texts.{IsTypeText}
 use Rattle.mls_top.specs.declared.status.Status.{Status}
 use Rattle.mls_top.specs.declared.status.Status.TheVariants.{Done, BadText, NoFile, TooLong}
@@ -44,15 +48,23 @@ pub record Entry : Type 0 where
   pub text : List ℕ
   pub read : ReadScheme
 
--- the entry is one for the binding
-pub record IsEntryOf (b : ResolvedBinding) (e : Entry) : Type 0 where
+-- what is known after these entries: the operators and what their texts are read as
+abbrev pub known_after : List Entry → Known
+known_after earlier = record { globals = environment [] (map (λ e. e.read) earlier); lets = env.empty }
+
+-- the entry is one for the binding after earlier entries: its text is a type, which is read as the most general scheme of the binding's term
+pub record IsEntryOf (earlier : List Entry) (b : ResolvedBinding) (e : Entry) : Type 0 where
   pub name : e.x ≡ b.name
   pub reads : IsTypeText e.text e.read
+  pub term_tree : TermTree
+  pub nodes : b.term.nodes ≡ postorder 0 term_tree
+  pub best : IsBest (known_after earlier) term_tree (scheme_of e.read)
 
--- the entries are those of the bindings, in order
-abbrev pub AreEntriesOf : List ResolvedBinding → List Entry → Type 0
-AreEntriesOf [] entries = entries ≡ []
-AreEntriesOf (b ∷ bs) entries = (first : Entry) × (rest : List Entry) × (entries ≡ first ∷ rest) × IsEntryOf b first × AreEntriesOf bs rest
+-- the entries are those of the bindings after earlier entries, in order
+abbrev pub AreEntriesOf : (earlier : List Entry) → List ResolvedBinding → List Entry → Type 0
+AreEntriesOf earlier [] entries = entries ≡ []
+AreEntriesOf earlier (b ∷ bs) entries =
+    (first : Entry) × (rest : List Entry) × (entries ≡ first ∷ rest) × IsEntryOf earlier b first × AreEntriesOf (earlier ++ first ∷ []) bs rest
 
 -- the text of a signature: a line `val NAME : TYPE` for each entry
 abbrev pub entry_line : Entry → List ℕ
@@ -72,7 +84,7 @@ pub data InfersFrom (x text : List ℕ) : Outcome → Type 0 where
   -- the text has a first fault
   faulty : {fault : Fault} → HasFault text fault → InfersFrom x text (refused (bad_text (module_file x) text fault))
   -- each binding has an entry
-  signed : {m : Module} {r : Resolved} {entries : List Entry} → IsPlainModuleOf text m → Resolves m [] r → AreEntriesOf r.bindings entries
+  signed : {m : Module} {r : Resolved} {entries : List Entry} → IsPlainModuleOf text m → Resolves m [] r → AreEntriesOf [] r.bindings entries
       → InfersFrom x text (inferred entries)
 
 -- what is found for the module of this name over these files, by the first case that holds

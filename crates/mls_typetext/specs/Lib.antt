@@ -2,4 +2,5 @@ pub mod Phrases
 pub mod Trees
 pub mod Faults
 pub mod Books
+pub mod Schemes
 pub mod Texts
