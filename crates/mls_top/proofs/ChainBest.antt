@@ -27,7 +27,8 @@ use Rattle.mls_syntax.proofs.Rules.{ByFun, Generated, generation}
 use Rattle.mls_top.specs.Chains.{is_used}
 use Rattle.mls_top.proofs.ChainTexts.{ChainType, from, chain_type}
 use Rattle.mls_top.proofs.ChainBooks.{Stands}
-use Rattle.mls_top.proofs.ChainDerived.{leaf_binder, scheme_at, literal_derived, inside_derived}
+use Rattle.mls_syntax.proofs.Environments.{scheme_at}
+use Rattle.mls_top.proofs.ChainDerived.{leaf_binder, literal_derived, inside_derived}
 use Rattle.mls_top.proofs.ChainLeast.{chain_value, chain_passes, IsBelowRoot, needs, kept, step, below_top, literal_least, outside_least}
 
 -- at some value of its variable, which a node of a closed book has, a chain's type is below what the scheme has

@@ -30,7 +30,8 @@ use Rattle.mls_typetext.specs.Books.{id}
 use Rattle.mls_top.specs.Chains.{is_used}
 use Rattle.mls_top.proofs.ChainTexts.{Leaf, a_variable, an_integer, a_boolean, ChainType, leaf, from, leaf_of, chain_type}
 use Rattle.mls_top.proofs.ChainBooks.{leaf_node, domain_node, Stands}
-use Rattle.mls_top.proofs.ChainDerived.{leaf_binder, scheme_at, get-one}
+use Rattle.mls_syntax.proofs.Environments.{scheme_at, get-one}
+use Rattle.mls_top.proofs.ChainDerived.{leaf_binder}
 
 -- what a chain's type passes, where its variable passes this
 abbrev pub leaf_value : Predicate → Leaf → Predicate

@@ -16,7 +16,8 @@ use Rattle.mls_typetext.specs.Texts.{place_of, IsTypeText, read_of}
 use Rattle.mls_top.specs.Chains.{leaf_use, type_text}
 use Rattle.mls_top.proofs.ChainTexts.{ChainType, chain_type, chain_text, chain_phrase, chain_terminals, chain_is_type, type_text-chain}
 use Rattle.mls_top.proofs.ChainBooks.{chain_ty, chain_nodes, type_of-chain, book_of-chain, root_of-chain, stands_in, closed_chain}
-use Rattle.mls_top.proofs.ChainDerived.{leaf_binder, scheme_at}
+use Rattle.mls_syntax.proofs.Environments.{scheme_at}
+use Rattle.mls_top.proofs.ChainDerived.{leaf_binder}
 use Rattle.mls_top.proofs.ChainBest.{chain_best}
 
 -- the first of some nodes and one more is the first of them, or that one
