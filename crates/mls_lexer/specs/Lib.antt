@@ -1,1 +1,4 @@
+pub mod Laws
+pub mod Spellings
+pub mod Steps
 pub mod Tokens

@@ -12,6 +12,10 @@ use Rattle.mls_lexer.specs.declared.token.Kind.TheVariants.{Name, Number, WordAn
 abbrev pub is_space : ℕ → Bool
 is_space byte = (byte == 32) || (byte == 9) || (byte == 10) || (byte == 13)
 
+-- a byte with which a separator begins: a space, or the `#` of a comment
+abbrev pub begins_gap : ℕ → Bool
+begins_gap byte = is_space byte || (byte == 35)
+
 -- a byte `0` to `9`
 abbrev pub is_digit : ℕ → Bool
 is_digit byte = nat_le 48 byte && nat_le byte 57
@@ -100,7 +104,7 @@ Reaches text tokens at = Follow text 0 tokens (λ place. (place ≤ at) × (at <
 pub data HasTokenFault (text : List ℕ) : LexFault → Type 0 where
   -- a byte that is no separator and with which no token begins
   bad_byte : (tokens : List Token) (at : ℕ) → Reaches text tokens at
-      → IsFalse (is_space (slice_index text at) || (slice_index text at == 35))
+      → IsFalse (begins_gap (slice_index text at))
       → IsLongest text at at
       → HasTokenFault text (BadByte at)
   -- a number that is too large, at its first digit

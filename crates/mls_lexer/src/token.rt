@@ -1,4 +1,7 @@
 //! What a token is, and what is wrong with a text that is no list of tokens.
+ghost use Rattle.std.specs.Prelude.{◌≡◌};
+
+use std::alloc::AllocFailed;
 use thiserror::Error;
 
 /// What a token is: a name, a number, a reserved word or a symbol.
@@ -65,4 +68,14 @@ pub enum LexFault {
     /// Memory was wanting.
     #[error("out of memory")]
     Memory,
+}
+
+impl<T: Drop> From<AllocFailed<T>> for LexFault {
+    ghost use Rattle.mls_lexer.specs.declared.token.LexFault.TheVariants.{Memory};
+
+    ghost from_gives = { λ _ fault. fault ≡ Memory };
+
+    fn from(_e: AllocFailed<T>) -> LexFault {
+        LexFault::Memory
+    }
 }

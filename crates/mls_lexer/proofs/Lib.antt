@@ -1,0 +1,10 @@
+pub mod Follows
+pub mod Gaps
+pub mod Longest
+pub mod Pieces
+pub mod Readings
+pub mod Shapes
+pub mod Shifts
+pub mod Terminals
+pub mod Values
+pub mod Writings

@@ -1,0 +1,60 @@
+//! The values of numbers.
+ghost use Rattle.std.specs.Prelude.{◌≡◌, ◌<◌, ◌≤◌, MatchOption, IsTrue, slice_range};
+ghost use Rattle.std.specs.List.{list_all};
+ghost use Rattle.mls_lexer.specs.Tokens.{IsToken, is_digit, digits_value, largest_number};
+
+use crate::token::{Kind, Token};
+
+/// The largest number of a text.
+pub const LARGEST: u64 = 9_223_372_036_854_775_807;
+
+/// The value of a number of this text.
+pub fn number_of(text: &[u8], token: &Token) -> u64
+    requires is_number { token.now.kind ≡ Kind.Number }
+    requires of_text { IsToken text.now token.now }
+    ensures { result ≡ digits_value (slice_range text.now token.now.start token.now.end) }
+{
+    value_of(&text[token.start..token.end]).unwrap()
+}
+
+/// The value of digits, if it is at most 9223372036854775807.
+pub fn value_of(digits: &[u8]) -> Option<u64>
+    requires { IsTrue (list_all is_digit digits.now) }
+    ensures { MatchOption result (largest_number < digits_value digits.now) (λ value. (value ≡ digits_value digits.now) × (value ≤ largest_number)) }
+{
+    let mut value = 0;
+    for byte in digits {
+        let digit = u64::from(*byte - b'0');
+        if value > (LARGEST - digit) / 10 {
+            return None;
+        }
+        value = 10 * value + digit;
+    }
+    Some(value)
+}
+
+#[cfg(test)]
+mod tests {
+    use super::*;
+    use crate::scan::tokens;
+    use std::test::Fail;
+
+    #[test]
+    fn reads_numbers(rt: HostRuntime) -> Result<(), Fail> {
+        for (text, value) in [
+            (b"0".as_slice(), 0),
+            (b" 0072".as_slice(), 72),
+            (b"9223372036854775807".as_slice(), LARGEST),
+        ] {
+            let found = tokens(rt.alloc(), text)?;
+            assert_eq!(rt; found.len(), 1);
+            let token = found[0];
+            if token.kind == Kind::Number {
+                assert_eq!(rt; number_of(text, &token), value);
+            } else {
+                assert!(rt; false, "no number in {text:?}");
+            }
+        }
+        Ok(())
+    }
+}
