@@ -1,5 +1,9 @@
+pub mod Built
+pub mod Faults
 pub mod Modules
+pub mod Nodes
 pub mod Phrases
+pub mod Reads
 pub mod Resolution
 pub mod Terms
 pub mod Trees

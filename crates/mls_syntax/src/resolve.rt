@@ -11,7 +11,7 @@ use std::alloc::Global;
 use std::marker::Model;
 
 /// The names that an interface declares, in its order.
-#[derive(Drop)]
+#[derive(Debug, Drop)]
 pub struct NameList {
     items: Vec<Name>,
 }

@@ -6,13 +6,13 @@ use mls_book::name::Name;
 use std::marker::Model;
 
 /// The bindings of a module, each with its term.
-#[derive(Drop)]
+#[derive(Debug, Drop)]
 pub struct Resolved {
     pub bindings: ResolvedBindings,
 }
 
 /// A binding with its term, and the place of its name.
-#[derive(Drop)]
+#[derive(Debug, Drop)]
 pub struct ResolvedBinding {
     pub name: Name,
     pub at: usize,
@@ -20,7 +20,7 @@ pub struct ResolvedBinding {
 }
 
 /// Bindings with their terms, in the order of the text.
-#[derive(Drop)]
+#[derive(Debug, Drop)]
 pub struct ResolvedBindings {
     items: Vec<ResolvedBinding>,
 }
@@ -36,7 +36,7 @@ impl Model for ResolvedBindings {
 
 /// An expression without names: its nodes in postorder, as those of the expression that it was made of; how many
 /// binders its functions and recursions have, which are numbered from 0; and how many lets, numbered from 0 too.
-#[derive(Drop)]
+#[derive(Debug, Drop)]
 pub struct Term {
     pub nodes: TermNodes,
     pub binders: usize,
@@ -44,14 +44,14 @@ pub struct Term {
 }
 
 /// A node of a term, with its place in the text in bytes.
-#[derive(Drop)]
+#[derive(Debug, Drop)]
 pub struct TermNode {
     pub at: usize,
     pub form: TermForm,
 }
 
 /// Nodes of a term in postorder.
-#[derive(Drop)]
+#[derive(Debug, Drop)]
 pub struct TermNodes {
     items: Vec<TermNode>,
 }
@@ -68,7 +68,7 @@ impl Model for TermNodes {
 /// What a node of a term is. `Bound` names a binder number, `Inner` a let number, and `Global` a scheme of the
 /// environment. The first number of `Fun` and `Rec` is their binder, that of `Let` its let number; all other
 /// numbers name child nodes.
-#[derive(Drop)]
+#[derive(Debug, Drop)]
 pub enum TermForm {
     Bound(usize),
     Inner(usize),
