@@ -1,8 +1,12 @@
+pub mod ChainNodes
+pub mod ChainTerms
 pub mod Closed
 pub mod Expressions
+pub mod OneModule
 pub mod OneReading
 pub mod PlainPhrases
 pub mod ReadBindings
 pub mod ReadModules
 pub mod Refusals
+pub mod Resolving
 pub mod TokensAt

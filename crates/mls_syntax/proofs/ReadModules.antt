@@ -71,7 +71,9 @@ module _ (place : ℕ → ℕ) where
   sound_bodies k [] h = All-nil (λ (b : BindingTree). IsPlain [] b.body)
   sound_bodies k (b ∷ bs) h =
       let first : IsSound b = All-head (λ (c : BuiltBinding). IsSound c) b bs h in
-      All-cons (λ (b : BindingTree). IsPlain [] b.body) _ _ (closed_plain place [] (k + 1 + 2) b.body first.closed)
+      let after : ℕ = k + 1 + 2 + width (phrase_of b.body) in
+      All-cons (λ (b : BindingTree). IsPlain [] b.body) (record { x = b.x; at = place (k + 1); body = meaning place (k + 1 + 2) (phrase_of b.body) }) (trees_of after bs)
+      (closed_plain place [] (k + 1 + 2) b.body first.closed)
       (sound_bodies (k + 1 + 2 + width (phrase_of b.body)) bs (All-tail (λ (c : BuiltBinding). IsSound c) b bs h))
 
   bodies_sound : (k : ℕ) (bs : List BuiltBinding) → nesting (phrase_of_all bs) ≤ 200 → ((b : BindingTree) → Contains (trees_of k bs) b → IsPlain [] b.body) → All IsSound bs

@@ -1,5 +1,7 @@
 pub mod Built
+pub mod Chains
 pub mod Faults
+pub mod Laws
 pub mod Modules
 pub mod Nodes
 pub mod Phrases

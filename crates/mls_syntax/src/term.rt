@@ -1,8 +1,10 @@
 //! Modules whose names are replaced by what they mean.
-ghost use Rattle.std.specs.Prelude.{◌≡◌, ◌<◌, length};
+ghost use Rattle.std.specs.Prelude.{◌≡◌, ◌↔◌, ◌++◌, ◌∷◌, [], length, OnOk, OnErr, IsTrue};
 
 use crate::module::Parts;
+use mls_base::memory::Memory;
 use mls_book::name::Name;
+use std::alloc::Global;
 use std::marker::Model;
 
 /// The bindings of a module, each with its term.
@@ -85,11 +87,40 @@ pub enum TermForm {
 }
 
 impl ResolvedBindings {
+    /// No binding. It allocates nothing.
+    pub fn new(alloc: Global) -> ResolvedBindings
+        ensures { result ≡ [] }
+    {
+        ResolvedBindings {
+            items: Vec::new(alloc),
+        }
+    }
+
+    /// Adds a binding at the end.
+    ///
+    /// # Errors
+    ///
+    /// `Memory` where memory is wanting; the list is then as before.
+    pub fn push(&mut self, item: ResolvedBinding) -> Result<(), Memory>
+        ensures ok { OnOk result (self.new ≡ self.old ++ item ∷ []) }
+        ensures err { OnErr result (self.new ≡ self.old) }
+    {
+        self.items.push(item)?;
+        Ok(())
+    }
+
     /// How many there are.
     pub fn len(&self) -> usize
         ensures { result ≡ length self.now }
     {
         self.items.len()
+    }
+
+    /// Whether there is none.
+    pub fn is_empty(&self) -> bool
+        ensures { IsTrue result ↔ (self.now ≡ []) }
+    {
+        self.items.is_empty()
     }
 
     /// The bindings in order.
@@ -101,6 +132,42 @@ impl ResolvedBindings {
 }
 
 impl TermNodes {
+    /// No node. It allocates nothing.
+    pub fn new(alloc: Global) -> TermNodes
+        ensures { result ≡ [] }
+    {
+        TermNodes {
+            items: Vec::new(alloc),
+        }
+    }
+
+    /// Adds a node at the end.
+    ///
+    /// # Errors
+    ///
+    /// `Memory` where memory is wanting; the list is then as before.
+    pub fn push(&mut self, item: TermNode) -> Result<(), Memory>
+        ensures ok { OnOk result (self.new ≡ self.old ++ item ∷ []) }
+        ensures err { OnErr result (self.new ≡ self.old) }
+    {
+        self.items.push(item)?;
+        Ok(())
+    }
+
+    /// How many there are.
+    pub fn len(&self) -> usize
+        ensures { result ≡ length self.now }
+    {
+        self.items.len()
+    }
+
+    /// Whether there is none.
+    pub fn is_empty(&self) -> bool
+        ensures { IsTrue result ↔ (self.now ≡ []) }
+    {
+        self.items.is_empty()
+    }
+
     /// The nodes in order.
     pub fn as_slice(&self) -> &[TermNode]
         ensures { result.now ≡ self.now }
