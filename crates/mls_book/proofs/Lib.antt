@@ -16,3 +16,4 @@ pub mod Pulls
 pub mod Subsumption
 pub mod MovedSchemes
 pub mod Worked
+pub mod Families
