@@ -17,3 +17,4 @@ pub mod Subsumption
 pub mod MovedSchemes
 pub mod Worked
 pub mod NameText
+pub mod Families

@@ -1,6 +1,7 @@
 -- Which scheme subsumes which. No lemma here names a node of a substitution: its variables are read as predicates that
 -- nodes of a closed book have.
 --     subsumes_where, subsumes_where_known     such a reading shows that one scheme subsumes another
+--     subsumed_where         and each substitution gives one
 --     Subsumes-below         schemes whose types are in order
 --     Subsumes-renamed       other variables
 --     Subsumes-refl, Subsumes-trans
@@ -40,6 +41,25 @@ subsumes_where s u c closed v held below =
       },
       record { root = it.root; env = it.env },
     )
+
+-- and each substitution is such a reading
+pub record IsReadIn (s u : Scheme) : Type 0 where
+  pub book : List Node
+  pub closed : IsClosedBook book
+  pub reading : ℕ → Predicate
+  pub held : (x : ℕ) → IsIn book (reading x)
+  pub below : IsBelowAt (passes_by reading s.book) s u
+
+pub subsumed_where : (s u : Scheme) → Subsumes s u → IsReadIn s u
+subsumed_where s u it =
+    let r : Substitution = it.0 in
+    record {
+      book = r.book;
+      closed = r.closed;
+      reading = λ x. passes r.book (r.node_of x);
+      held = λ x. (r.node_of x, r.in_range x, refl);
+      below = record { root = it.1.root; env = it.1.env };
+    }
 
 -- it is enough so to read the variables of the first scheme
 pub subsumes_where_known : (s u : Scheme) (c : List Node) → IsClosedBook c → (v : ℕ → Predicate) → ((x : ℕ) → has x (variables_of s.book) ≡ true → IsIn c (v x)) → IsBelowAt (passes_by v s.book) s u → Subsumes s u

@@ -92,23 +92,24 @@ abbrev pub meet_all : {B : Type 0} → List (Term B) → Term B
 meet_all [] = top
 meet_all (t ∷ rest) = meet t (meet_all rest)
 
-module _ {B : Type 0} (v : ℕ → Predicate) (given : B → Predicate) (f : ℕ → Predicate) where
-  pub term_value-join_all : (terms : List (Term B)) → term_value v given f (join_all terms) ≡ predicate.joins (map (term_value v given f) terms)
+-- of a family of terms
+module _ {B X : Type 0} (v : ℕ → Predicate) (given : B → Predicate) (f : ℕ → Predicate) (term : X → Term B) where
+  pub term_value-join_all : (xs : List X) → term_value v given f (join_all (map term xs)) ≡ predicate.joins (map (λ x. term_value v given f (term x)) xs)
   term_value-join_all [] = refl
-  term_value-join_all (t ∷ rest) = ap (predicate.join (term_value v given f t)) (term_value-join_all rest)
+  term_value-join_all (x ∷ rest) = ap (predicate.join (term_value v given f (term x))) (term_value-join_all rest)
 
-  pub term_value-meet_all : (terms : List (Term B)) → term_value v given f (meet_all terms) ≡ predicate.meets (map (term_value v given f) terms)
+  pub term_value-meet_all : (xs : List X) → term_value v given f (meet_all (map term xs)) ≡ predicate.meets (map (λ x. term_value v given f (term x)) xs)
   term_value-meet_all [] = refl
-  term_value-meet_all (t ∷ rest) = ap (predicate.meet (term_value v given f t)) (term_value-meet_all rest)
+  term_value-meet_all (x ∷ rest) = ap (predicate.meet (term_value v given f (term x))) (term_value-meet_all rest)
 
-module _ {B : Type 0} (There : B → Type 0) (n k : ℕ) where
-  pub IsTerm-join_all : (terms : List (Term B)) → All (IsTerm There n k) terms → IsTerm There n k (join_all terms)
+module _ {B X : Type 0} (There : B → Type 0) (n k : ℕ) (term : X → Term B) where
+  pub IsTerm-join_all : (xs : List X) → All (λ x. IsTerm There n k (term x)) xs → IsTerm There n k (join_all (map term xs))
   IsTerm-join_all [] each = tt
-  IsTerm-join_all (t ∷ rest) each = (All-head (IsTerm There n k) t rest each, IsTerm-join_all rest (All-tail (IsTerm There n k) t rest each))
+  IsTerm-join_all (x ∷ rest) each = (All-head (λ x. IsTerm There n k (term x)) x rest each, IsTerm-join_all rest (All-tail (λ x. IsTerm There n k (term x)) x rest each))
 
-  pub IsTerm-meet_all : (terms : List (Term B)) → All (IsTerm There n k) terms → IsTerm There n k (meet_all terms)
+  pub IsTerm-meet_all : (xs : List X) → All (λ x. IsTerm There n k (term x)) xs → IsTerm There n k (meet_all (map term xs))
   IsTerm-meet_all [] each = tt
-  IsTerm-meet_all (t ∷ rest) each = (All-head (IsTerm There n k) t rest each, IsTerm-meet_all rest (All-tail (IsTerm There n k) t rest each))
+  IsTerm-meet_all (x ∷ rest) each = (All-head (λ x. IsTerm There n k (term x)) x rest each, IsTerm-meet_all rest (All-tail (λ x. IsTerm There n k (term x)) x rest each))
 
 -- the same term over other names for what is there
 abbrev pub term_map : {B C : Type 0} → (B → C) → Term B → Term C
