@@ -314,6 +314,12 @@ pub record Given (b : List Node) : Type 0 where
   pub predicate : Predicate
   pub held : IsIn b predicate
 
+pub given_node : (b : List Node) (i : ℕ) → i < length b → Given b
+given_node b i low = record { predicate = passes b i; held = (i, low, refl) }
+
+pub Given-longer : (b c : List Node) → IsClosedBook b → Extends b c → Given b → Given c
+Given-longer b c closed more given = record { predicate = given.predicate; held = IsIn-longer b c given.predicate closed more given.held }
+
 -- any name for what is given will do
 abbrev pub Any : {b : List Node} → Given b → Type 0
 Any given = Unit {0}

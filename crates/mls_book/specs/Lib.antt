@@ -3,6 +3,7 @@ pub mod Laws
 pub mod Order
 pub mod Passes
 pub mod Predicates
+pub mod Sameness
 pub mod Schemes
 pub mod TestCode
 pub mod TestFalls

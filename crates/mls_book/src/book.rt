@@ -16,7 +16,7 @@ use std::marker::Model;
 pub struct NodeId(pub usize);
 
 /// A field of a record.
-#[derive(Clone, Debug, Drop)]
+#[derive(Clone, Debug, PartialEq, Eq, Drop)]
 pub struct Field {
     pub label: Name,
     pub node: NodeId,
@@ -38,7 +38,7 @@ impl Model for Fields {
 }
 
 /// A node of a book: what a type is made of.
-#[derive(Clone, Debug, Drop)]
+#[derive(Clone, Debug, PartialEq, Eq, Drop)]
 pub enum Node {
     /// The least type.
     Bot,
@@ -75,6 +75,26 @@ impl Model for Book {
     ghost view = { λ a. a.nodes.items };
 
     ghost invariant = { λ a. IsBook a.nodes.items };
+}
+
+/// Fields are equal where their labels and their nodes are.
+impl PartialEq for Fields {
+    ghost use Rattle.std.specs.Cmp.{partial_equiv_from_equiv};
+    ghost use Rattle.mls_book.specs.Sameness.{same_fields, same_fields_equiv};
+
+    ghost eq = { same_fields };
+
+    ghost laws = { partial_equiv_from_equiv same_fields_equiv };
+
+    fn eq(&self, other: &Fields) -> bool {
+        self.items == other.items
+    }
+}
+
+impl Eq for Fields {
+    ghost use Rattle.mls_book.specs.Sameness.{same_fields_equiv};
+
+    ghost laws = { same_fields_equiv };
 }
 
 impl Fields {

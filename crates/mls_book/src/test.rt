@@ -189,6 +189,7 @@ mod tests {
         let variable = book.push(Node::Var(3))?;
         let join = book.push(Node::Join(bot, variable))?;
         assert!(rt; book.is_closed() && book.len() == 5);
+        assert!(rt; *book.node(function) == Node::Arrow(top, bot));
 
         let always = asking(alloc, FunctionPart::Always);
         assert!(rt; passes(&book, function, &always));
