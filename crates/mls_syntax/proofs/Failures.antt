@@ -9,8 +9,9 @@ use Rattle.mls_book.proofs.Subsumption.{Subsumes-refl}
 use Rattle.mls_syntax.specs.Terms.{TermTree, TermFields, bound, inner, global, number, truth, fun, apply, make, project, choice, local, fix, no_field, a_field, before}
 use Rattle.mls_syntax.specs.Derivations.{Known, with_let, over, Derives, AllDerive, none, more, IsBest, HasNone}
 use Rattle.mls_syntax.specs.WellFormed.{early_parts, field_parts}
+use Rattle.mls_syntax.specs.TypingLaws.{AreSchemes}
 use Rattle.mls_syntax.proofs.Rules.{ByRule, ByFun, ByApply, ByMake, ByProject, ByChoice, ByLet, ByFix, Generated, generation}
-use Rattle.mls_syntax.proofs.Metatheory.{AreSchemes, AreSchemes-let, derived_scheme, IsMoreGeneral-refl, IsMoreGeneral-let, more_general_derives}
+use Rattle.mls_syntax.proofs.Metatheory.{AreSchemes-let, derived_scheme, IsMoreGeneral-refl, IsMoreGeneral-let, more_general_derives}
 
 -- a part has a scheme
 abbrev HasOne : Known → ℕ × TermTree → Type 0

@@ -9,6 +9,7 @@ use Rattle.mls_book.specs.Schemes.{Scheme, IsScheme, Subsumes, AreEquivalent}
 use Rattle.mls_book.proofs.Subsumption.{Subsumes-refl, Subsumes-trans, Equivalent-moved}
 use Rattle.mls_syntax.specs.Terms.{TermTree, TermFields, local}
 use Rattle.mls_syntax.specs.Derivations.{Known, with_let, over, Derives, var_inner, var_global, var_fun, lit_truth, lit_number, abs, app, rcd, proj, cond as if_else, let_in, rec_fix, sub, AllDerive, none, more, IsBest, HasNone}
+use Rattle.mls_syntax.specs.TypingLaws.{AreSchemes, IsMoreGeneral}
 use Rattle.mls_syntax.proofs.Rules.{Generated, generation}
 
 -- every instance of a derivable scheme is derivable
@@ -25,11 +26,6 @@ best_stays known t s u b same scheme = record {
   derives = sub s b.derives same.0 scheme;
   least = λ other h. Subsumes-trans u s other same.1 (b.least other h);
 }
-
--- the schemes that are known are schemes
-pub record AreSchemes (known : Known) : Type 0 where
-  pub globals : (g : ℕ) (s : Scheme) → slice_get known.globals g ≡ Some s → IsScheme s
-  pub lets : (k : ℕ) (s : Scheme) → env.get known.lets k ≡ Some s → IsScheme s
 
 -- what a map has after an insertion: the inserted value, or what it had
 pub inserted : (P : Option Scheme → Type 0) (m : FinMap nat_cmp Scheme) (k : ℕ) (v : Scheme) (q : ℕ) → P (Some v) → P (env.get m q) → P (env.get (env.insert m k v) q)
@@ -61,11 +57,7 @@ derived_scheme known t s all (let_in at k first second d1 d2 t1 e scheme meet h1
 derived_scheme known t s all (rec_fix at x body d e scheme env_is root_is h) = scheme
 derived_scheme known t s all (sub first h subsumes scheme) = scheme
 
--- each scheme that the second knows is subsumed by one that the first knows under the same number
-pub record IsMoreGeneral (first second : Known) : Type 0 where
-  pub globals : (g : ℕ) (s : Scheme) → slice_get second.globals g ≡ Some s → (u : Scheme) × (slice_get first.globals g ≡ Some u) × Subsumes u s
-  pub lets : (k : ℕ) (s : Scheme) → env.get second.lets k ≡ Some s → (u : Scheme) × (env.get first.lets k ≡ Some u) × Subsumes u s
-
+-- an environment is as general as itself
 pub IsMoreGeneral-refl : (known : Known) → IsMoreGeneral known known
 IsMoreGeneral-refl known = record {
   globals = λ g s h. (s, h, Subsumes-refl s);

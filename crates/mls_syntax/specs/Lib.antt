@@ -10,4 +10,5 @@ pub mod Reads
 pub mod Resolution
 pub mod Terms
 pub mod Trees
+pub mod TypingLaws
 pub mod WellFormed

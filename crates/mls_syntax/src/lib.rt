@@ -6,3 +6,4 @@ pub mod module;
 pub mod parse;
 pub mod resolve;
 pub mod term;
+pub mod typing_laws;
