@@ -168,6 +168,12 @@ module _ (v : ℕ → Predicate) (names : List ℕ) where
       passes_by-pulled var b i
       ∙ (λ k. passes_by-agree (λ x. pulled (var x)) v b (λ x h. pulled-var x (known x h)) k i)
 
+-- an order of two nodes under two readings stays where both readings are pulled
+pub Implies_by-pulled : (v : ℕ → Predicate) (names : List ℕ) (w u : ℕ → Predicate) (b c : List Node) (i j : ℕ) → Implies (passes_by w b i) (passes_by u c j) → Implies (passes_by (λ x. pulled v names (w x)) b i) (passes_by (λ x. pulled v names (u x)) c j)
+Implies_by-pulled v names w u b c i j below t e =
+    (λ k. sym (passes_by-pulled v names u c j) k t)
+    ∙ below (pull v names t) ((λ k. passes_by-pulled v names w b i k t) ∙ e)
+
 -- an order of two nodes stays under every reading of variables
 pub Implies-stays : (v : ℕ → Predicate) (b c : List Node) (i j : ℕ) → IsBelow b i c j → Implies (passes_by v b i) (passes_by v c j)
 Implies-stays v b c i j below t e =
