@@ -2,4 +2,6 @@ pub mod Phrases
 pub mod Trees
 pub mod Faults
 pub mod Books
+pub mod Values
 pub mod Texts
+pub mod Laws
