@@ -5,4 +5,5 @@ pub mod FitBooks
 pub mod TypeValues
 pub mod OneValue
 pub mod FitTrees
+pub mod OnePhrase
 pub mod ReadLaws

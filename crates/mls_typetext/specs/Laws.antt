@@ -29,3 +29,7 @@ abbrev pub ReadHasValue : Type 0
 ReadHasValue =
     (text : List ℕ) (tree : TypeTree) → IsTypeOf text tree → (variable : ℕ → Predicate)
     → HasOneValue variable (type_of tree) (passes_by variable (read_of tree).book (read_of tree).root.0)
+
+-- a text is read in one way at most
+abbrev pub OneReading : Type 0
+OneReading = (text : List ℕ) (read other : ReadScheme) → IsTypeText text read → IsTypeText text other → read ≡ other
