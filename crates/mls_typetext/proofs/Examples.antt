@@ -1,6 +1,5 @@
 -- The books of some types, computed.
-use Rattle.std.proofs.Common.{◌≡◌, ℕ, true, List, [], ◌∷◌, refl, codes}
-use Rattle.mls_book.specs.declared.book.Node.{Node}
+use Rattle.std.proofs.Common.{◌≡◌, true, [], ◌∷◌, refl, codes}
 use Rattle.mls_book.specs.declared.book.Node.TheVariants as node
 use Rattle.mls_typetext.specs.Trees.{TypeTree, a_name, a_bool, an_int, an_arrow, a_record, a_join, a_rec, no_field, a_field}
 use Rattle.mls_typetext.specs.Faults.{faults}

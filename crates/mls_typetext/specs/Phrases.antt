@@ -1,5 +1,5 @@
 -- The grammar of types: a family of phrases, with one constructor for each alternative.
-use Rattle.std.specs.Prelude.{ℕ, ◌+◌, List, [], ◌∷◌}
+use Rattle.std.specs.Prelude.{ℕ, ◌+◌, List, ◌∷◌}
 use Rattle.mls_lexer.specs.declared.token.Kind.TheVariants as kind
 use Rattle.mls_lexer.specs.Tokens.{Terminal, name, word}
 

@@ -1,6 +1,5 @@
 -- Which texts are types, and what they are read as.
 use Rattle.std.specs.Prelude.{◌≡◌, ℕ, true, List, [], length, slice_get, option_map, unwrap_or}
-use Rattle.std.specs.FinMap as env
 use Rattle.mls_lexer.specs.declared.token.Token.{Token}
 use Rattle.mls_lexer.specs.Tokens.{IsTokens, terminals}
 use Rattle.mls_typetext.specs.declared.scheme.ReadScheme.{ReadScheme}

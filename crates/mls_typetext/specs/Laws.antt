@@ -1,0 +1,35 @@
+-- Laws of the texts of types.
+use Rattle.std.specs.Prelude.{◌≡◌, ℕ, ◌<◌, List, [], length}
+use Rattle.mls_book.specs.declared.book.Node.TheVariants.{Var}
+use Rattle.mls_book.specs.Books.{IsClosedBook, node_at}
+use Rattle.mls_book.specs.Predicates.{Predicate}
+use Rattle.mls_book.specs.Passes.{passes_by}
+use Rattle.mls_typetext.specs.declared.scheme.ReadScheme.{ReadScheme}
+use Rattle.mls_typetext.specs.Trees.{TypeTree}
+use Rattle.mls_typetext.specs.Books.{Ty, type_of}
+use Rattle.mls_typetext.specs.Values.{HasValue}
+use Rattle.mls_typetext.specs.Texts.{read_of, IsTypeOf, IsTypeText}
+
+-- the book is closed, its root is there, and its variables are below their number
+pub record IsReadScheme (read : ReadScheme) : Type 0 where
+  pub book : IsClosedBook read.book
+  pub root : read.root.0 < length read.book
+  pub variables : (i x : ℕ) → i < length read.book → node_at read.book i ≡ Var x → x < read.vars
+
+-- what a text is read as is such
+abbrev pub ReadIsClosed : Type 0
+ReadIsClosed = (text : List ℕ) (read : ReadScheme) → IsTypeText text read → IsReadScheme read
+
+-- whatever the variables pass, the root passes what the type passes, which is one predicate
+pub record HasOneValue (variable : ℕ → Predicate) (type : Ty) (f : Predicate) : Type 0 where
+  pub value : HasValue variable [] type f
+  pub one : (other : Predicate) → HasValue variable [] type other → other ≡ f
+
+abbrev pub ReadHasValue : Type 0
+ReadHasValue =
+    (text : List ℕ) (tree : TypeTree) → IsTypeOf text tree → (variable : ℕ → Predicate)
+    → HasOneValue variable (type_of tree) (passes_by variable (read_of tree).book (read_of tree).root.0)
+
+-- a text is read in one way at most
+abbrev pub OneReading : Type 0
+OneReading = (text : List ℕ) (read other : ReadScheme) → IsTypeText text read → IsTypeText text other → read ≡ other
