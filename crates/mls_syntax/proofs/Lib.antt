@@ -1,2 +1,14 @@
-pub mod Rules
+pub mod ChainNodes
+pub mod ChainTerms
+pub mod Closed
+pub mod Expressions
 pub mod Metatheory
+pub mod OneModule
+pub mod OneReading
+pub mod PlainPhrases
+pub mod ReadBindings
+pub mod ReadModules
+pub mod Refusals
+pub mod Resolving
+pub mod Rules
+pub mod TokensAt

@@ -1,6 +1,12 @@
+pub mod Built
+pub mod Chains
 pub mod Derivations
+pub mod Faults
+pub mod Laws
 pub mod Modules
+pub mod Nodes
 pub mod Phrases
+pub mod Reads
 pub mod Resolution
 pub mod Terms
 pub mod Trees

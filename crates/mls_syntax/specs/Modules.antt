@@ -1,5 +1,5 @@
 -- Which texts are modules, and with which trees.
-use Rattle.std.specs.Prelude.{◌≡◌, ℕ, ◌≤◌, Bool, List, [], ◌∷◌, map, slice_get, Option, Some, None, option_map, unwrap_or, Contains, AllPairs, ◌≢◌}
+use Rattle.std.specs.Prelude.{◌≡◌, ℕ, ◌≤◌, List, [], ◌∷◌, map, slice_get, option_map, unwrap_or, Contains, AllPairs, ◌≢◌}
 use Rattle.mls_lexer.specs.declared.token.Token.{Token}
 use Rattle.mls_lexer.specs.Tokens.{IsTokens, terminals}
 use Rattle.mls_syntax.specs.declared.module.Module.{Module}
@@ -7,7 +7,7 @@ use Rattle.mls_syntax.specs.declared.module.Import.{Import}
 use Rattle.mls_syntax.specs.declared.module.Binding.{Binding}
 use Rattle.mls_syntax.specs.declared.parse.Fault.{Fault}
 use Rattle.mls_syntax.specs.declared.parse.Fault.TheVariants.{NotBuilt}
-use Rattle.mls_syntax.specs.Phrases.{Sort, source, Phrase, whole, no_import, importing, no_binding, binding, simple, recursive, fun, fix, local, choice, plain, simple_in, recursive_in, no_compare, less, equal, summed, no_sum, plus, minus, multiplied, no_product, times, applied, no_argument, argument, posted, no_dot, dot, variable, literal, truth, parens, braces, no_part, first_part, last_part, next_part, yields, nesting}
+use Rattle.mls_syntax.specs.Phrases.{source, Phrase, yields, nesting}
 use Rattle.mls_syntax.specs.Trees.{Tree, a_name, an_operator, a_number, a_truth, a_fun, a_fix, a_let, an_if, an_apply, a_make, a_project, Fields, no_field, a_field, ImportTree, BindingTree, SourceTree, meaning, postorder}
 
 -- the place of token k

@@ -1,6 +1,5 @@
 -- The grammar of modules: a family of phrases, with one constructor for each alternative.
-use Rattle.std.specs.Prelude.{ℕ, zero, suc, ◌+◌, ◌≤◌, Bool, true, false, List, [], ◌∷◌, max}
-use Rattle.mls_lexer.specs.declared.token.Kind.{Kind}
+use Rattle.std.specs.Prelude.{ℕ, suc, ◌+◌, Bool, true, false, List, ◌∷◌, max}
 use Rattle.mls_lexer.specs.declared.token.Kind.TheVariants as kind
 use Rattle.mls_lexer.specs.Tokens.{Terminal, name, number, word}
 

@@ -1,8 +1,7 @@
 -- Expressions without names, as trees and as lists of nodes.
-use Rattle.std.specs.Prelude.{◌≡◌, ℕ, suc, ◌+◌, ◌<◌, Bool, List, [], ◌∷◌, ◌++◌}
+use Rattle.std.specs.Prelude.{ℕ, suc, ◌+◌, Bool, List, [], ◌∷◌, ◌++◌}
 use Rattle.mls_syntax.specs.declared.module.Part.{Part}
 use Rattle.mls_syntax.specs.declared.term.TermNode.{TermNode}
-use Rattle.mls_syntax.specs.declared.term.TermForm.{TermForm}
 use Rattle.mls_syntax.specs.declared.term.TermForm.TheVariants as form
 
 -- an expression whose binders and lets have numbers, and whose names are replaced by what they mean, each part with its place

@@ -4,7 +4,6 @@ use Rattle.mls_syntax.specs.declared.module.Op.{Op}
 use Rattle.mls_syntax.specs.declared.module.Op.TheVariants as op
 use Rattle.mls_syntax.specs.declared.module.Part.{Part}
 use Rattle.mls_syntax.specs.declared.module.ExprNode.{ExprNode}
-use Rattle.mls_syntax.specs.declared.module.Form.{Form}
 use Rattle.mls_syntax.specs.declared.module.Form.TheVariants as form
 use Rattle.mls_syntax.specs.Phrases.{Sort, source, imports, bindings, bind_rest, expr, let_rest, compare_tail, sum, sum_tail, product, product_tail, apply, arguments, post, dots, atom, parts, more_parts, Phrase, whole, no_import, importing, no_binding, binding, simple, recursive, fun, fix, local, choice, plain, simple_in, recursive_in, no_compare, less, equal, summed, no_sum, plus, minus, multiplied, no_product, times, applied, no_argument, argument, posted, no_dot, dot, variable, literal, truth, parens, braces, no_part, first_part, last_part, next_part, width}
 

@@ -1,18 +1,20 @@
 //! Modules whose names are replaced by what they mean.
-ghost use Rattle.std.specs.Prelude.{◌≡◌, ◌<◌, length};
+ghost use Rattle.std.specs.Prelude.{◌≡◌, ◌↔◌, ◌++◌, ◌∷◌, [], length, OnOk, OnErr, IsTrue};
 
 use crate::module::Parts;
+use mls_base::memory::Memory;
 use mls_book::name::Name;
+use std::alloc::Global;
 use std::marker::Model;
 
 /// The bindings of a module, each with its term.
-#[derive(Drop)]
+#[derive(Debug, Drop)]
 pub struct Resolved {
     pub bindings: ResolvedBindings,
 }
 
 /// A binding with its term, and the place of its name.
-#[derive(Drop)]
+#[derive(Debug, Drop)]
 pub struct ResolvedBinding {
     pub name: Name,
     pub at: usize,
@@ -20,7 +22,7 @@ pub struct ResolvedBinding {
 }
 
 /// Bindings with their terms, in the order of the text.
-#[derive(Drop)]
+#[derive(Debug, Drop)]
 pub struct ResolvedBindings {
     items: Vec<ResolvedBinding>,
 }
@@ -36,7 +38,7 @@ impl Model for ResolvedBindings {
 
 /// An expression without names: its nodes in postorder, as those of the expression that it was made of; how many
 /// binders its functions and recursions have, which are numbered from 0; and how many lets, numbered from 0 too.
-#[derive(Drop)]
+#[derive(Debug, Drop)]
 pub struct Term {
     pub nodes: TermNodes,
     pub binders: usize,
@@ -44,14 +46,14 @@ pub struct Term {
 }
 
 /// A node of a term, with its place in the text in bytes.
-#[derive(Drop)]
+#[derive(Debug, Drop)]
 pub struct TermNode {
     pub at: usize,
     pub form: TermForm,
 }
 
 /// Nodes of a term in postorder.
-#[derive(Drop)]
+#[derive(Debug, Drop)]
 pub struct TermNodes {
     items: Vec<TermNode>,
 }
@@ -68,7 +70,7 @@ impl Model for TermNodes {
 /// What a node of a term is. `Bound` names a binder number, `Inner` a let number, and `Global` a scheme of the
 /// environment. The first number of `Fun` and `Rec` is their binder, that of `Let` its let number; all other
 /// numbers name child nodes.
-#[derive(Drop)]
+#[derive(Debug, Drop)]
 pub enum TermForm {
     Bound(usize),
     Inner(usize),
@@ -85,11 +87,40 @@ pub enum TermForm {
 }
 
 impl ResolvedBindings {
+    /// No binding. It allocates nothing.
+    pub fn new(alloc: Global) -> ResolvedBindings
+        ensures { result ≡ [] }
+    {
+        ResolvedBindings {
+            items: Vec::new(alloc),
+        }
+    }
+
+    /// Adds a binding at the end.
+    ///
+    /// # Errors
+    ///
+    /// `Memory` where memory is wanting; the list is then as before.
+    pub fn push(&mut self, item: ResolvedBinding) -> Result<(), Memory>
+        ensures ok { OnOk result (self.new ≡ self.old ++ item ∷ []) }
+        ensures err { OnErr result (self.new ≡ self.old) }
+    {
+        self.items.push(item)?;
+        Ok(())
+    }
+
     /// How many there are.
     pub fn len(&self) -> usize
         ensures { result ≡ length self.now }
     {
         self.items.len()
+    }
+
+    /// Whether there is none.
+    pub fn is_empty(&self) -> bool
+        ensures { IsTrue result ↔ (self.now ≡ []) }
+    {
+        self.items.is_empty()
     }
 
     /// The bindings in order.
@@ -101,6 +132,42 @@ impl ResolvedBindings {
 }
 
 impl TermNodes {
+    /// No node. It allocates nothing.
+    pub fn new(alloc: Global) -> TermNodes
+        ensures { result ≡ [] }
+    {
+        TermNodes {
+            items: Vec::new(alloc),
+        }
+    }
+
+    /// Adds a node at the end.
+    ///
+    /// # Errors
+    ///
+    /// `Memory` where memory is wanting; the list is then as before.
+    pub fn push(&mut self, item: TermNode) -> Result<(), Memory>
+        ensures ok { OnOk result (self.new ≡ self.old ++ item ∷ []) }
+        ensures err { OnErr result (self.new ≡ self.old) }
+    {
+        self.items.push(item)?;
+        Ok(())
+    }
+
+    /// How many there are.
+    pub fn len(&self) -> usize
+        ensures { result ≡ length self.now }
+    {
+        self.items.len()
+    }
+
+    /// Whether there is none.
+    pub fn is_empty(&self) -> bool
+        ensures { IsTrue result ↔ (self.now ≡ []) }
+    {
+        self.items.is_empty()
+    }
+
     /// The nodes in order.
     pub fn as_slice(&self) -> &[TermNode]
         ensures { result.now ≡ self.now }
