@@ -21,7 +21,12 @@ pub enum Stop {
 }
 
 /// The bytes of a file that has at most `limit`.
-pub fn text_of<S: Store>(alloc: Global, store: &mut S, file: &str, limit: usize) -> Result<Vec<u8>, Stop>
+pub fn text_of<S: Store>(
+    alloc: Global,
+    store: &mut S,
+    file: &str,
+    limit: usize,
+) -> Result<Vec<u8>, Stop>
     ensures follows { Follows (S.holdings store.old) (S.holdings store.new) }
     ensures found { IfSome (S.holdings store.old).files (λ files. IfOk result (λ text. text_at files file.now limit ≡ Ok text.items)) }
     ensures stopped { IfSome (S.holdings store.old).files (λ files. IfErr result (λ stop. IsTold stop files file.now limit)) }
