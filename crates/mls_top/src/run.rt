@@ -49,9 +49,10 @@ pub fn run<S: Store, K: Sink>(
     ensures too_long_counted { result ≡ Status.TooLong → Rose (S.holdings store.old).longs (S.holdings store.new).longs }
     ensures write_fault_counted { result ≡ Status.WriteFault → Rose (K.written sink.old).faults (K.written sink.new).faults }
 
-    // The words alone decide whether they are a command; if they are none, the store is left alone.
+    // The words alone decide whether they are a command; if they are none, the usage is written and the store is left
+    // alone.
     ensures usage { result ≡ Status.Usage → (command_of (map string_bytes words.now.items) ≡ None) × Adds (K.written sink.old) (K.written sink.new) usage_line }
-    ensures no_command { command_of (map string_bytes words.now.items) ≡ None → IsWithoutCommand result × (S.holdings store.new ≡ S.holdings store.old) }
+    ensures no_command { command_of (map string_bytes words.now.items) ≡ None → IsWithoutCommand (K.written sink.old) (K.written sink.new) result × (S.holdings store.new ≡ S.holdings store.old) }
 
     // A module that is there and has no fault has a signature, unless the store, the sink or memory fails.
     ensures complete { IfSome (S.holdings store.old).files (λ files. CanBeInferred files (map string_bytes words.now.items) → ¬ Rose (S.holdings store.old).faults (S.holdings store.new).faults → ¬ Rose (K.written sink.old).faults (K.written sink.new).faults → (result ≡ Status.Done) ⊎ (result ≡ Status.Memory)) }
