@@ -49,7 +49,7 @@ some_kept t s u (r, h) b =
     let holds : HoldsUnder r b.book moved.0 place = moved.2.1 in
     let n = b.held.0 in
     let value_is : pulled v names b.value ≡ passes_by v b.book n =
-            ap (pulled v names) (sym b.held.2) ∙ passes-pulled v names b.book (λ x. has_right x (variables_of s.book) (variables_of b.book)) n in
+    ap (pulled v names) (sym b.held.2) ∙ passes-pulled v names b.book (λ x. has_right x (variables_of s.book) (variables_of b.book)) n in
     record {
       book = moved.0;
       closed = moved.1.closed;
@@ -82,9 +82,9 @@ inside_least known x m (fun at y e) u high chain used derived =
     by_test s rule true is further =
         let same : x ≡ y = eqb-true x y is in
         let body : IsBelowRoot (needs (over s rule.d rule.j.0) x) (chain_type (Some x) e) (over s rule.d rule.j.0) =
-                outside_least known x (suc m) e (over s rule.d rule.j.0) (omega (arith, chain.0, same)) chain.1 used rule.body_has in
+        outside_least known x (suc m) e (over s rule.d rule.j.0) (omega (arith, chain.0, same)) chain.1 used rule.body_has in
         let own : needs (over s rule.d rule.j.0) x ≡ passes s.book rule.i.0 =
-                ap (λ z. binder_passes (passes s.book) (env.get rule.d z)) same ∙ own_binder s rule.scheme rule.d rule.i rule.j y rule.root_is rule.takes in
+        ap (λ z. binder_passes (passes s.book) (env.get rule.d z)) same ∙ own_binder s rule.scheme rule.d rule.i rule.j y rule.root_is rule.takes in
         let At : Predicate → Type 0 = λ f. IsBelowRoot f (chain_type (Some x) e) (over s rule.d rule.j.0) in
         let Of : Bool → Type 0 = λ b. IsBelowRoot (passes s.book rule.i.0) (from b (chain_type (Some x) e)) s in
         record {
@@ -130,11 +130,11 @@ subsumes_below b closed p t h u it =
     let v : ℕ → Predicate = λ x. it.value in
     let Root : Predicate → Type 0 = λ g. Implies g (passes u.book u.root) in
     let below : IsBelowAt (passes_by v b) (scheme_at b env.empty p) u = record {
-          root = subst Root (sym (chain_passes v b closed p t h)) it.below;
-          env = λ x.
-            let Env : Option ℕ → Type 0 = λ o. Implies (binder_passes (passes u.book) (env.get u.env x)) (binder_passes (passes_by v b) o) in
-            subst Env (sym (get-empty nat_cmp x)) (below_top (binder_passes (passes u.book) (env.get u.env x)));
-        } in
+      root = subst Root (sym (chain_passes v b closed p t h)) it.below;
+      env = λ x.
+          let Env : Option ℕ → Type 0 = λ o. Implies (binder_passes (passes u.book) (env.get u.env x)) (binder_passes (passes_by v b) o) in
+          subst Env (sym (get-empty nat_cmp x)) (below_top (binder_passes (passes u.book) (env.get u.env x)));
+    } in
     subsumes_where (scheme_at b env.empty p) u it.book it.closed v (λ x. it.held) below
 
 -- what is derivable for a chain is a scheme

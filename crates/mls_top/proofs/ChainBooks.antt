@@ -100,7 +100,7 @@ block-chain p (from d t) =
     let q : p + 1 ≡ suc p = omega arith in
     let r : p + 1 + (here (domain_ty d) + under (domain_ty d)) ≡ suc (suc p) = omega (arith, size-domain d) in
     λ i. node.Arrow (id ((stands-domain (p + 1) d ∙ q) i)) (id ((stands-chain (p + 1 + (here (domain_ty d) + under (domain_ty d))) [] t ∙ r) i))
-      ∷ ((block-domain (p + 1) d i) ++ ((ap (λ n. block n (chain_ty t)) r ∙ block-chain (suc (suc p)) t) i))
+    ∷ ((block-domain (p + 1) d i) ++ ((ap (λ n. block n (chain_ty t)) r ∙ block-chain (suc (suc p)) t) i))
 
 pub book_of-chain : (t : ChainType) → book_of (chain_ty t) ≡ chain_nodes 0 t
 unfolding book_of
@@ -160,8 +160,8 @@ good_chain n p (from d t) size =
     let P : ℕ → Type 0 = λ q. AllFrom (IsGood n) q rest in
     AllFrom-append (IsGood n) p (first ∷ domain_node d ∷ []) rest
     (AllFrom-append (IsGood n) p (first ∷ []) (domain_node d ∷ [])
-        (AllFrom-one (IsGood n) p first (record { ordered = tt; below = (omega arith, omega arith) }))
-        (AllFrom-one (IsGood n) (p + 1) (domain_node d) (good_domain n (p + 1) d)))
+    (AllFrom-one (IsGood n) p first (record { ordered = tt; below = (omega arith, omega arith) }))
+    (AllFrom-one (IsGood n) (p + 1) (domain_node d) (good_domain n (p + 1) d)))
     (let at : suc (suc p) ≡ p + 2 = omega arith in subst P at (good_chain n (suc (suc p)) t (omega arith)))
 
 pub closed_chain : (t : ChainType) → IsClosedBook (chain_nodes 0 t)

@@ -92,8 +92,8 @@ module _ (known : Known) (b : List Node) (closed : IsClosedBook b) where
       let P : ℕ → Type 0 = λ z. Derives known (bound at z) (scheme_at b (one x n) p) in
       subst P (sym same)
       (sub (scheme_at b (one x p) p) (var_fun at x refl (is_scheme-one b closed x p p h.0 h.0) refl)
-          (Subsumes-below (scheme_at b (one x p) p) (scheme_at b (one x n) p) (record { root = Implies-refl (passes b p); env = env_above x n p is_var h.1 }))
-          (is_scheme-one b closed x n p n_low h.0))
+      (Subsumes-below (scheme_at b (one x p) p) (scheme_at b (one x n) p) (record { root = Implies-refl (passes b p); env = env_above x n p is_var h.1 }))
+      (is_scheme-one b closed x n p n_low h.0))
   outside_derived x n m p (fun at y e) low n_low is_var chain used h =
       let below_y : x < y = subst (λ (z : ℕ). x < z) (sym chain.0) low in
       abs at y e (one x n) (id (suc p)) (id (suc (suc p))) refl (is_scheme-one b closed x n p n_low (omega (arith, h.0))) (sym (remove-other x n y below_y))

@@ -156,7 +156,7 @@ literal_least known f m (fun at x e) u chain none derived =
     let rule : ByFun known x e g.first = g.rule in
     literal_kept f m (fun at x e) g.first u chain none g.subsumes
     (step f false (chain_type None e) g.first rule.scheme rule.i rule.j rule.root_is (below_top (passes g.first.book rule.i.0))
-        (literal_least known f (suc m) e (over g.first rule.d rule.j.0) chain.1 none rule.body_has))
+    (literal_least known f (suc m) e (over g.first rule.d rule.j.0) chain.1 none rule.body_has))
 literal_least known f m (bound at x) u chain none derived = absurd (cc)
 literal_least known f m (inner at k) u chain none derived = absurd chain
 literal_least known f m (global at k) u chain none derived = absurd chain
@@ -178,7 +178,7 @@ outside_grows x m (fun at y e) f g low chain more =
     let Both : Bool → Type 0 = λ d. Implies (arrow (domain_value f d) (chain_value f (chain_type (Some x) e))) (arrow (domain_value g d) (chain_value g (chain_type (Some x) e))) in
     subst Both (sym unused)
     (arrow-implies top (chain_value f (chain_type (Some x) e)) top (chain_value g (chain_type (Some x) e)) (Implies-refl top)
-        (outside_grows x (suc m) e f g (omega arith) chain.1 more))
+    (outside_grows x (suc m) e f g (omega arith) chain.1 more))
 outside_grows x m (number at value) f g low chain more = Implies-refl int
 outside_grows x m (truth at value) f g low chain more = Implies-refl bool
 outside_grows x m (inner at k) f g low chain more = absurd chain
@@ -195,7 +195,7 @@ outside_kept x m t s u low chain (r, h) below =
     let v : ℕ → Predicate = λ x. passes r.book (r.node_of x) in
     let names = variables_of s.book in
     let less : Implies (needs u x) (pulled v names (needs s x)) =
-            (let P : Predicate → Type 0 = λ g. Implies (needs u x) g in subst P (sym (needs-pulled s u r h names (itself s) (env.get s.env x))) (h.env x)) in
+    (let P : Predicate → Type 0 = λ g. Implies (needs u x) g in subst P (sym (needs-pulled s u r h names (itself s) (env.get s.env x))) (h.env x)) in
     Implies-trans (chain_value (needs u x) (chain_type (Some x) t)) (chain_value (pulled v names (needs s x)) (chain_type (Some x) t)) (passes u.book u.root)
     (outside_grows x m t (needs u x) (pulled v names (needs s x)) low chain less)
     (kept s u r h names (itself s) (needs s x) (chain_type (Some x) t) below)
@@ -221,13 +221,13 @@ outside_least known x m (fun at y e) u low chain used derived =
     let rule : ByFun known y e g.first = g.rule in
     let below_y : x < y = omega (arith, chain.0) in
     let inner_needs : needs g.first x ≡ needs (over g.first rule.d rule.j.0) x =
-            ap (binder_passes (passes g.first.book)) (ap (λ d. env.get d x) rule.env_is ∙ removed_other rule.d x y below_y) in
+    ap (binder_passes (passes g.first.book)) (ap (λ d. env.get d x) rule.env_is ∙ removed_other rule.d x y below_y) in
     let body = outside_least known x (suc m) e (over g.first rule.d rule.j.0) (omega arith) chain.1 used rule.body_has in
     let At : Predicate → Type 0 = λ f. Implies (chain_value f (chain_type (Some x) e)) (passes g.first.book rule.j.0) in
     let Of : Bool → Type 0 = λ d. IsBelowRoot (needs g.first x) (from d (chain_type (Some x) e)) g.first in
     outside_kept x m (fun at y e) g.first u low chain g.subsumes
     (subst Of (sym (other_binder x y below_y))
-        (step (needs g.first x) false (chain_type (Some x) e) g.first rule.scheme rule.i rule.j rule.root_is (below_top (passes g.first.book rule.i.0)) (subst At (sym inner_needs) body)))
+    (step (needs g.first x) false (chain_type (Some x) e) g.first rule.scheme rule.i rule.j rule.root_is (below_top (passes g.first.book rule.i.0)) (subst At (sym inner_needs) body)))
 outside_least known x m (number at value) u low chain used derived = absurd (cc)
 outside_least known x m (truth at value) u low chain used derived = absurd (cc)
 outside_least known x m (inner at k) u low chain used derived = absurd chain

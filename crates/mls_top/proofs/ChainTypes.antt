@@ -83,7 +83,7 @@ nodes_are_type nodes t chain same =
       read = read_of tree;
       is_type = let P : List ℕ → Type 0 = λ l. IsTypeText l (read_of tree) in subst P (sym text_is) (chain_is_type it);
       best = λ known.
-        let P : Scheme → Type 0 = λ s. IsBest known t s in
-        subst P (sym (read_scheme tree it (type_of-chain place 0 it)))
-        (chain_best known (chain_nodes 0 it) (closed_chain it) 0 t used chain leaf_is (stands_in (chain_nodes 0 it) [] 0 it refl refl));
+          let P : Scheme → Type 0 = λ s. IsBest known t s in
+          subst P (sym (read_scheme tree it (type_of-chain place 0 it)))
+          (chain_best known (chain_nodes 0 it) (closed_chain it) 0 t used chain leaf_is (stands_in (chain_nodes 0 it) [] 0 it refl refl));
     }

@@ -18,7 +18,7 @@ use Rattle.mls_top.specs.declared.fetching.Stop.TheVariants as stop
 use Rattle.mls_top.specs.declared.status.Status.TheVariants.{Done, BadText}
 use Rattle.mls_top.specs.Lines.{module_file, fault_line, fault_number, fault_text, fault_place}
 use Rattle.mls_top.specs.Outcomes.{Infers, no_text, has_text, InfersFrom, faulty, signed, refused, bad_text, inferred, no_file, too_long, text_at, module_limit, IsInferred}
-use Rattle.mls_top.specs.Fetching.{IsTold}
+use Rattle.mls_top.specs.Fetching.{HoldsOf}
 use Rattle.mls_top.specs.Answering.{IsSignature, IsRefused}
 use Rattle.mls_top.specs.Answers.{IsAnswerOf, infer}
 
@@ -59,19 +59,19 @@ answer_of_text o x file text read r h is_file is_text e i ok err =
     answer_of_same_text o x text r h (subst At is_file e) (subst From is_text i) ok err
 
 -- what is told of a file that could not be fetched is the answer
-refused_at : (files : Files) (x : List ℕ) (s : Stop) (h : Result Answer Halt) → IsTold s files (module_file x) module_limit → IsRefused s (module_file x) module_limit h → IfOk h (λ a. IsAnswerOf files (Infer x) a.status a.text.items)
+refused_at : (files : Files) (x : List ℕ) (s : Stop) (h : Result Answer Halt) → HoldsOf s files (module_file x) module_limit → IsRefused s (module_file x) module_limit h → IfOk h (λ a. IsAnswerOf files (Infer x) a.status a.text.items)
 refused_at files x s (Err m) e r = tt
 refused_at files x stop.NoFile (Ok a) e r = infer x (refused (no_file (module_file x))) (no_text e) r.0 r.1
 refused_at files x stop.TooLong (Ok a) e r = infer x (refused (too_long (module_file x) module_limit)) (no_text e) r.0 r.1
 refused_at files x stop.ReadFault (Ok a) e r = absurd (cc)
 refused_at files x stop.Memory (Ok a) e r = absurd (cc)
 
-answer_of_same_stop : (o : Option Files) (x : List ℕ) (s : Stop) (h : Result Answer Halt) → IfSome o (λ files. IsTold s files (module_file x) module_limit) → IsRefused s (module_file x) module_limit h → IfSome o (λ files. IfOk h (λ a. IsAnswerOf files (Infer x) a.status a.text.items))
+answer_of_same_stop : (o : Option Files) (x : List ℕ) (s : Stop) (h : Result Answer Halt) → IfSome o (λ files. HoldsOf s files (module_file x) module_limit) → IsRefused s (module_file x) module_limit h → IfSome o (λ files. IfOk h (λ a. IsAnswerOf files (Infer x) a.status a.text.items))
 answer_of_same_stop None x s h e r = tt
 answer_of_same_stop (Some files) x s h e r = refused_at files x s h e r
 
-pub answer_of_stop : (o : Option Files) (x first second : List ℕ) (s : Stop) (h : Result Answer Halt) → first ≡ module_file x → second ≡ module_file x → IfSome o (λ files. IsTold s files first module_limit) → IsRefused s second module_limit h → IfSome o (λ files. IfOk h (λ a. IsAnswerOf files (Infer x) a.status a.text.items))
+pub answer_of_stop : (o : Option Files) (x first second : List ℕ) (s : Stop) (h : Result Answer Halt) → first ≡ module_file x → second ≡ module_file x → IfSome o (λ files. HoldsOf s files first module_limit) → IsRefused s second module_limit h → IfSome o (λ files. IfOk h (λ a. IsAnswerOf files (Infer x) a.status a.text.items))
 answer_of_stop o x first second s h is_first is_second e r =
-    let At : List ℕ → Type 0 = λ f. IfSome o (λ files. IsTold s files f module_limit) in
+    let At : List ℕ → Type 0 = λ f. IfSome o (λ files. HoldsOf s files f module_limit) in
     let Said : List ℕ → Type 0 = λ f. IsRefused s f module_limit h in
     answer_of_same_stop o x s h (subst At is_first e) (subst Said is_second r)

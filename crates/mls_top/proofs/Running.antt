@@ -70,19 +70,19 @@ module _ (words : List (List ℕ)) (old new : Written) (status : Status) (text :
   module _ (o : Option Files) (result : Status) where
     pub answered : IfSome o (λ files. IsAnswer files words status text) → is_cut status ≡ false → IsTold status text old new result → IfSome o (λ files. IsFalse (is_cut result) → IsAnswered files words old new result)
     answered answer uncut told = elim o as (λ p. IfSome p (λ files. IsAnswer files words status text) → IfSome p (λ files. IsFalse (is_cut result) → IsAnswered files words old new result)) [
-      None ↦ λ _. tt
+      | None ↦ λ _. tt
       | Some files ↦ λ a. answered_over files a result uncut told
     ] answer
 
     pub cut : IfSome o (λ files. IsAnswer files words status text) → is_cut status ≡ false → IsTold status text old new result → IfSome o (λ files. result ≡ WriteFault → IsCutOff files words old new)
     cut answer uncut told = elim o as (λ p. IfSome p (λ files. IsAnswer files words status text) → IfSome p (λ files. result ≡ WriteFault → IsCutOff files words old new)) [
-      None ↦ λ _. tt
+      | None ↦ λ _. tt
       | Some files ↦ λ a. cut_over files a result uncut told
     ] answer
 
     pub memory : IfSome o (λ files. IsAnswer files words status text) → is_cut status ≡ false → IsTold status text old new result → IfSome o (λ files. result ≡ Memory → IsCutOffOrNothing files words old new)
     memory answer uncut told = elim o as (λ p. IfSome p (λ files. IsAnswer files words status text) → IfSome p (λ files. result ≡ Memory → IsCutOffOrNothing files words old new)) [
-      None ↦ λ _. tt
+      | None ↦ λ _. tt
       | Some files ↦ λ a. memory_over files a result uncut told
     ] answer
 

@@ -15,8 +15,8 @@ IsCounted ReadFault old new = Rose old.faults new.faults
 IsCounted Memory old new = Unit {0}
 
 -- what the cause says of the files
-abbrev pub IsTold : Stop → Files → List ℕ → ℕ → Type 0
-IsTold NoFile files file limit = text_at files file limit ≡ Err (no_file file)
-IsTold TooLong files file limit = text_at files file limit ≡ Err (too_long file limit)
-IsTold ReadFault files file limit = Unit {0}
-IsTold Memory files file limit = Unit {0}
+abbrev pub HoldsOf : Stop → Files → List ℕ → ℕ → Type 0
+HoldsOf NoFile files file limit = text_at files file limit ≡ Err (no_file file)
+HoldsOf TooLong files file limit = text_at files file limit ≡ Err (too_long file limit)
+HoldsOf ReadFault files file limit = Unit {0}
+HoldsOf Memory files file limit = Unit {0}

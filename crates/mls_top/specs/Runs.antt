@@ -10,8 +10,9 @@ use Rattle.mls_top.specs.declared.status.Status.TheVariants.{Done, WriteFault, M
 use Rattle.mls_top.specs.Answers.{IsAnswer, IsFrontOfAnswer}
 use Rattle.mls_top.specs.Commands.{command_of}
 use Rattle.mls_top.specs.declared.command.Command.TheVariants.{Infer}
-use Rattle.mls_top.specs.Lines.{module_file}
+use Rattle.mls_top.specs.Lines.{module_file, usage_line}
 use Rattle.mls_top.specs.Outcomes.{text_at, module_limit}
+use Rattle.mls_top.specs.Writing.{IsTold}
 
 -- the whole text of an answer with this status was written
 pub record IsAnswered (files : Files) (words : List (List ℕ)) (old new : Written) (status : Status) : Type 0 where
@@ -29,9 +30,9 @@ pub record IsCutOff (files : Files) (words : List (List ℕ)) (old new : Written
 abbrev pub IsCutOffOrNothing : Files → List (List ℕ) → (old new : Written) → Type 0
 IsCutOffOrNothing files words old new = TakesNone old new ⊎ IsCutOff files words old new
 
--- the statuses of words that are no command
-abbrev pub IsWithoutCommand : Status → Type 0
-IsWithoutCommand status = (status ≡ Usage) ⊎ (status ≡ WriteFault) ⊎ (status ≡ Memory)
+-- the usage was written, or a front of it, by a fault of the sink or for want of memory; or memory was wanting before
+abbrev pub IsWithoutCommand : (old new : Written) → Status → Type 0
+IsWithoutCommand old new status = IsTold Usage usage_line old new status ⊎ ((status ≡ Memory) × TakesNone old new)
 
 -- the words ask for the signature of a module whose text the files have within its limit and which is a module
 pub record CanBeInferred (files : Files) (words : List (List ℕ)) : Type 0 where

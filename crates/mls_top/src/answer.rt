@@ -21,7 +21,9 @@ pub const MODULE_LIMIT: usize = 1_048_576;
 /// What a command answers: a status, and the text to print.
 #[derive(Drop)]
 pub struct Answer {
+    /// How the command ends, if its text is written whole.
     pub status: Status,
+    /// The bytes to print, with a newline after each line.
     pub text: Vec<u8>,
 }
 

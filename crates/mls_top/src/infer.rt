@@ -41,7 +41,13 @@ fn bad_text(alloc: Global, name: &Name, text: &[u8], fault: Fault) -> Result<Ans
     }
     let file = module_file(alloc, name)?;
     let place = locate(text, fault_place(&fault, text.len()));
-    let line = fault_line(alloc, file.as_str(), place, fault_number(&fault), fault_text(&fault))?;
+    let line = fault_line(
+        alloc,
+        file.as_str(),
+        place,
+        fault_number(&fault),
+        fault_text(&fault),
+    )?;
     Ok(Answer {
         status: Status::BadText,
         text: line,

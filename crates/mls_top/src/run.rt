@@ -49,9 +49,10 @@ pub fn run<S: Store, K: Sink>(
     ensures too_long_counted { result ≡ Status.TooLong → Rose (S.holdings store.old).longs (S.holdings store.new).longs }
     ensures write_fault_counted { result ≡ Status.WriteFault → Rose (K.written sink.old).faults (K.written sink.new).faults }
 
-    // The words alone decide whether they are a command; if they are none, the store is left alone.
+    // The words alone decide whether they are a command; if they are none, the usage is written and the store is left
+    // alone.
     ensures usage { result ≡ Status.Usage → (command_of (map string_bytes words.now.items) ≡ None) × Adds (K.written sink.old) (K.written sink.new) usage_line }
-    ensures no_command { command_of (map string_bytes words.now.items) ≡ None → IsWithoutCommand result × (S.holdings store.new ≡ S.holdings store.old) }
+    ensures no_command { command_of (map string_bytes words.now.items) ≡ None → IsWithoutCommand (K.written sink.old) (K.written sink.new) result × (S.holdings store.new ≡ S.holdings store.old) }
 
     // A module that is there and has no fault has a signature, unless the store, the sink or memory fails.
     ensures complete { IfSome (S.holdings store.old).files (λ files. CanBeInferred files (map string_bytes words.now.items) → ¬ Rose (S.holdings store.old).faults (S.holdings store.new).faults → ¬ Rose (K.written sink.old).faults (K.written sink.new).faults → (result ≡ Status.Done) ⊎ (result ≡ Status.Memory)) }
@@ -78,5 +79,217 @@ fn told<K: Sink>(sink: &mut K, status: Status, text: &[u8]) -> Status
         Put::All => status,
         Put::Failed => Status::WriteFault,
         Put::Memory => Status::Memory,
+    }
+}
+
+#[cfg(test)]
+mod tests {
+    use super::*;
+    use crate::answer::MODULE_LIMIT;
+    use mls_base::memory::Memory;
+    use mls_io::memory::{FileEntry, SureSink, SureStore};
+    use mls_io::store::Fetch;
+    use std::test::Fail;
+
+    // A sink that takes so many pieces, and then fails.
+    #[derive(Drop)]
+    struct NarrowSink {
+        bytes: Vec<u8>,
+        room: usize,
+        puts: usize,
+        has_failed: bool,
+    }
+
+    impl Sink for NarrowSink {
+        ghost use Rattle.std.specs.Prelude.{Some};
+
+        ghost written = { λ sink. record {
+          bytes = Some sink.bytes.items;
+          faults = record { value = 0; is_worn = sink.has_failed };
+        } };
+
+        fn put(&mut self, piece: &[u8]) -> Put {
+            if piece.is_empty() {
+                return Put::All;
+            }
+            self.puts = self.puts.saturating_add(1);
+            if self.puts > self.room {
+                self.has_failed = true;
+                return Put::Failed;
+            }
+            match self.bytes.extend_from_slice(piece) {
+                Ok(_) => Put::All,
+                Err(_) => Put::Memory,
+            }
+        }
+    }
+
+    // A store without files that counts its fetches, and may fail at each.
+    #[derive(Drop)]
+    struct CountingStore {
+        is_broken: bool,
+        fetches: usize,
+        has_failed: bool,
+        has_missed: bool,
+    }
+
+    impl Store for CountingStore {
+        ghost use Rattle.std.specs.Prelude.{Some, [], false};
+
+        ghost holdings = { λ store. record {
+          files = Some [];
+          faults = record { value = 0; is_worn = store.has_failed };
+          misses = record { value = 0; is_worn = store.has_missed };
+          longs = record { value = 0; is_worn = false };
+        } };
+
+        fn fetch(&mut self, _name: &str, _limit: usize, _into: &mut Vec<u8>) -> Fetch {
+            self.fetches = self.fetches.saturating_add(1);
+            if self.is_broken {
+                self.has_failed = true;
+                Fetch::Failed
+            } else {
+                self.has_missed = true;
+                Fetch::Missing
+            }
+        }
+    }
+
+    // Words of a command line.
+    fn words_of(alloc: Global, words: &[&str]) -> Result<Vec<String>, Memory> {
+        let mut list = Vec::new(alloc);
+        for word in words {
+            list.push(String::from_str(alloc, word)?)?;
+        }
+        Ok(list)
+    }
+
+    // A store whose one file is `main.ml` with this text.
+    fn store_of(alloc: Global, text: &[u8]) -> Result<SureStore, Memory> {
+        let main = FileEntry {
+            name: String::from_str(alloc, "main.ml")?,
+            bytes: Vec::from_slice(alloc, text)?,
+        };
+        SureStore::new(alloc, vec![in alloc; main]?)
+    }
+
+    #[test]
+    fn prints_signatures(rt: HostRuntime) -> Result<(), Fail> {
+        let alloc = rt.alloc();
+        let words = words_of(alloc, &["infer", "main"])?;
+        for (text, printed, code) in [
+            ("let id = fun x -> x", "val id : a -> a\n", 0),
+            ("", "", 0),
+            ("# nothing", "", 0),
+            ("let n = 9223372036854775807", "val n : int\n", 0),
+            ("let k = fun x -> fun y -> x", "val k : a -> top -> a\n", 0),
+            ("let k = fun x -> fun y -> y", "val k : top -> a -> a\n", 0),
+            ("let s = fun x -> fun x -> x", "val s : top -> a -> a\n", 0),
+            ("let c = fun x -> 7", "val c : top -> int\n", 0),
+            (
+                "let t = true # and\nlet f = (fun y -> ((false)))\nlet n = 0",
+                "val t : bool\nval f : top -> bool\nval n : int\n",
+                0,
+            ),
+            ("let a = b", "main.ml:1:1: fault 20: not built yet\n", 3),
+            (
+                "let a = 1\nlet a = 2",
+                "main.ml:1:1: fault 20: not built yet\n",
+                3,
+            ),
+        ] {
+            let mut sink = SureSink::new(alloc);
+            let status = run(
+                alloc,
+                &words,
+                &mut store_of(alloc, text.as_bytes())?,
+                &mut sink,
+            );
+            assert_eq!(rt; status.code(), code, "{text}");
+            assert_eq!(rt; sink.bytes(), printed.as_bytes(), "{text}");
+        }
+        Ok(())
+    }
+
+    #[test]
+    fn holds_the_limit(rt: HostRuntime) -> Result<(), Fail> {
+        let alloc = rt.alloc();
+        let words = words_of(alloc, &["infer", "main"])?;
+        for (length, printed, code) in [
+            (MODULE_LIMIT, "", 0),
+            (MODULE_LIMIT + 1, "main.ml: longer than 1048576 bytes\n", 11),
+        ] {
+            let text = vec![in alloc; b' '; length]?;
+            let mut sink = SureSink::new(alloc);
+            let status = run(
+                alloc,
+                &words,
+                &mut store_of(alloc, text.as_slice())?,
+                &mut sink,
+            );
+            assert_eq!(rt; status.code(), code, "{length}");
+            assert_eq!(rt; sink.bytes(), printed.as_bytes(), "{length}");
+        }
+        Ok(())
+    }
+
+    #[test]
+    fn reads_words_and_fetches_once(rt: HostRuntime) -> Result<(), Fail> {
+        let alloc = rt.alloc();
+        let usage = "usage: mlsub COMMAND OPERANDS\n";
+        for (words, is_broken, printed, code, fetches) in [
+            (&[].as_slice(), false, usage, 8, 0),
+            (&["infer"].as_slice(), false, usage, 8, 0),
+            (&["infer", "main", "extra"].as_slice(), false, usage, 8, 0),
+            (&["infer", "--help"].as_slice(), false, usage, 8, 0),
+            (&["infer", "Main"].as_slice(), false, usage, 8, 0),
+            (&["infer", "let"].as_slice(), true, usage, 8, 0),
+            (
+                &["infer", "main"].as_slice(),
+                false,
+                "main.ml: not found\n",
+                4,
+                1,
+            ),
+            (&["infer", "main"].as_slice(), true, "", 5, 1),
+        ] {
+            let mut store = CountingStore {
+                is_broken,
+                fetches: 0,
+                has_failed: false,
+                has_missed: false,
+            };
+            let mut sink = SureSink::new(alloc);
+            let status = run(alloc, &words_of(alloc, words)?, &mut store, &mut sink);
+            assert_eq!(rt; status.code(), code, "{printed}");
+            assert_eq!(rt; sink.bytes(), printed.as_bytes());
+            assert_eq!(rt; store.fetches, fetches, "{printed}");
+        }
+        Ok(())
+    }
+
+    #[test]
+    fn puts_each_line_until_one_fails(rt: HostRuntime) -> Result<(), Fail> {
+        let alloc = rt.alloc();
+        let words = words_of(alloc, &["infer", "main"])?;
+        let text = b"let x = 1 let y = true let z = fun a -> a";
+        for (room, written, code, puts) in [
+            (0, "", 6, 1),
+            (1, "val x : int\n", 6, 2),
+            (2, "val x : int\nval y : bool\n", 6, 3),
+            (3, "val x : int\nval y : bool\nval z : a -> a\n", 0, 3),
+        ] {
+            let mut sink = NarrowSink {
+                bytes: Vec::new(alloc),
+                room,
+                puts: 0,
+                has_failed: false,
+            };
+            let status = run(alloc, &words, &mut store_of(alloc, text)?, &mut sink);
+            assert_eq!(rt; status.code(), code, "{room}");
+            assert_eq!(rt; sink.bytes.as_slice(), written.as_bytes(), "{room}");
+            assert_eq!(rt; sink.puts, puts, "{room}");
+        }
+        Ok(())
     }
 }

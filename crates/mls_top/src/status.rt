@@ -17,7 +17,7 @@ pub enum Status {
     WriteFault,
     /// Memory was wanting. A front of the answer may be printed.
     Memory,
-    /// The words are no command.
+    /// The words are no command; the usage is printed.
     Usage,
     /// A file is longer than its limit; its name and the limit are printed.
     TooLong,
