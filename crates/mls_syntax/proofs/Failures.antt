@@ -56,6 +56,6 @@ second_fails known at k first second s all best has_none u h =
     let s1 = over g.first rule.d1 rule.t1 in
     has_none (over g.first rule.d2 g.first.root)
     (more_general_derives (with_let known k s) (with_let known k s1) second (over g.first rule.d2 g.first.root)
-        (IsMoreGeneral-let known known k s s1 (IsMoreGeneral-refl known) (best.least s1 rule.first_has))
-        (AreSchemes-let known k s1 all (derived_scheme known first s1 all rule.first_has))
-        rule.second_has)
+    (IsMoreGeneral-let known known k s s1 (IsMoreGeneral-refl known) (best.least s1 rule.first_has))
+    (AreSchemes-let known k s1 all (derived_scheme known first s1 all rule.first_has))
+    rule.second_has)

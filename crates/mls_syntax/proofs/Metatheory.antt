@@ -71,10 +71,10 @@ pub IsMoreGeneral-let : (first second : Known) (k : ℕ) (u s : Scheme) → IsMo
 IsMoreGeneral-let first second k u s general subsumes = record {
   globals = general.globals;
   lets = λ q.
-    let both : HasMore (cond (eq_by_cmp nat_cmp q k) (Some u) (env.get first.lets q)) (cond (eq_by_cmp nat_cmp q k) (Some s) (env.get second.lets q)) = by_test q (eq_by_cmp nat_cmp q k) in
-    let F : Option Scheme → Type 0 = λ o. HasMore o (cond (eq_by_cmp nat_cmp q k) (Some s) (env.get second.lets q)) in
-    let S : Option Scheme → Type 0 = λ p. HasMore (env.get (env.insert first.lets k u) q) p in
-    subst S (sym (get-insert nat_cmp_total second.lets k s q)) (subst F (sym (get-insert nat_cmp_total first.lets k u q)) both);
+      let both : HasMore (cond (eq_by_cmp nat_cmp q k) (Some u) (env.get first.lets q)) (cond (eq_by_cmp nat_cmp q k) (Some s) (env.get second.lets q)) = by_test q (eq_by_cmp nat_cmp q k) in
+      let F : Option Scheme → Type 0 = λ o. HasMore o (cond (eq_by_cmp nat_cmp q k) (Some s) (env.get second.lets q)) in
+      let S : Option Scheme → Type 0 = λ p. HasMore (env.get (env.insert first.lets k u) q) p in
+      subst S (sym (get-insert nat_cmp_total second.lets k s q)) (subst F (sym (get-insert nat_cmp_total first.lets k u q)) both);
 }
   where
     by_test : (q : ℕ) (b : Bool) → HasMore (cond b (Some u) (env.get first.lets q)) (cond b (Some s) (env.get second.lets q))
@@ -113,7 +113,7 @@ mutual
       let_in at k e1 e2 d1 d2 t1 e scheme meet
       (more_general_derives first second e1 s1 general all h1)
       (more_general_derives (with_let first k s1) (with_let second k s1) e2 (over s d2 s.root)
-          (IsMoreGeneral-let first second k s1 s1 general (Subsumes-refl s1)) (AreSchemes-let second k s1 all (derived_scheme second e1 s1 all h1)) h2)
+      (IsMoreGeneral-let first second k s1 s1 general (Subsumes-refl s1)) (AreSchemes-let second k s1 all (derived_scheme second e1 s1 all h1)) h2)
   more_general_derives first second t s general all (rec_fix at x body d e scheme env_is root_is h) =
       rec_fix at x body d e scheme env_is root_is (more_general_derives first second body (over s d s.root) general all h)
   more_general_derives first second t s general all (sub u h subsumes scheme) =

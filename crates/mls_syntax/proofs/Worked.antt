@@ -77,9 +77,9 @@ from_top =
     let Right : Predicate → Type 0 = λ f. Implies (arrow (passes top_to_int.book 1) (passes top_to_int.book 2)) f in
     subst Left (sym (value-arrow var top_to_int.book top_to_int_closed.book 0 (id 1) (id 2) refl))
     (subst Right (sym (value-arrow var int_to_int.book int_to_int_closed.book 0 (id 1) (id 1) refl))
-        (arrow-implies (passes top_to_int.book 1) (passes top_to_int.book 2) (passes int_to_int.book 1) (passes int_to_int.book 1)
-            (let P : Predicate → Type 0 = λ f. Implies (passes int_to_int.book 1) f in subst P (sym (value-top var top_to_int.book top_to_int_closed.book 1 refl)) (λ t e. refl))
-            (Implies-same (passes top_to_int.book 2) (passes int_to_int.book 1) (value-int var top_to_int.book top_to_int_closed.book 2 refl ∙ sym (value-int var int_to_int.book int_to_int_closed.book 1 refl)))))
+    (arrow-implies (passes top_to_int.book 1) (passes top_to_int.book 2) (passes int_to_int.book 1) (passes int_to_int.book 1)
+    (let P : Predicate → Type 0 = λ f. Implies (passes int_to_int.book 1) f in subst P (sym (value-top var top_to_int.book top_to_int_closed.book 1 refl)) (λ t e. refl))
+    (Implies-same (passes top_to_int.book 2) (passes int_to_int.book 1) (value-int var top_to_int.book top_to_int_closed.book 2 refl ∙ sym (value-int var int_to_int.book int_to_int_closed.book 1 refl)))))
 
 no_needs : (x : ℕ) → Implies (binder_passes (passes int_to_int.book) (env.get int_to_int.env x)) (binder_passes (passes top_to_int.book) (env.get top_to_int.env x))
 no_needs x =

@@ -56,17 +56,14 @@ mutual
     var_inner : {known : Known} {t : TermTree} {s : Scheme} (at k : ℕ)
         → t ≡ inner at k → env.get known.lets k ≡ Some s
         → Derives known t s
-
     -- a name of the environment has its scheme
     var_global : {known : Known} {t : TermTree} {s : Scheme} (at g : ℕ)
         → t ≡ global at g → slice_get known.globals g ≡ Some s
         → Derives known t s
-
     -- a binder has any type, which it needs of itself
     var_fun : {known : Known} {t : TermTree} {s : Scheme} (at x : ℕ)
         → t ≡ bound at x → IsScheme s → s.env ≡ env.insert env.empty x s.root
         → Derives known t s
-
     -- a truth value has `bool`, a number has `int`
     lit_truth : {known : Known} {t : TermTree} {s : Scheme} (at : ℕ) (value : Bool)
         → t ≡ truth at value → IsScheme s → s.env ≡ env.empty → node_at s.book s.root ≡ node.Bool
@@ -74,51 +71,43 @@ mutual
     lit_number : {known : Known} {t : TermTree} {s : Scheme} (at value : ℕ)
         → t ≡ number at value → IsScheme s → s.env ≡ env.empty → node_at s.book s.root ≡ node.Int
         → Derives known t s
-
     -- a function goes from the type that its body needs of the binder, or from `top` if it needs none, to the type of the body
     abs : {known : Known} {t : TermTree} {s : Scheme} (at x : ℕ) (body : TermTree) (d : Env) (i j : NodeId)
         → t ≡ fun at x body → IsScheme s → s.env ≡ env.remove d x → Takes s.book d x i → node_at s.book s.root ≡ node.Arrow i j
         → Derives known body (over s d j.0)
         → Derives known t s
-
     -- an application has the codomain of the function, whose domain is the type of the argument
     app : {known : Known} {t : TermTree} {s : Scheme} (at : ℕ) (function argument : TermTree) (f : ℕ) (i : NodeId)
         → t ≡ apply at function argument → IsScheme s → node_at s.book f ≡ node.Arrow i (record { 0 = s.root })
         → Derives known function (over s s.env f) → Derives known argument (over s s.env i.0)
         → Derives known t s
-
     -- a record has the types of its parts; without parts it needs nothing
     rcd : {known : Known} {t : TermTree} {s : Scheme} (at : ℕ) (parts : TermFields) (fields : List Field)
         → t ≡ make at parts → IsScheme s → node_at s.book s.root ≡ node.Rcd fields → HaveLabels parts fields
         → (parts ≡ no_field → s.env ≡ env.empty)
         → AllDerive known parts s fields
         → Derives known t s
-
     -- a projection has the type of the field
     proj : {known : Known} {t : TermTree} {s : Scheme} (at : ℕ) (body : TermTree) (label : List ℕ) (i : ℕ) (field : Field)
         → t ≡ project at body label → IsScheme s
         → node_at s.book i ≡ node.Rcd (field ∷ []) → field.label ≡ label → field.node.0 ≡ s.root
         → Derives known body (over s s.env i)
         → Derives known t s
-
     -- a conditional has the type of both branches
     cond : {known : Known} {t : TermTree} {s : Scheme} (at : ℕ) (condition first second : TermTree) (i : ℕ)
         → t ≡ choice at condition first second → IsScheme s → node_at s.book i ≡ node.Bool
         → Derives known condition (over s s.env i) → Derives known first s → Derives known second s
         → Derives known t s
-
     -- a let has the type of its second part, where the name has the scheme of the first; it needs what both need
     let_in : {known : Known} {t : TermTree} {s : Scheme} (at k : ℕ) (first second : TermTree) (d1 d2 : Env) (t1 : ℕ)
         → t ≡ local at k first second → IsScheme s → IsMeet s.book d1 d2 s.env
         → Derives known first (over s d1 t1) → Derives (with_let known k (over s d1 t1)) second (over s d2 s.root)
         → Derives known t s
-
     -- a recursion has the type of its body, which the body needs of the binder
     rec_fix : {known : Known} {t : TermTree} {s : Scheme} (at x : ℕ) (body : TermTree) (d : Env)
         → t ≡ fix at x body → IsScheme s → s.env ≡ env.remove d x → env.get d x ≡ Some s.root
         → Derives known body (over s d s.root)
         → Derives known t s
-
     -- what an expression has, subsumes what it has too
     sub : {known : Known} {t : TermTree} {s : Scheme} (first : Scheme)
         → Derives known t first → Subsumes first s → IsScheme s

@@ -11,6 +11,7 @@ use std::{env, io};
 
 // The exit codes of a program that ends before it runs a command: for want of memory, and for words that cannot be read.
 const NO_MEMORY: u8 = 7;
+
 const NO_WORDS: u8 = 14;
 
 // The words of the command line without the program's own name.
@@ -26,7 +27,9 @@ fn main(rt: HostRuntime) -> ExitCode {
     let alloc = rt.alloc();
     let words = match words(&rt) {
         Ok(words) => words,
-        Err(error) if error.kind() == io::ErrorKind::OutOfMemory => return ExitCode::from(NO_MEMORY),
+        Err(error) if error.kind() == io::ErrorKind::OutOfMemory => return ExitCode::from(
+            NO_MEMORY,
+        ),
         Err(_) => return ExitCode::from(NO_WORDS),
     };
     let mut store = match DirStore::new(rt, alloc, ".") {
