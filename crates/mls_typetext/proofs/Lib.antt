@@ -7,3 +7,6 @@ pub mod OneValue
 pub mod FitTrees
 pub mod OnePhrase
 pub mod ReadLaws
+pub mod StopLaws
+pub mod TypeMachine
+pub mod TypeGoing

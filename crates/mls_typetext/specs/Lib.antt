@@ -4,4 +4,5 @@ pub mod Faults
 pub mod Books
 pub mod Values
 pub mod Texts
+pub mod Stops
 pub mod Laws
