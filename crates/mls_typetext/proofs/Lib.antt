@@ -10,3 +10,4 @@ pub mod ReadLaws
 pub mod StopLaws
 pub mod TypeMachine
 pub mod TypeGoing
+pub mod TypeStops
