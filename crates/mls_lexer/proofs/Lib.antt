@@ -2,6 +2,7 @@ mod Example
 pub mod Follows
 pub mod Gaps
 pub mod Longest
+pub mod Machine
 pub mod Pieces
 pub mod Readings
 pub mod Shapes

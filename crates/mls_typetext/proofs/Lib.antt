@@ -7,3 +7,7 @@ pub mod OneValue
 pub mod FitTrees
 pub mod OnePhrase
 pub mod ReadLaws
+pub mod StopLaws
+pub mod TypeMachine
+pub mod TypeGoing
+pub mod TypeStops

@@ -4,7 +4,10 @@ use Rattle.mls_book.specs.declared.book.Node.TheVariants.{Var}
 use Rattle.mls_book.specs.Books.{IsClosedBook, node_at}
 use Rattle.mls_book.specs.Predicates.{Predicate}
 use Rattle.mls_book.specs.Passes.{passes_by}
+use Rattle.mls_lexer.specs.declared.token.Token.{Token}
 use Rattle.mls_typetext.specs.declared.scheme.ReadScheme.{ReadScheme}
+use Rattle.mls_typetext.specs.declared.scheme.TypeFault.{TypeFault}
+use Rattle.mls_typetext.specs.Stops.{EndsBefore, HasStop, HasTypeFault}
 use Rattle.mls_typetext.specs.Trees.{TypeTree}
 use Rattle.mls_typetext.specs.Books.{Ty, type_of}
 use Rattle.mls_typetext.specs.Values.{HasValue}
@@ -33,3 +36,20 @@ ReadHasValue =
 -- a text is read in one way at most
 abbrev pub OneReading : Type 0
 OneReading = (text : List ℕ) (read other : ReadScheme) → IsTypeText text read → IsTypeText text other → read ≡ other
+
+-- what is read has no fault
+abbrev pub NoFaultBesideReading : Type 0
+NoFaultBesideReading = (text : List ℕ) (read : ReadScheme) (fault : TypeFault) → IsTypeText text read → HasTypeFault text fault → ⊥
+
+-- a text has one first fault
+abbrev pub OneFirstFault : Type 0
+OneFirstFault = (text : List ℕ) (fault other : TypeFault) → HasTypeFault text fault → HasTypeFault text other → fault ≡ other
+
+-- from a token on a type ends before one token, or it stops for one reason
+pub record HasOneEnd (text : List ℕ) (tokens : List Token) (from : ℕ) : Type 0 where
+  pub one_end : (k l : ℕ) → EndsBefore text tokens from k → EndsBefore text tokens from l → k ≡ l
+  pub no_stop : (k : ℕ) (fault : TypeFault) → EndsBefore text tokens from k → HasStop text tokens from fault → ⊥
+  pub one_stop : (fault other : TypeFault) → HasStop text tokens from fault → HasStop text tokens from other → fault ≡ other
+
+abbrev pub OneEnd : Type 0
+OneEnd = (text : List ℕ) (tokens : List Token) (from : ℕ) → HasOneEnd text tokens from

@@ -5,4 +5,5 @@ pub mod Books
 pub mod Schemes
 pub mod Values
 pub mod Texts
+pub mod Stops
 pub mod Laws

@@ -1,9 +1,25 @@
 //! Laws of the texts of types, each the contract of a function that does nothing.
+ghost use Rattle.mls_typetext.specs.Laws.{NoFaultBesideReading, OneFirstFault, OneEnd};
 ghost use Rattle.mls_typetext.specs.Laws.{OneReading, ReadIsClosed, ReadHasValue};
 
 /// A text is read as a type in one way at most.
 pub fn one_reading()
     ensures { OneReading }
+{}
+
+/// A text that is read as a type has no fault.
+pub fn no_fault_beside_reading()
+    ensures { NoFaultBesideReading }
+{}
+
+/// A text has one first fault at most.
+pub fn one_first_fault()
+    ensures { OneFirstFault }
+{}
+
+/// From a token on, a type ends before one token, or the grammar stops for one reason.
+pub fn one_end()
+    ensures { OneEnd }
 {}
 
 /// What a text is read as is a closed book with its root in it, whose variables are below their number.
