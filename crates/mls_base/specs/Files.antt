@@ -1,5 +1,5 @@
 -- Files by their names.
-use Rattle.std.specs.Prelude.{ℕ, List, map, find, bytes_eq, Option, option_map}
+use Rattle.std.specs.Prelude.{ℕ, List, find, bytes_eq, Option, option_map}
 
 -- names and bytes of files; where a name stands twice, its first entry counts
 abbrev pub Files : Type 0

@@ -1,14 +1,13 @@
 -- The book that the text of a chain's type is read as, node by node.
-use Rattle.std.proofs.Common.{◌≡◌, ℕ, zero, suc, ◌+◌, ◌<◌, Bool, true, false, List, [], ◌∷◌, ◌++◌, length, refl, sym, ap, subst, ◌∙◌, arith, codes, length-append, append_assoc}
+use Rattle.std.proofs.Common.{◌≡◌, ℕ, suc, ◌+◌, ◌<◌, Bool, true, false, List, [], ◌∷◌, ◌++◌, length, refl, sym, ap, subst, ◌∙◌, arith, codes, length-append, append_assoc}
 use Rattle.std.proofs.lemmas.List.{get_or-append-add}
-use Rattle.mls_book.specs.declared.book.NodeId.{NodeId}
 use Rattle.mls_book.specs.declared.book.Node.{Node}
 use Rattle.mls_book.specs.declared.book.Node.TheVariants as node
 use Rattle.mls_book.specs.Books.{node_at, IsClosedBook}
 use Rattle.mls_book.proofs.LongerBooks.{AllFrom, AllFrom-append, AllFrom-one, IsGood, closed_from}
 use Rattle.mls_typetext.specs.Phrases.{width, joins, meets, no_meet, no_join}
 use Rattle.mls_typetext.specs.Trees.{meaning}
-use Rattle.mls_typetext.specs.Books.{Ty, var, boolean, integer, top, arrow, id, place_in, first_places, variables_in, variables, numbered, type_of, here, under, under_fields, stands, field_nodes, placed, layer, below, below_fields, book_of, root_of}
+use Rattle.mls_typetext.specs.Books.{Ty, var, boolean, integer, top, arrow, id, place_in, variables, numbered, type_of, here, under, stands, layer, below, book_of, root_of}
 use Rattle.mls_top.proofs.ChainTexts.{Leaf, a_variable, an_integer, a_boolean, ChainType, leaf, from, chain_phrase, domain_phrase}
 
 -- the type of a chain with a number for its variable

@@ -1,5 +1,5 @@
 -- The scheme of a chain's type is derivable.
-use Rattle.std.proofs.Common.{◌≡◌, ◌⊎◌, inl, inr, ℕ, suc, ◌+◌, ◌<◌, ◌≤◌, ◌≢◌, Bool, true, false, ◌==◌, List, [], ◌∷◌, length, refl, sym, ap, subst, ◌∙◌, arith, Option, Some, None, cond}
+use Rattle.std.proofs.Common.{◌≡◌, inl, inr, ℕ, suc, ◌<◌, ◌≤◌, ◌≢◌, Bool, true, false, ◌==◌, List, length, refl, sym, ap, subst, ◌∙◌, arith, Option, Some, None, cond}
 use Rattle.std.proofs.lemmas.Bool.{eqb-true}
 use Rattle.std.proofs.lemmas.Bool.Decides.{nat_tests}
 use Rattle.std.specs.FinMap as env
@@ -9,11 +9,10 @@ use Rattle.std.specs.Cmp.{nat_cmp_is}
 use Rattle.std.specs.declared.cmp.Ordering.TheVariants.{Less, Equal, Greater}
 use Rattle.std.specs.declared.cmp.Ordering.{Ordering}
 use Rattle.std.proofs.lemmas.Cmp.{nat_cmp_total}
-use Rattle.mls_book.specs.declared.book.NodeId.{NodeId}
 use Rattle.mls_book.specs.declared.book.Node.{Node}
 use Rattle.mls_book.specs.declared.book.Node.TheVariants as node
 use Rattle.mls_book.specs.Books.{node_at, IsClosedBook}
-use Rattle.mls_book.specs.Predicates.{Predicate, Implies, var}
+use Rattle.mls_book.specs.Predicates.{Implies, var}
 use Rattle.mls_book.specs.Passes.{passes}
 use Rattle.mls_book.specs.Schemes.{Env, Scheme, IsScheme, binder_passes}
 use Rattle.mls_book.proofs.Table.{value-var}
@@ -22,11 +21,11 @@ use Rattle.mls_book.proofs.Subsumption.{Subsumes-below}
 use Rattle.mls_syntax.proofs.Environments.{one, get-one, get-other, remove-empty, remove-other, remove-one, scheme_at, is_scheme-empty, is_scheme-one}
 use Rattle.mls_syntax.specs.Terms.{TermTree, bound, inner, global, number, truth, fun, apply, make, project, choice, local, fix}
 use Rattle.mls_syntax.specs.Resolution.{IsChain}
-use Rattle.mls_syntax.specs.Derivations.{Known, over, Takes, Derives, var_fun, lit_truth, lit_number, abs, sub}
+use Rattle.mls_syntax.specs.Derivations.{Known, Takes, Derives, var_fun, lit_truth, lit_number, abs, sub}
 use Rattle.mls_top.specs.Chains.{is_used}
-use Rattle.mls_top.proofs.ChainTexts.{Leaf, a_variable, an_integer, a_boolean, ChainType, leaf, from, chain_type}
+use Rattle.mls_top.proofs.ChainTexts.{ChainType, leaf, from, chain_type}
 use Rattle.mls_typetext.specs.Books.{id}
-use Rattle.mls_top.proofs.ChainBooks.{leaf_node, domain_node, Stands}
+use Rattle.mls_top.proofs.ChainBooks.{domain_node, Stands}
 
 -- the binder that the leaf of a chain uses
 abbrev pub leaf_binder : TermTree → Option ℕ

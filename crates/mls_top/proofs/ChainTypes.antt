@@ -1,7 +1,6 @@
 -- The text that is made of the nodes of a chain is read as the chain's most general scheme.
-use Rattle.std.proofs.Common.{◌≡◌, ℕ, suc, ◌+◌, List, [], ◌∷◌, ◌++◌, reverse, refl, sym, ap, subst, ◌∙◌, Option, Some, None}
+use Rattle.std.proofs.Common.{◌≡◌, ℕ, suc, ◌+◌, List, [], ◌∷◌, ◌++◌, reverse, refl, sym, ap, subst, ◌∙◌, Option}
 use Rattle.std.specs.FinMap as env
-use Rattle.mls_book.specs.declared.book.Node.{Node}
 use Rattle.mls_book.specs.Schemes.{Scheme}
 use Rattle.mls_syntax.specs.declared.term.TermNode.{TermNode}
 use Rattle.mls_syntax.specs.declared.term.TermForm.TheVariants.{Fun}

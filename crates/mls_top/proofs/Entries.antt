@@ -1,5 +1,5 @@
 -- The signature of some bindings, entry by entry.
-use Rattle.std.proofs.Common.{◌≡◌, ℕ, suc, ◌+◌, ◌<◌, List, [], ◌∷◌, ◌++◌, length, take, reverse, refl, sym, ap, subst, ◌∙◌, append_assoc, append-nil, codes, arith, get_or}
+use Rattle.std.proofs.Common.{◌≡◌, ℕ, List, [], ◌∷◌, ◌++◌, reverse, refl, sym, ap, ◌∙◌, append_assoc, append-nil, codes}
 use Rattle.mls_syntax.specs.declared.term.ResolvedBinding.{ResolvedBinding}
 use Rattle.mls_syntax.specs.Resolution.{HasChain}
 use Rattle.mls_top.specs.Chains.{leaf_use, type_text}

@@ -1,13 +1,13 @@
 -- What the pure phase of `infer` says, as an answer over the files.
-use Rattle.std.proofs.Common.{◌≡◌, ◌≢◌, ℕ, List, [], length, refl, sym, ap, ◌∙◌, subst}
-use Rattle.std.specs.Prelude.{Option, Some, None, Result, Ok, Err, IfSome, IfOk, IfErr, MatchResult}
+use Rattle.std.proofs.Common.{◌≡◌, ℕ, List, [], length, refl, sym, subst}
+use Rattle.std.specs.Prelude.{Option, Some, None, Result, Ok, Err, IfSome, IfOk, IfErr}
 use Rattle.mls_base.specs.Files.{Files}
 use Rattle.mls_base.specs.declared.memory.Memory.{Memory}
 use Rattle.mls_lexer.specs.Tokens.{line_of, column_of}
 use Rattle.mls_syntax.specs.declared.parse.Fault.{Fault}
 use Rattle.mls_syntax.specs.declared.module.Module.{Module}
 use Rattle.mls_syntax.specs.declared.term.Resolved.{Resolved}
-use Rattle.mls_syntax.specs.Modules.{HasFault, IsPlainModuleOf, IsPlainModule}
+use Rattle.mls_syntax.specs.Modules.{HasFault, IsPlainModuleOf}
 use Rattle.mls_syntax.specs.Resolution.{Resolves}
 use Rattle.mls_top.specs.declared.answer.Answer.{Answer}
 use Rattle.mls_top.specs.declared.answer.Halt.{Halt}
@@ -17,7 +17,7 @@ use Rattle.mls_top.specs.declared.fetching.Stop.{Stop}
 use Rattle.mls_top.specs.declared.fetching.Stop.TheVariants as stop
 use Rattle.mls_top.specs.declared.status.Status.TheVariants.{Done, BadText}
 use Rattle.mls_top.specs.Lines.{module_file, fault_line, fault_number, fault_text, fault_place}
-use Rattle.mls_top.specs.Outcomes.{Infers, no_text, has_text, InfersFrom, faulty, signed, refused, bad_text, inferred, no_file, too_long, text_at, module_limit, IsInferred}
+use Rattle.mls_top.specs.Outcomes.{no_text, has_text, faulty, signed, refused, bad_text, inferred, no_file, too_long, text_at, module_limit, IsInferred}
 use Rattle.mls_top.specs.Fetching.{HoldsOf}
 use Rattle.mls_top.specs.Answering.{IsSignature, IsRefused}
 use Rattle.mls_top.specs.Answers.{IsAnswerOf, infer}

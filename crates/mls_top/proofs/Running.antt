@@ -1,9 +1,9 @@
 -- What a run says after the text of an answer was written, or a front of it.
-use Rattle.std.proofs.Common.{◌≡◌, ◌≢◌, ◌⊎◌, inl, inr, ℕ, Bool, true, false, List, ◌++◌, refl, sym, ap, ◌∙◌, subst}
-use Rattle.std.specs.Prelude.{Option, Some, None, Result, Ok, Err, IfSome, IsTrue, IsFalse}
+use Rattle.std.proofs.Common.{◌≡◌, ◌⊎◌, inl, inr, ℕ, true, false, List, refl, sym, ap, ◌∙◌, subst}
+use Rattle.std.specs.Prelude.{Option, Some, None, IfSome, IsFalse}
 use Rattle.mls_base.specs.Files.{Files}
 use Rattle.mls_io.specs.Counts.{Rose}
-use Rattle.mls_io.specs.Sinks.{Written, Adds, TakesNone}
+use Rattle.mls_io.specs.Sinks.{Written}
 use Rattle.mls_syntax.specs.Modules.{not_built, IsPlainModuleOf}
 use Rattle.mls_top.specs.declared.status.Status.{Status}
 use Rattle.mls_top.specs.declared.status.Status.TheVariants.{Done, BadText, NoFile, ReadFault, WriteFault, Memory, Usage, TooLong}
@@ -12,10 +12,10 @@ use Rattle.mls_top.specs.declared.command.Command.TheVariants.{Infer}
 use Rattle.mls_top.specs.Statuses.{is_cut, is_answer}
 use Rattle.mls_top.specs.Commands.{command_of}
 use Rattle.mls_top.specs.Lines.{module_file, usage_line}
-use Rattle.mls_top.specs.Outcomes.{Outcome, Refusal, no_file, too_long, bad_text, refused, inferred, outcome_status, IsInferred, Infers, no_text, has_text, InfersFrom, faulty, signed, text_at, module_limit}
-use Rattle.mls_top.specs.Answers.{IsAnswer, no_command, of_command, IsAnswerOf, infer, IsFrontOfAnswer}
-use Rattle.mls_top.specs.Runs.{IsAnswered, IsCutOff, IsCutOffOrNothing, IsWithoutCommand, CanBeInferred}
-use Rattle.mls_top.specs.Writing.{IsTold, AddsFront, AddsBefore}
+use Rattle.mls_top.specs.Outcomes.{Outcome, no_file, too_long, bad_text, refused, inferred, outcome_status, IsInferred, Infers, no_text, has_text, InfersFrom, faulty, signed, text_at, module_limit}
+use Rattle.mls_top.specs.Answers.{IsAnswer, no_command, of_command, IsAnswerOf, infer}
+use Rattle.mls_top.specs.Runs.{IsAnswered, IsCutOff, IsCutOffOrNothing, CanBeInferred}
+use Rattle.mls_top.specs.Writing.{IsTold, AddsFront}
 
 -- an outcome has a status of an answer
 outcome_is_answer : (o : Outcome) → is_answer (outcome_status o) ≡ true

@@ -1,5 +1,5 @@
 -- What the phases of a run say to one another.
-use Rattle.std.specs.Prelude.{◌≡◌, ℕ, List, [], ◌++◌, Result, Ok, Err, IfOk, IfErr, MatchResult}
+use Rattle.std.specs.Prelude.{◌≡◌, ℕ, List, [], ◌++◌, Result, Err, MatchResult}
 use Rattle.mls_io.specs.Counts.{Rose}
 use Rattle.mls_io.specs.Stores.{Holdings}
 use Rattle.mls_syntax.specs.declared.term.ResolvedBinding.{ResolvedBinding}

@@ -1,7 +1,5 @@
 -- The lines that are printed.
-use Rattle.std.specs.Prelude.{ℕ, List, [], ◌∷◌, ◌++◌, codes, decimal}
-use Rattle.mls_lexer.specs.declared.token.Kind.{Kind}
-use Rattle.mls_lexer.specs.Tokens.{line_of, column_of}
+use Rattle.std.specs.Prelude.{ℕ, List, [], ◌++◌, codes, decimal}
 use Rattle.mls_syntax.specs.declared.parse.Fault.{Fault}
 use Rattle.mls_syntax.specs.declared.parse.Fault.TheVariants.{BadByte, BigNumber, Unexpected, Ended, TooDeep, DuplicateBinding, DuplicateLabel, DuplicateImport, UnknownName, NotBuilt, Memory}
 

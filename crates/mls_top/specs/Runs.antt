@@ -1,12 +1,11 @@
 -- What a run of the program does to its store and its sink.
-use Rattle.std.specs.Prelude.{◌≡◌, ◌⊎◌, ℕ, List, map, string_bytes, Ok, Some}
+use Rattle.std.specs.Prelude.{◌≡◌, ◌⊎◌, ℕ, List, Ok, Some}
 use Rattle.mls_base.specs.Files.{Files}
-use Rattle.mls_io.specs.Counts.{Rose}
 use Rattle.mls_io.specs.Sinks.{Written, Adds, TakesNone}
 use Rattle.mls_syntax.specs.declared.module.Module.{Module}
 use Rattle.mls_syntax.specs.Modules.{IsPlainModuleOf}
 use Rattle.mls_top.specs.declared.status.Status.{Status}
-use Rattle.mls_top.specs.declared.status.Status.TheVariants.{Done, WriteFault, Memory, Usage}
+use Rattle.mls_top.specs.declared.status.Status.TheVariants.{Memory, Usage}
 use Rattle.mls_top.specs.Answers.{IsAnswer, IsFrontOfAnswer}
 use Rattle.mls_top.specs.Commands.{command_of}
 use Rattle.mls_top.specs.declared.command.Command.TheVariants.{Infer}

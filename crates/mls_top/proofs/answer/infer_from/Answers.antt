@@ -1,4 +1,4 @@
-use Rattle.std.proofs.Common.{rules, ◌≡◌}
+use Rattle.std.proofs.Common.{rules}
 use Rattle.mls_top.proofs.Inferring.{answer_of_text, answer_of_stop}
 use Rattle.mls_top.proofs.answer.infer_from.Goals as goal
 

@@ -1,4 +1,4 @@
-use Rattle.std.proofs.Common.{rules, ◌≡◌}
+use Rattle.std.proofs.Common.{rules}
 use Rattle.mls_top.proofs.Inferring.{faulty_is_inferred}
 use Rattle.mls_top.proofs.infer.bad_text.Goals as goal
 

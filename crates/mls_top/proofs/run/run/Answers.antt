@@ -1,4 +1,4 @@
-use Rattle.std.proofs.Common.{rules, ◌≡◌, refl}
+use Rattle.std.proofs.Common.{rules, refl}
 use Rattle.mls_top.proofs.Running.{answered, cut, memory, usage_answer, command_answer, complete}
 use Rattle.mls_top.proofs.run.run.Goals as goal
 

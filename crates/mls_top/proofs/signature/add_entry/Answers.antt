@@ -1,4 +1,4 @@
-use Rattle.std.proofs.Common.{rules, ◌≡◌}
+use Rattle.std.proofs.Common.{rules}
 use Rattle.mls_top.proofs.Entries.{entry_added}
 use Rattle.mls_top.proofs.signature.add_entry.Goals as goal
 
