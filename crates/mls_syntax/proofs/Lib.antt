@@ -7,7 +7,9 @@ pub mod Failures
 pub mod Metatheory
 pub mod MovedDerivations
 pub mod OneModule
+pub mod OnePhrase
 pub mod OneReading
+pub mod OneTree
 pub mod PlainPhrases
 pub mod ReadBindings
 pub mod ReadModules

@@ -2,6 +2,7 @@ pub mod Built
 pub mod Chains
 pub mod Derivations
 pub mod Faults
+pub mod GrammarLaws
 pub mod Laws
 pub mod Modules
 pub mod Nodes
