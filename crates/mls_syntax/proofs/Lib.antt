@@ -4,6 +4,10 @@ pub mod Closed
 pub mod Environments
 pub mod Expressions
 pub mod Failures
+pub mod GrammarGoing
+pub mod GrammarMachine
+pub mod GrammarNesting
+pub mod GrammarStops
 pub mod Metatheory
 pub mod MovedDerivations
 pub mod OneModule

@@ -2,6 +2,7 @@ pub mod Built
 pub mod Chains
 pub mod Derivations
 pub mod Faults
+pub mod GrammarFaults
 pub mod GrammarLaws
 pub mod Laws
 pub mod Modules
