@@ -1,14 +1,14 @@
 -- The machine knows the nesting of the expression that begins at a terminal, so all modules with the terminals up to it agree on it.
-use Rattle.std.proofs.Common.{◌≡◌, ℕ, zero, suc, ◌+◌, ◌<◌, ◌≤◌, Bool, true, false, List, [], ◌∷◌, ◌++◌, length, take, drop, refl, sym, ap, ◌∙◌, subst, arith, Some, None}
+use Rattle.std.proofs.Common.{◌≡◌, ℕ, zero, suc, ◌+◌, ◌<◌, ◌≤◌, Bool, true, false, List, [], ◌∷◌, ◌++◌, length, take, drop, refl, sym, ap, ◌∙◌, arith, Some, None}
 use Rattle.std.specs.Prelude.{Option, slice_get, max}
 use Rattle.std.proofs.Math.Nat.{le-max_left, le-max_right}
 use Rattle.std.proofs.lemmas.List.{take-append-drop, length-take-le}
 use Rattle.mls_lexer.specs.declared.token.Kind.TheVariants as kind
-use Rattle.mls_lexer.specs.Tokens.{Terminal, name, number, word}
-use Rattle.mls_lexer.proofs.Machine.{run, step}
-use Rattle.mls_syntax.specs.Phrases.{Sort, source, imports, bindings, bind_rest, expr, let_rest, compare_tail, sum, sum_tail, product, product_tail, apply, arguments, post, dots, atom, parts, more_parts, Phrase, whole, no_import, importing, no_binding, binding, simple, recursive, fun, fix, local, choice, plain, simple_in, recursive_in, no_compare, less, equal, summed, no_sum, plus, minus, multiplied, no_product, times, applied, no_argument, argument, posted, no_dot, dot, variable, literal, truth, parens, braces, no_part, first_part, last_part, next_part, yields, nesting}
+use Rattle.mls_lexer.specs.Tokens.{Terminal, word}
+use Rattle.mls_lexer.proofs.Machine.{step}
+use Rattle.mls_syntax.specs.Phrases.{Sort, source, imports, bindings, bind_rest, expr, compare_tail, sum, sum_tail, product, product_tail, apply, arguments, post, dots, atom, more_parts, Phrase, whole, no_import, importing, no_binding, binding, simple, recursive, fun, fix, local, choice, plain, simple_in, recursive_in, no_compare, less, equal, summed, no_sum, plus, minus, multiplied, no_product, times, applied, no_argument, argument, posted, no_dot, dot, variable, literal, truth, parens, braces, no_part, first_part, last_part, next_part, yields, nesting}
 use Rattle.mls_syntax.specs.GrammarFaults.{begin_first, nestings, IsDeepAt}
-use Rattle.mls_syntax.proofs.GrammarMachine.{Part, a, the_name, the_equals, the_arrow, the_then, the_else, the_in, the_paren, opens, may_end, start, End, behind_imports, may_compare, compared, tails, end_of, before, left}
+use Rattle.mls_syntax.proofs.GrammarMachine.{Part, a, the_then, the_else, the_in, the_paren, opens, may_end, start, End, behind_imports, may_compare, compared, tails, end_of, before, left}
 
 -- the nesting of the expression that a part is, and 0 for any other part
 abbrev pub own : Part → ℕ

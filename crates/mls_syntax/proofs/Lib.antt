@@ -1,9 +1,11 @@
 pub mod ChainNodes
 pub mod ChainTerms
 pub mod Closed
+pub mod Distinct
 pub mod Environments
 pub mod Expressions
 pub mod Failures
+pub mod FirstStops
 pub mod GrammarGoing
 pub mod GrammarMachine
 pub mod GrammarNesting

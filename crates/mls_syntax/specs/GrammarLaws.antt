@@ -6,6 +6,7 @@ use Rattle.mls_syntax.specs.declared.parse.Fault.{Fault}
 use Rattle.mls_syntax.specs.Trees.{SourceTree}
 use Rattle.mls_syntax.specs.Modules.{IsTextOf}
 use Rattle.mls_syntax.specs.GrammarFaults.{HasGrammarFault}
+use Rattle.mls_syntax.specs.FirstFaults.{HasFirstFault}
 
 -- a text is a module of one tree
 abbrev pub OneTree : Type 0
@@ -20,3 +21,11 @@ NoGrammarFault =
 -- tokens have one fault of the grammar at most
 abbrev pub OneGrammarFault : Type 0
 OneGrammarFault = (text : List ℕ) (tokens : List Token) (fault other : Fault) → HasGrammarFault text tokens fault → HasGrammarFault text tokens other → fault ≡ other
+
+-- a text that is a module has no fault before its names are looked at
+abbrev pub NoFaultBesideATree : Type 0
+NoFaultBesideATree = (text : List ℕ) (tree : SourceTree) (fault : Fault) → IsTextOf text tree → HasFirstFault text fault → ⊥
+
+-- a text has one such first fault at most
+abbrev pub OneFaultBeforeNames : Type 0
+OneFaultBeforeNames = (text : List ℕ) (fault other : Fault) → HasFirstFault text fault → HasFirstFault text other → fault ≡ other

@@ -1,5 +1,6 @@
 //! Laws of the grammar of modules, each the contract of a function that does nothing.
 ghost use Rattle.mls_syntax.specs.GrammarLaws.{OneTree, NoGrammarFault, OneGrammarFault};
+ghost use Rattle.mls_syntax.specs.GrammarLaws.{NoFaultBesideATree, OneFaultBeforeNames};
 
 /// A text is a module of one tree at most.
 pub fn one_tree()
@@ -14,4 +15,14 @@ pub fn no_grammar_fault()
 /// Tokens have one fault of the grammar at most.
 pub fn one_grammar_fault()
     ensures { OneGrammarFault }
+{}
+
+/// A text that is a module has no fault before its names are looked at.
+pub fn no_fault_beside_a_tree()
+    ensures { NoFaultBesideATree }
+{}
+
+/// A text has one such first fault at most.
+pub fn one_fault_before_names()
+    ensures { OneFaultBeforeNames }
 {}
