@@ -1,7 +1,11 @@
 pub mod Built
 pub mod Chains
 pub mod Derivations
+pub mod Doubles
 pub mod Faults
+pub mod FirstFaults
+pub mod GrammarFaults
+pub mod GrammarLaws
 pub mod Laws
 pub mod Modules
 pub mod Nodes
