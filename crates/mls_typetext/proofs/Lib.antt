@@ -11,3 +11,5 @@ pub mod StopLaws
 pub mod TypeMachine
 pub mod TypeGoing
 pub mod TypeStops
+pub mod StackSteps
+pub mod TypeEnds

@@ -6,4 +6,6 @@ pub mod Schemes
 pub mod Values
 pub mod Texts
 pub mod Stops
+pub mod Parts
+pub mod Stacks
 pub mod Laws
