@@ -13,3 +13,5 @@ pub mod TypeGoing
 pub mod TypeStops
 pub mod StackSteps
 pub mod TypeEnds
+pub mod Emitted
+pub mod WholeTexts

@@ -1,5 +1,6 @@
 pub mod Phrases
 pub mod Trees
+pub mod Pieces
 pub mod Faults
 pub mod Books
 pub mod Schemes
