@@ -15,3 +15,5 @@ pub mod StackSteps
 pub mod TypeEnds
 pub mod Emitted
 pub mod WholeTexts
+pub mod Builds
+pub mod Placed
