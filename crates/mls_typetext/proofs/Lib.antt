@@ -11,3 +11,9 @@ pub mod StopLaws
 pub mod TypeMachine
 pub mod TypeGoing
 pub mod TypeStops
+pub mod StackSteps
+pub mod TypeEnds
+pub mod Emitted
+pub mod WholeTexts
+pub mod Builds
+pub mod Placed

@@ -5,7 +5,8 @@ use Rattle.mls_lexer.specs.declared.token.Kind.TheVariants as kind
 use Rattle.mls_lexer.specs.Tokens.{Terminal, name, word}
 use Rattle.mls_lexer.proofs.Machine.{run, can_end, onward, run-append, Phrases, spell, some_phrases, OpensSoundly, ReadsSoundly, IsSound, run-sound, empty_phrases}
 use Rattle.mls_typetext.specs.Phrases.{whole, codomain, join, join_tail, meet, meet_tail, atom, fields, more_fields, Phrase, recursive, joined, no_codomain, to, joins, no_join, or, meets, no_meet, and, named, boolean, integer, top, bot, parens, braces, no_field, first_field, last_field, next_field, yields}
-use Rattle.mls_typetext.proofs.TypeMachine.{Part, a, the_name, the_dot, the_colon, the_paren, atom_opens, opens, may_end, read, left, reads}
+use Rattle.mls_typetext.specs.Parts.{Part, a, the_name, the_dot, the_colon, the_paren, atom_opens, opens, may_end}
+use Rattle.mls_typetext.proofs.TypeMachine.{read, left, reads}
 
 -- phrases of parts, and what they spell
 abbrev pub PhraseOf : Part → Type 0

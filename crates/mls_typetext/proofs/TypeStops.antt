@@ -7,7 +7,8 @@ use Rattle.mls_lexer.proofs.Machine.{run, step, onward, can_end, run-append}
 use Rattle.mls_typetext.specs.declared.scheme.TypeFault.TheVariants.{Unexpected, Ended}
 use Rattle.mls_typetext.specs.Phrases.{whole}
 use Rattle.mls_typetext.specs.Stops.{IsType, IsFurthest, EndsBefore, HasStop, stops_before, stops_at_end}
-use Rattle.mls_typetext.proofs.TypeMachine.{Part, a, opens, may_end, read, left}
+use Rattle.mls_typetext.specs.Parts.{Part, a, opens, may_end}
+use Rattle.mls_typetext.proofs.TypeMachine.{read, left}
 use Rattle.mls_typetext.proofs.TypeGoing.{IsThere, begins-read, read-begins, type-read, read-type}
 
 -- the machine has read the first n terminals and this is left to come

@@ -1,9 +1,12 @@
 pub mod Phrases
 pub mod Trees
+pub mod Pieces
 pub mod Faults
 pub mod Books
 pub mod Schemes
 pub mod Values
 pub mod Texts
 pub mod Stops
+pub mod Parts
+pub mod Stacks
 pub mod Laws

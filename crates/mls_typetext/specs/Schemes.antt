@@ -1,5 +1,5 @@
 -- The schemes of the environment of a binding.
-use Rattle.std.specs.Prelude.{ℕ, List, [], ◌∷◌, ◌++◌, map}
+use Rattle.std.specs.Prelude.{List, [], ◌∷◌, ◌++◌, map}
 use Rattle.std.specs.FinMap as env
 use Rattle.mls_book.specs.Schemes.{Scheme}
 use Rattle.mls_typetext.specs.declared.scheme.ReadScheme.{ReadScheme}

@@ -1,8 +1,12 @@
 //! The texts of types: their grammar, their trees, their books and their faults.
 //!
-//! The crate says what the text of a type is read as and which fault it has, and has the laws of both. It has no
-//! function yet that reads a text.
+//! The crate says what the text of a type is read as and which fault it has, and has the laws of both. It tells where a
+//! type ends among tokens; it has no function yet that reads one.
 #![tactic(auto)]
 
+pub mod end;
 pub mod laws;
 pub mod scheme;
+
+pub use end::type_end;
+pub use scheme::{ReadScheme, TypeFault};

@@ -1,6 +1,10 @@
 //! What the text of a type is read as.
+ghost use Rattle.std.specs.Prelude.{◌≡◌};
+
+use mls_base::memory::Memory;
 use mls_book::book::{Book, NodeId};
 use mls_lexer::token::Kind;
+use std::alloc::AllocFailed;
 use thiserror::Error;
 
 /// What the text of a type is read as: the book of its tree, which is closed, its root, and how many variables it
@@ -42,4 +46,24 @@ pub enum TypeFault {
     /// Memory was wanting.
     #[error("out of memory")]
     Memory,
+}
+
+impl From<Memory> for TypeFault {
+    ghost use Rattle.mls_typetext.specs.declared.scheme.TypeFault.TheVariants.{Memory as WantOfMemory};
+
+    ghost from_gives = { λ _ fault. fault ≡ WantOfMemory };
+
+    fn from(_e: Memory) -> TypeFault {
+        TypeFault::Memory
+    }
+}
+
+impl<T: Drop> From<AllocFailed<T>> for TypeFault {
+    ghost use Rattle.mls_typetext.specs.declared.scheme.TypeFault.TheVariants.{Memory as WantOfMemory};
+
+    ghost from_gives = { λ _ fault. fault ≡ WantOfMemory };
+
+    fn from(_e: AllocFailed<T>) -> TypeFault {
+        TypeFault::Memory
+    }
 }

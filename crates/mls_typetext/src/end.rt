@@ -1,0 +1,294 @@
+//! How far a type goes among the tokens of a text.
+ghost use Rattle.std.specs.Prelude.{◌≡◌, ◌≢◌, ◌≤◌, length, IfOk, IfErr};
+ghost use Rattle.std.specs.List.{list_all};
+ghost use Rattle.mls_lexer.specs.Tokens.{IsTokens};
+ghost use Rattle.mls_typetext.specs.Stops.{EndsBefore, HasStop};
+ghost use Rattle.mls_typetext.specs.Parts.{may_end};
+ghost use Rattle.mls_typetext.specs.Stacks.{Behind, BehindAtom, BehindOne, Opened, Stepped, part_of};
+
+use crate::scheme::TypeFault;
+use mls_base::memory::Memory;
+use mls_lexer::token::{Kind, Token};
+use std::alloc::Global;
+
+// A part of a type that is still to come.
+#[derive(Clone, Copy)]
+enum Part {
+    Whole,
+    Codomain,
+    Join,
+    JoinTail,
+    Meet,
+    MeetTail,
+    Atom,
+    Fields,
+    MoreFields,
+    Name,
+    Dot,
+    Colon,
+    ParenRight,
+}
+
+// What is left to come behind a token, each with the next part last: `inner`, and below it `outer`.
+#[derive(Clone, Copy)]
+struct Rest {
+    outer: &'static [Part],
+    inner: &'static [Part],
+}
+
+// What a token did: a part began with it, or nothing has to come and none did, or what has to come cannot begin with it.
+#[derive(Clone, Copy)]
+enum Step {
+    Read,
+    Over,
+    Stuck,
+}
+
+/// The number of the first token after the type that begins at token `from`, which is the number of tokens if there is
+/// none; or the first token with which no type can go on; or that all tokens can go on and are no type. Of faults in
+/// the tree of the type it tells nothing. It takes no recursion, so types may be as deep as memory allows.
+pub fn type_end(
+    alloc: Global,
+    text: &[u8],
+    tokens: &[Token],
+    from: usize,
+) -> Result<usize, TypeFault>
+    requires tokens { IsTokens text.now tokens.now }
+    requires from { from ≤ length tokens.now }
+    ensures end { IfOk result (λ k. EndsBefore text.now tokens.now from k) }
+    ensures fault { IfErr result (λ fault. fault ≢ TypeFault.Memory → HasStop text.now tokens.now from fault) }
+{
+    let mut stack = Vec::new(alloc);
+    stack.push(Part::Whole)?;
+    for (count, token) in tokens[from..].iter().enumerate() {
+        match read_token(&mut stack, token.kind)? {
+            Step::Read => {}
+            Step::Over => return Ok(from + count),
+            Step::Stuck => return Err(TypeFault::Unexpected(token.start, token.kind)),
+        }
+    }
+    if can_end(&stack) {
+        Ok(tokens.len())
+    } else {
+        Err(TypeFault::Ended)
+    }
+}
+
+// Reads one token: takes the parts that may be empty off the stack up to one that begins with the token.
+fn read_token(stack: &mut Vec<Part>, kind: Kind) -> Result<Step, Memory>
+    ensures { IfOk result (λ step. Stepped kind stack.old.items stack.new.items step) }
+{
+    while let Some(part) = stack.pop() {
+        if begin(stack, part, kind)? {
+            return Ok(Step::Read);
+        }
+        if !may_end(part) {
+            return Ok(Step::Stuck);
+        }
+    }
+    Ok(Step::Over)
+}
+
+// Whether the part begins with a token of this kind: then what is left to come behind it is put on the stack.
+fn begin(stack: &mut Vec<Part>, part: Part, kind: Kind) -> Result<bool, Memory>
+    ensures { IfOk result (λ begun. Opened part kind stack.old.items stack.new.items begun) }
+{
+    match behind(part, kind) {
+        Some(rest) => {
+            stack.extend_from_slice(rest.outer)?;
+            stack.extend_from_slice(rest.inner)?;
+            Ok(true)
+        }
+        None => Ok(false),
+    }
+}
+
+// Whether all parts of the stack may be empty.
+fn can_end(stack: &[Part]) -> bool
+    ensures { result ≡ list_all (λ part. may_end (part_of part)) stack.now }
+{
+    stack.iter().all(|part| may_end(*part))
+}
+
+// Whether the part may be empty.
+fn may_end(part: Part) -> bool
+    ensures { result ≡ may_end (part_of part) }
+{
+    matches!(part, Part::Codomain | Part::JoinTail | Part::MeetTail)
+}
+
+// What is left to come behind a token of this kind, where the part begins with it.
+fn behind(part: Part, kind: Kind) -> Option<Rest>
+    ensures { Behind part kind result }
+{
+    match part {
+        Part::Whole => behind_whole(kind),
+        Part::Codomain => behind_one(kind, Kind::Arrow, &[Part::Whole]),
+        Part::Join => behind_atom(&[Part::JoinTail, Part::MeetTail], kind),
+        Part::JoinTail => behind_one(kind, Kind::Bar, &[Part::JoinTail, Part::Meet]),
+        Part::Meet => behind_atom(&[Part::MeetTail], kind),
+        Part::MeetTail => behind_one(kind, Kind::Amp, &[Part::MeetTail, Part::Atom]),
+        Part::Atom => behind_atom(&[], kind),
+        Part::Fields => behind_fields(kind),
+        Part::MoreFields => behind_more_fields(kind),
+        Part::Name => behind_one(kind, Kind::Name, &[]),
+        Part::Dot => behind_one(kind, Kind::Dot, &[]),
+        Part::Colon => behind_one(kind, Kind::Colon, &[]),
+        Part::ParenRight => behind_one(kind, Kind::ParenRight, &[]),
+    }
+}
+
+// The same for a part that begins with one kind of token alone.
+fn behind_one(kind: Kind, wanted: Kind, inner: &'static [Part]) -> Option<Rest>
+    ensures { BehindOne kind wanted inner.now result }
+{
+    if kind == wanted {
+        Some(Rest { outer: &[], inner })
+    } else {
+        None
+    }
+}
+
+// The same for a whole type.
+fn behind_whole(kind: Kind) -> Option<Rest>
+    ensures { Behind Part.Whole kind result }
+{
+    match kind {
+        Kind::WordRec => Some(Rest {
+            outer: &[],
+            inner: &[Part::Whole, Part::Dot, Part::Name],
+        }),
+        _ => behind_atom(&[Part::Codomain, Part::JoinTail, Part::MeetTail], kind),
+    }
+}
+
+// The same for an atom that these parts follow.
+fn behind_atom(outer: &'static [Part], kind: Kind) -> Option<Rest>
+    ensures { BehindAtom outer.now kind result }
+{
+    match kind {
+        Kind::Name => Some(Rest { outer, inner: &[] }),
+        Kind::WordBool => Some(Rest { outer, inner: &[] }),
+        Kind::WordInt => Some(Rest { outer, inner: &[] }),
+        Kind::WordTop => Some(Rest { outer, inner: &[] }),
+        Kind::WordBot => Some(Rest { outer, inner: &[] }),
+        Kind::ParenLeft => Some(Rest {
+            outer,
+            inner: &[Part::ParenRight, Part::Whole],
+        }),
+        Kind::BraceLeft => Some(Rest {
+            outer,
+            inner: &[Part::Fields],
+        }),
+        _ => None,
+    }
+}
+
+// The same for what stands behind the opening brace of a record.
+fn behind_fields(kind: Kind) -> Option<Rest>
+    ensures { Behind Part.Fields kind result }
+{
+    match kind {
+        Kind::BraceRight => Some(Rest {
+            outer: &[],
+            inner: &[],
+        }),
+        Kind::Name => Some(Rest {
+            outer: &[],
+            inner: &[Part::MoreFields, Part::Whole, Part::Colon],
+        }),
+        _ => None,
+    }
+}
+
+// The same for what stands behind a field.
+fn behind_more_fields(kind: Kind) -> Option<Rest>
+    ensures { Behind Part.MoreFields kind result }
+{
+    match kind {
+        Kind::BraceRight => Some(Rest {
+            outer: &[],
+            inner: &[],
+        }),
+        Kind::Comma => Some(Rest {
+            outer: &[],
+            inner: &[Part::MoreFields, Part::Whole, Part::Colon, Part::Name],
+        }),
+        _ => None,
+    }
+}
+
+#[cfg(test)]
+mod tests {
+    use super::*;
+    use mls_lexer::scan::tokens;
+    use std::alloc::AllocError;
+    use std::test::Fail;
+
+    // Where the type that begins at a token of the text ends, or what is wrong.
+    fn shown(alloc: Global, text: &[u8], from: usize) -> Result<String, AllocError> {
+        let mut line = String::new(alloc);
+        match tokens(alloc, text) {
+            Ok(found) => {
+                if from <= found.len() {
+                    match type_end(alloc, text, &found, from) {
+                        Ok(end) => write!(line, "{end}")?,
+                        Err(fault) => write!(line, "{fault:?}")?,
+                    }
+                }
+            }
+            Err(fault) => write!(line, "{fault:?}")?,
+        }
+        Ok(line)
+    }
+
+    #[test]
+    fn ends_before_the_first_token_that_cannot_go_on(rt: HostRuntime) -> Result<(), Fail> {
+        let cases: [(&[u8], usize, &str); 22] = [
+            (b"{a: int, a: int} int", 0, "9"),
+            (b"{a: int, a: int} int", 9, "10"),
+            (b"{a: int, a: int} int", 10, "Ended"),
+            (b"", 0, "Ended"),
+            (b"int ->", 0, "Ended"),
+            (b"int int", 0, "1"),
+            (b"-> int", 0, "Unexpected(0, Arrow)"),
+            (b"a -> b -> c & d | e)", 0, "9"),
+            (b"(a -> b) -> c", 0, "7"),
+            (b"(a -> b -> c", 0, "Ended"),
+            (b"(a}", 0, "Unexpected(2, BraceRight)"),
+            (b"rec a. {l: a | int} -> top", 0, "12"),
+            (b"int | rec a. a", 0, "Unexpected(6, WordRec)"),
+            (b"int & (rec a. a)", 0, "8"),
+            (b"rec rec", 0, "Unexpected(4, WordRec)"),
+            (b"rec a a", 0, "Unexpected(6, Name)"),
+            (b"{} {", 0, "2"),
+            (b"{} {", 2, "Ended"),
+            (b"{a: bool,}", 0, "Unexpected(9, BraceRight)"),
+            (b"{a = bot}", 0, "Unexpected(3, Equals)"),
+            (b"{a: top} b", 1, "2"),
+            (b"val x : int", 3, "4"),
+        ];
+        for (text, from, want) in cases {
+            let line = shown(rt.alloc(), text, from)?;
+            assert_eq!(rt; line.as_str(), want);
+        }
+        Ok(())
+    }
+
+    #[test]
+    fn goes_as_deep_as_memory_allows(rt: HostRuntime) -> Result<(), Fail> {
+        let mut text = Vec::new(rt.alloc());
+        for _ in 0..100_000 {
+            text.extend_from_slice(b"({l: ")?;
+        }
+        let open = shown(rt.alloc(), &text, 0)?;
+        assert_eq!(rt; open.as_str(), "Ended");
+        text.extend_from_slice(b"int")?;
+        for _ in 0..100_000 {
+            text.extend_from_slice(b"})")?;
+        }
+        let whole = shown(rt.alloc(), &text, 0)?;
+        assert_eq!(rt; whole.as_str(), "600001");
+        Ok(())
+    }
+}
