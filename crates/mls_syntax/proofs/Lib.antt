@@ -9,6 +9,7 @@ pub mod FirstStops
 pub mod GrammarGoing
 pub mod GrammarMachine
 pub mod GrammarNesting
+pub mod GrammarReads
 pub mod GrammarStops
 pub mod Metatheory
 pub mod MovedDerivations
