@@ -6,6 +6,7 @@ pub mod Environments
 pub mod Expressions
 pub mod Failures
 pub mod FirstStops
+mod GrammarExamples
 pub mod GrammarGoing
 pub mod GrammarMachine
 pub mod GrammarNesting
