@@ -12,6 +12,7 @@ pub mod GrammarMachine
 pub mod GrammarNesting
 pub mod GrammarReads
 pub mod GrammarStops
+pub mod GrammarTotal
 pub mod Metatheory
 pub mod MovedDerivations
 pub mod OneModule

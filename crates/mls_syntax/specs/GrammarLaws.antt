@@ -1,8 +1,9 @@
 -- The laws of the grammar of modules.
-use Rattle.std.specs.Prelude.{◌≡◌, ℕ, List}
+use Rattle.std.specs.Prelude.{◌≡◌, ◌⊎◌, ℕ, ◌≤◌, List, []}
 use Rattle.mls_lexer.specs.declared.token.Token.{Token}
-use Rattle.mls_lexer.specs.Tokens.{IsTokens}
+use Rattle.mls_lexer.specs.Tokens.{IsTokens, terminals}
 use Rattle.mls_syntax.specs.declared.parse.Fault.{Fault}
+use Rattle.mls_syntax.specs.Phrases.{Phrase, source, yields, nesting}
 use Rattle.mls_syntax.specs.Trees.{SourceTree}
 use Rattle.mls_syntax.specs.Modules.{IsTextOf}
 use Rattle.mls_syntax.specs.GrammarFaults.{HasGrammarFault}
@@ -21,6 +22,15 @@ NoGrammarFault =
 -- tokens have one fault of the grammar at most
 abbrev pub OneGrammarFault : Type 0
 OneGrammarFault = (text : List ℕ) (tokens : List Token) (fault other : Fault) → HasGrammarFault text tokens fault → HasGrammarFault text tokens other → fault ≡ other
+
+-- tokens are spelled by a phrase that is nested at most 200 deep, or have a fault of the grammar
+abbrev pub IsPhraseOrFault : List ℕ → List Token → Type 0
+IsPhraseOrFault text tokens =
+    ((p : Phrase source) × (yields p [] ≡ terminals text tokens) × (nesting p ≤ 200))
+    ⊎ ((fault : Fault) × HasGrammarFault text tokens fault)
+
+abbrev pub PhraseOrFault : Type 0
+PhraseOrFault = (text : List ℕ) (tokens : List Token) → IsPhraseOrFault text tokens
 
 -- a text that is a module has no fault before its names are looked at
 abbrev pub NoFaultBesideATree : Type 0

@@ -1,6 +1,6 @@
 //! Laws of the grammar of modules, each the contract of a function that does nothing.
 ghost use Rattle.mls_syntax.specs.GrammarLaws.{OneTree, NoGrammarFault, OneGrammarFault};
-ghost use Rattle.mls_syntax.specs.GrammarLaws.{NoFaultBesideATree, OneFaultBeforeNames};
+ghost use Rattle.mls_syntax.specs.GrammarLaws.{PhraseOrFault, NoFaultBesideATree, OneFaultBeforeNames};
 
 /// A text is a module of one tree at most.
 pub fn one_tree()
@@ -15,6 +15,11 @@ pub fn no_grammar_fault()
 /// Tokens have one fault of the grammar at most.
 pub fn one_grammar_fault()
     ensures { OneGrammarFault }
+{}
+
+/// Tokens are spelled by a phrase that is nested at most 200 deep, or have a fault of the grammar.
+pub fn phrase_or_fault()
+    ensures { PhraseOrFault }
 {}
 
 /// A text that is a module has no fault before its names are looked at.
