@@ -26,4 +26,5 @@ pub mod Refusals
 pub mod Resolving
 pub mod Rules
 pub mod TokensAt
+pub mod Undoubled
 pub mod Worked

@@ -39,3 +39,9 @@ NoFaultBesideATree = (text : List ℕ) (tree : SourceTree) (fault : Fault) → I
 -- a text has one such first fault at most
 abbrev pub OneFaultBeforeNames : Type 0
 OneFaultBeforeNames = (text : List ℕ) (fault other : Fault) → HasFirstFault text fault → HasFirstFault text other → fault ≡ other
+
+-- and a text that has tokens has one of the two: it is a module or has a first fault
+abbrev pub TreeOrFault : Type 0
+TreeOrFault =
+    (text : List ℕ) (tokens : List Token) → IsTokens text tokens
+    → ((tree : SourceTree) × IsTextOf text tree) ⊎ ((fault : Fault) × HasFirstFault text fault)
