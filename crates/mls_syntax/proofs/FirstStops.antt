@@ -1,7 +1,7 @@
 -- A text is a module or has one first fault before its names are looked at.
 use Rattle.std.proofs.Common.{◌≡◌, ◌⊎◌, inl, inr, ℕ, ◌≤◌, List, [], ◌∷◌, refl, sym, ap, ◌∙◌, subst}
 use Rattle.mls_lexer.specs.declared.token.Token.{Token}
-use Rattle.mls_lexer.specs.Tokens.{IsTokens, terminals}
+use Rattle.mls_lexer.specs.Tokens.{terminals}
 use Rattle.mls_lexer.proofs.Readings as lexer
 use Rattle.mls_syntax.specs.declared.parse.Fault.{Fault}
 use Rattle.mls_syntax.specs.Phrases.{Phrase, source, yields, nesting}

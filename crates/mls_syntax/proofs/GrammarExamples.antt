@@ -1,14 +1,13 @@
 -- Small modules and texts that are none, as examples of the definitions.
-use Rattle.std.proofs.Common.{◌≡◌, ℕ, List, [], ◌∷◌, refl, subst}
+use Rattle.std.proofs.Common.{◌≡◌, ℕ, List, [], ◌∷◌, refl}
 use Rattle.mls_lexer.specs.declared.token.Kind.TheVariants as kind
 use Rattle.mls_lexer.specs.Tokens.{Terminal, name, number, word}
 use Rattle.mls_lexer.proofs.Machine.{run}
 use Rattle.mls_syntax.specs.declared.parse.Fault.TheVariants.{DuplicateBinding, DuplicateLabel, DuplicateImport}
-use Rattle.mls_syntax.specs.Phrases.{source, bindings, expr, atom, more_parts, Phrase, whole, no_import, importing, no_binding, binding, simple, plain, summed, multiplied, applied, posted, no_compare, no_sum, no_product, no_argument, no_dot, literal, parens, braces, first_part, last_part, next_part, width}
+use Rattle.mls_syntax.specs.Phrases.{source, expr, atom, Phrase, whole, no_import, importing, no_binding, binding, simple, plain, summed, multiplied, applied, posted, no_compare, no_sum, no_product, no_argument, no_dot, literal, parens, braces, first_part, last_part, next_part, width}
 use Rattle.mls_syntax.specs.GrammarFaults.{CanGoOn, nestings}
 use Rattle.mls_syntax.specs.Doubles.{doubles}
-use Rattle.mls_syntax.proofs.GrammarMachine.{read, start}
-use Rattle.mls_syntax.proofs.GrammarGoing.{IsThere, going-read, read-going}
+use Rattle.mls_syntax.proofs.GrammarGoing.{going-read, read-going}
 
 abbrev operand : Phrase atom → Phrase expr
 operand x = plain (summed (multiplied (applied (posted x no_dot) no_argument) no_product) no_sum) no_compare

@@ -1,5 +1,5 @@
 -- Where the machine stops, or has an expression of nesting 201, the grammar has its fault: what a reader with a stack has to know.
-use Rattle.std.proofs.Common.{◌≡◌, ℕ, zero, suc, ◌<◌, ◌≤◌, Bool, true, false, List, [], ◌∷◌, ◌++◌, length, take, drop, refl, sym, ap, ◌∙◌, subst, arith, Some, None}
+use Rattle.std.proofs.Common.{◌≡◌, ℕ, zero, suc, ◌<◌, ◌≤◌, Bool, true, false, List, [], ◌∷◌, ◌++◌, length, take, drop, sym, ap, ◌∙◌, subst, arith, Some, None}
 use Rattle.std.specs.Prelude.{Option, slice_get}
 use Rattle.std.proofs.lemmas.List.{take-append-drop, length-take-le, length-map}
 use Rattle.std.proofs.lemmas.Option.{slice_get_within}
@@ -8,7 +8,7 @@ use Rattle.mls_lexer.specs.Tokens.{Terminal, terminal, terminals}
 use Rattle.mls_lexer.proofs.Machine.{run, step, chosen, onward, can_end, run-append}
 use Rattle.mls_syntax.specs.declared.parse.Fault.TheVariants.{Unexpected, Ended, TooDeep}
 use Rattle.mls_syntax.specs.Phrases.{Phrase, source, yields}
-use Rattle.mls_syntax.specs.GrammarFaults.{nestings, IsSource, CanGoOn, IsDeepAt, NoneDeepBefore, HasGrammarFault, unexpected, ended, too_deep}
+use Rattle.mls_syntax.specs.GrammarFaults.{nestings, IsDeepAt, NoneDeepBefore, HasGrammarFault, unexpected, ended, too_deep}
 use Rattle.mls_syntax.proofs.GrammarMachine.{Part, opens, may_end, read, start}
 use Rattle.mls_syntax.proofs.GrammarGoing.{IsThere, going-read, read-going, source-ends}
 use Rattle.mls_syntax.proofs.GrammarNesting.{own, picked, begun, further, marks, marked-source, marks-front}

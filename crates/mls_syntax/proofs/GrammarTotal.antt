@@ -1,5 +1,5 @@
 -- Tokens are spelled by a phrase that is nested at most 200 deep, or the grammar has a fault.
-use Rattle.std.proofs.Common.{◌≡◌, ◌⊎◌, inl, inr, ℕ, zero, suc, ◌+◌, ◌<◌, ◌≤◌, Bool, true, false, List, [], ◌∷◌, length, take, refl, sym, ap, ◌∙◌, subst, arith, Some, None}
+use Rattle.std.proofs.Common.{◌≡◌, ◌⊎◌, inl, inr, ℕ, zero, suc, ◌+◌, ◌<◌, ◌≤◌, Bool, true, false, List, [], ◌∷◌, length, take, refl, sym, ap, ◌∙◌, arith, Some, None}
 use Rattle.std.specs.Prelude.{Option, slice_get, max}
 use Rattle.std.proofs.Math.Nat.{max-eq_left, max-eq_right}
 use Rattle.std.proofs.lemmas.Bool.{cases_lt}
@@ -9,13 +9,13 @@ use Rattle.mls_lexer.specs.declared.token.Token.{Token}
 use Rattle.mls_lexer.specs.Tokens.{Terminal, terminal, terminals}
 use Rattle.mls_lexer.proofs.Machine.{run, step, onward, can_end}
 use Rattle.mls_syntax.specs.declared.parse.Fault.TheVariants.{Unexpected, Ended, TooDeep}
-use Rattle.mls_syntax.specs.Phrases.{imports, sum, atom, Phrase, source, whole, no_import, importing, no_binding, binding, simple, recursive, fun, fix, local, choice, plain, simple_in, recursive_in, no_compare, less, equal, summed, no_sum, plus, minus, multiplied, no_product, times, applied, no_argument, argument, posted, no_dot, dot, variable, literal, truth, parens, braces, no_part, first_part, last_part, next_part, Sort, yields, nesting}
+use Rattle.mls_syntax.specs.Phrases.{sum, atom, Phrase, source, whole, no_import, importing, no_binding, binding, simple, recursive, fun, fix, local, choice, plain, simple_in, recursive_in, no_compare, less, equal, summed, no_sum, plus, minus, multiplied, no_product, times, applied, no_argument, argument, posted, no_dot, dot, variable, literal, truth, parens, braces, no_part, first_part, last_part, next_part, Sort, nesting}
 use Rattle.mls_syntax.specs.GrammarFaults.{begin_first, nestings}
 use Rattle.mls_syntax.specs.GrammarLaws.{IsPhraseOrFault, PhraseOrFault}
 use Rattle.mls_syntax.proofs.GrammarMachine.{Part, opens, may_end, read, start}
 use Rattle.mls_syntax.proofs.GrammarGoing.{ends-source}
 use Rattle.mls_syntax.proofs.GrammarNesting.{further, marks, marked-source}
-use Rattle.mls_syntax.proofs.GrammarReads.{NoMarkBefore, has_unexpected, has_ended, has_too_deep}
+use Rattle.mls_syntax.proofs.GrammarReads.{has_unexpected, has_ended, has_too_deep}
 
 -- the number is one of these
 abbrev Has : ℕ → List ℕ → Type 0
