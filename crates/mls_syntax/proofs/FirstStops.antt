@@ -1,18 +1,21 @@
 -- A text is a module or has one first fault before its names are looked at.
-use Rattle.std.proofs.Common.{◌≡◌, ℕ, List, [], ◌∷◌, sym, ap, ◌∙◌, subst}
+use Rattle.std.proofs.Common.{◌≡◌, ◌⊎◌, inl, inr, ℕ, ◌≤◌, List, [], ◌∷◌, refl, sym, ap, ◌∙◌, subst}
 use Rattle.mls_lexer.specs.declared.token.Token.{Token}
 use Rattle.mls_lexer.specs.Tokens.{terminals}
 use Rattle.mls_lexer.proofs.Readings as lexer
 use Rattle.mls_syntax.specs.declared.parse.Fault.{Fault}
-use Rattle.mls_syntax.specs.Phrases.{Phrase, source, yields}
-use Rattle.mls_syntax.specs.Modules.{place_of, HasNoDoubles}
+use Rattle.mls_syntax.specs.Phrases.{Phrase, source, yields, nesting}
+use Rattle.mls_syntax.specs.Trees.{SourceTree, meaning}
+use Rattle.mls_syntax.specs.Modules.{place_of, HasNoDoubles, IsTextOf}
 use Rattle.mls_syntax.specs.GrammarFaults.{HasGrammarFault}
 use Rattle.mls_syntax.specs.Doubles.{doubles}
 use Rattle.mls_syntax.specs.FirstFaults.{of_tokens, HasFirstFault, in_tokens, in_grammar, in_doubles}
-use Rattle.mls_syntax.specs.GrammarLaws.{NoFaultBesideATree, OneFaultBeforeNames}
+use Rattle.mls_syntax.specs.GrammarLaws.{NoFaultBesideATree, OneFaultBeforeNames, IsPhraseOrFault, TreeOrFault}
 use Rattle.mls_syntax.proofs.OnePhrase.{one_phrase}
 use Rattle.mls_syntax.proofs.Distinct.{clean}
+use Rattle.mls_syntax.proofs.Undoubled.{undoubled}
 use Rattle.mls_syntax.proofs.GrammarStops.{one_grammar_fault, no_grammar_fault}
+use Rattle.mls_syntax.proofs.GrammarTotal.{phrase_or_fault}
 
 -- the same tokens are spelled by one phrase, which has one list of doubles
 one_list : (text : List ℕ) (tokens others : List Token) (p q : Phrase source) → tokens ≡ others → yields p [] ≡ terminals text tokens → yields q [] ≡ terminals text others → doubles (place_of tokens) [] 0 p ≡ doubles (place_of others) [] 0 q
@@ -53,3 +56,27 @@ one_fault_before_names text _ _ (in_doubles others has' p spelled shallow g late
     absurd (no_grammar_fault text others p f spelled shallow (subst (λ ts. HasGrammarFault text ts f) (lexer.one_reading text tokens others has has') h))
 one_fault_before_names text _ _ (in_doubles tokens has p spelled shallow f later e) (in_doubles others has' q spelled' shallow' g later' e') =
     first_fault f g later later' (sym e ∙ (one_list text tokens others p q (lexer.one_reading text tokens others has has') spelled spelled' ∙ e'))
+
+pub tree_or_fault : TreeOrFault
+tree_or_fault text tokens has = go (phrase_or_fault text tokens)
+  where
+    by_doubles : (p : Phrase source) → yields p [] ≡ terminals text tokens → nesting p ≤ 200 → (fs : List Fault) → doubles (place_of tokens) [] 0 p ≡ fs
+        → ((tree : SourceTree) × IsTextOf text tree) ⊎ ((fault : Fault) × HasFirstFault text fault)
+    by_doubles p is shallow [] e =
+        inl (
+          meaning (place_of tokens) 0 p,
+          record {
+            tokens = tokens;
+            has_tokens = has;
+            phrase = p;
+            spelled = is;
+            shallow = shallow;
+            meant = refl;
+            no_doubles = undoubled (place_of tokens) p [] 0 e;
+          },
+        )
+    by_doubles p is shallow (f ∷ later) e = inr (f, in_doubles tokens has p is shallow f later e)
+
+    go : IsPhraseOrFault text tokens → ((tree : SourceTree) × IsTextOf text tree) ⊎ ((fault : Fault) × HasFirstFault text fault)
+    go (inl it) = by_doubles it.0 it.1 it.2 (doubles (place_of tokens) [] 0 it.0) refl
+    go (inr it) = inr (it.0, in_grammar tokens has it.0 it.1)

@@ -220,7 +220,7 @@ unfolding marks
 marked-source p = marked p 0 (behind_imports 0) [] []
 
 -- a mark depends on the terminals up to its own alone
-marks-front : (us xs ys : List Terminal) (st : List Part) (k : ℕ) → k < length us → slice_get (marks st (us ++ xs)) k ≡ slice_get (marks st (us ++ ys)) k
+pub marks-front : (us xs ys : List Terminal) (st : List Part) (k : ℕ) → k < length us → slice_get (marks st (us ++ xs)) k ≡ slice_get (marks st (us ++ ys)) k
 unfolding marks
 marks-front [] xs ys st k low = absurd (omega arith)
 marks-front (u ∷ us) xs ys st zero low = refl

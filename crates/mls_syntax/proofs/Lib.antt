@@ -6,10 +6,13 @@ pub mod Environments
 pub mod Expressions
 pub mod Failures
 pub mod FirstStops
+mod GrammarExamples
 pub mod GrammarGoing
 pub mod GrammarMachine
 pub mod GrammarNesting
+pub mod GrammarReads
 pub mod GrammarStops
+pub mod GrammarTotal
 pub mod Metatheory
 pub mod MovedDerivations
 pub mod OneModule
@@ -23,4 +26,5 @@ pub mod Refusals
 pub mod Resolving
 pub mod Rules
 pub mod TokensAt
+pub mod Undoubled
 pub mod Worked

@@ -1,8 +1,9 @@
 -- The laws of the grammar of modules.
-use Rattle.std.specs.Prelude.{◌≡◌, ℕ, List}
+use Rattle.std.specs.Prelude.{◌≡◌, ◌⊎◌, ℕ, ◌≤◌, List, []}
 use Rattle.mls_lexer.specs.declared.token.Token.{Token}
-use Rattle.mls_lexer.specs.Tokens.{IsTokens}
+use Rattle.mls_lexer.specs.Tokens.{IsTokens, terminals}
 use Rattle.mls_syntax.specs.declared.parse.Fault.{Fault}
+use Rattle.mls_syntax.specs.Phrases.{Phrase, source, yields, nesting}
 use Rattle.mls_syntax.specs.Trees.{SourceTree}
 use Rattle.mls_syntax.specs.Modules.{IsTextOf}
 use Rattle.mls_syntax.specs.GrammarFaults.{HasGrammarFault}
@@ -22,6 +23,15 @@ NoGrammarFault =
 abbrev pub OneGrammarFault : Type 0
 OneGrammarFault = (text : List ℕ) (tokens : List Token) (fault other : Fault) → HasGrammarFault text tokens fault → HasGrammarFault text tokens other → fault ≡ other
 
+-- tokens are spelled by a phrase that is nested at most 200 deep, or have a fault of the grammar
+abbrev pub IsPhraseOrFault : List ℕ → List Token → Type 0
+IsPhraseOrFault text tokens =
+    ((p : Phrase source) × (yields p [] ≡ terminals text tokens) × (nesting p ≤ 200))
+    ⊎ ((fault : Fault) × HasGrammarFault text tokens fault)
+
+abbrev pub PhraseOrFault : Type 0
+PhraseOrFault = (text : List ℕ) (tokens : List Token) → IsPhraseOrFault text tokens
+
 -- a text that is a module has no fault before its names are looked at
 abbrev pub NoFaultBesideATree : Type 0
 NoFaultBesideATree = (text : List ℕ) (tree : SourceTree) (fault : Fault) → IsTextOf text tree → HasFirstFault text fault → ⊥
@@ -29,3 +39,9 @@ NoFaultBesideATree = (text : List ℕ) (tree : SourceTree) (fault : Fault) → I
 -- a text has one such first fault at most
 abbrev pub OneFaultBeforeNames : Type 0
 OneFaultBeforeNames = (text : List ℕ) (fault other : Fault) → HasFirstFault text fault → HasFirstFault text other → fault ≡ other
+
+-- and a text that has tokens has one of the two: it is a module or has a first fault
+abbrev pub TreeOrFault : Type 0
+TreeOrFault =
+    (text : List ℕ) (tokens : List Token) → IsTokens text tokens
+    → ((tree : SourceTree) × IsTextOf text tree) ⊎ ((fault : Fault) × HasFirstFault text fault)
