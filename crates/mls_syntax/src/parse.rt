@@ -84,7 +84,7 @@ impl<T: Drop> From<AllocFailed<T>> for Fault {
     }
 }
 
-/// So far a text without tokens is a text that is not built.
+/// So far a text that has no tokens is answered by `NotBuilt(0)`.
 impl From<LexFault> for Fault {
     ghost use Rattle.std.specs.Prelude.{◌≡◌};
     ghost use Rattle.mls_syntax.specs.Faults.{fault_of};

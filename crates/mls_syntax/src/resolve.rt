@@ -161,6 +161,7 @@ fn position(nodes: &[ExprNode], name: &Name) -> Option<usize>
 #[cfg(test)]
 mod tests {
     use super::*;
+    use crate::module::{Import, Imports, Part, Parts};
     use crate::parse::parse_module;
     use std::test::Fail;
 
@@ -206,11 +207,31 @@ mod tests {
             ),
         ];
         for (text, want) in cases {
-            match shown(rt.alloc(), text) {
-                Ok(line) => assert_eq!(rt; line.as_str(), want),
-                Err(fault) => assert_eq!(rt; fault, Fault::Memory),
-            }
+            let line = shown(rt.alloc(), text)?;
+            assert_eq!(rt; line.as_str(), want);
         }
+        Ok(())
+    }
+
+    #[test]
+    fn lists_take_what_is_pushed(rt: HostRuntime) -> Result<(), Fail> {
+        let alloc = rt.alloc();
+        let module = parse_module(alloc, b"let x = 1")?;
+        let mut imports = Imports::new(alloc);
+        let mut parts = Parts::new(alloc);
+        let mut names = NameList::new(alloc);
+        for binding in module.bindings.as_slice() {
+            imports.push(Import {
+                name: binding.name.clone()?,
+                at: binding.at,
+            })?;
+            parts.push(Part {
+                label: binding.name.clone()?,
+                child: 0,
+            })?;
+            names.push(binding.name.clone()?)?;
+        }
+        assert_eq!(rt; (imports.len(), parts.len(), names.len()), (1, 1, 1));
         Ok(())
     }
 }
