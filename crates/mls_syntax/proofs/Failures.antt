@@ -1,16 +1,15 @@
 -- An expression has no scheme where a part of it has none.
-use Rattle.std.proofs.Common.{◌≡◌, ℕ, suc, ◌+◌, List, [], ◌∷◌, ◌⊎◌, inl, inr, refl, subst}
-use Rattle.std.specs.Prelude.{Contains, All}
+use Rattle.std.proofs.Common.{◌≡◌, ℕ, suc, ◌+◌, List, subst}
+use Rattle.std.specs.Prelude.{Contains}
 use Rattle.std.specs.List.{AllByRecursion}
 use Rattle.std.proofs.lemmas.List.Elements.{All-contains, All-from_recursion}
 use Rattle.mls_book.specs.declared.book.Field.{Field}
-use Rattle.mls_book.specs.Schemes.{Scheme, IsScheme, Subsumes}
-use Rattle.mls_book.proofs.Subsumption.{Subsumes-refl}
+use Rattle.mls_book.specs.Schemes.{Scheme}
 use Rattle.mls_syntax.specs.Terms.{TermTree, TermFields, bound, inner, global, number, truth, fun, apply, make, project, choice, local, fix, no_field, a_field, before}
 use Rattle.mls_syntax.specs.Derivations.{Known, with_let, over, Derives, AllDerive, none, more, IsBest, HasNone}
 use Rattle.mls_syntax.specs.WellFormed.{early_parts, field_parts}
 use Rattle.mls_syntax.specs.TypingLaws.{AreSchemes}
-use Rattle.mls_syntax.proofs.Rules.{ByRule, ByFun, ByApply, ByMake, ByProject, ByChoice, ByLet, ByFix, Generated, generation}
+use Rattle.mls_syntax.proofs.Rules.{ByRule, ByLet, Generated, generation}
 use Rattle.mls_syntax.proofs.Metatheory.{AreSchemes-let, derived_scheme, IsMoreGeneral-refl, IsMoreGeneral-let, more_general_derives}
 
 -- a part has a scheme

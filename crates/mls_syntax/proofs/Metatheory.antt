@@ -1,16 +1,15 @@
 -- What holds of all derivations.
-use Rattle.std.proofs.Common.{◌≡◌, ℕ, Bool, true, false, List, refl, sym, ap, ◌∙◌, subst, Option, Some, None, slice_get, cond}
+use Rattle.std.proofs.Common.{◌≡◌, ℕ, Bool, true, false, List, refl, sym, subst, Option, Some, cond}
 use Rattle.std.specs.FinMap as env
 use Rattle.std.specs.FinMap.{FinMap, get-insert}
 use Rattle.std.specs.Ordering.{nat_cmp, eq_by_cmp}
 use Rattle.std.proofs.lemmas.Cmp.{nat_cmp_total}
 use Rattle.mls_book.specs.declared.book.Field.{Field}
 use Rattle.mls_book.specs.Schemes.{Scheme, IsScheme, Subsumes, AreEquivalent}
-use Rattle.mls_book.proofs.Subsumption.{Subsumes-refl, Subsumes-trans, Equivalent-moved}
-use Rattle.mls_syntax.specs.Terms.{TermTree, TermFields, local}
+use Rattle.mls_book.proofs.Subsumption.{Subsumes-refl, Subsumes-trans}
+use Rattle.mls_syntax.specs.Terms.{TermTree, TermFields}
 use Rattle.mls_syntax.specs.Derivations.{Known, with_let, over, Derives, var_inner, var_global, var_fun, lit_truth, lit_number, abs, app, rcd, proj, cond as if_else, let_in, rec_fix, sub, AllDerive, none, more, IsBest, HasNone}
 use Rattle.mls_syntax.specs.TypingLaws.{AreSchemes, IsMoreGeneral}
-use Rattle.mls_syntax.proofs.Rules.{Generated, generation}
 
 -- every instance of a derivable scheme is derivable
 pub Derives-instance : (known : Known) (t : TermTree) (s u : Scheme) → Derives known t s → Subsumes s u → IsScheme u → Derives known t u

@@ -1,9 +1,7 @@
 -- A derivation moves to a longer book, to another book that holds the same values, to other variables, and to a smaller environment.
-use Rattle.std.proofs.Common.{◌≡◌, ℕ, ◌<◌, true, List, Option, Some, None}
-use Rattle.std.specs.FinMap as env
+use Rattle.std.proofs.Common.{◌≡◌, ℕ, true, List}
 use Rattle.mls_book.specs.declared.book.Node.{Node}
 use Rattle.mls_book.specs.Books.{IsClosedBook}
-use Rattle.mls_book.specs.Predicates.{Implies}
 use Rattle.mls_book.specs.Passes.{passes}
 use Rattle.mls_book.specs.Schemes.{Scheme, IsScheme}
 use Rattle.mls_book.proofs.LongerBooks.{Extends, Holds}

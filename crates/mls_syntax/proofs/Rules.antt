@@ -1,5 +1,5 @@
 -- Generation: a derivation is a rule of the expression's form, and then a subsumption.
-use Rattle.std.proofs.Common.{◌≡◌, ◌⊎◌, inl, inr, ℕ, Bool, List, [], ◌∷◌, refl, sym, ap, ◌∙◌, subst, Option, Some, None, slice_get}
+use Rattle.std.proofs.Common.{◌≡◌, ℕ, List, [], ◌∷◌, refl, sym, subst, Some, slice_get}
 use Rattle.std.specs.FinMap as env
 use Rattle.mls_book.specs.declared.book.Field.{Field}
 use Rattle.mls_book.specs.declared.book.NodeId.{NodeId}

@@ -1,7 +1,7 @@
 -- The rules of typing: which schemes an expression has. The rules are those of Dolan and Mycroft, Polymorphism, Subtyping, and Type
 -- Inference in MLsub, 2017, in their reformulated form, where a scheme carries the types of the binders that it needs. The literals
 -- of numbers and the rule of recursion are this project's own.
-use Rattle.std.specs.Prelude.{◌≡◌, ◌⊎◌, ◌↔◌, ℕ, suc, ◌+◌, Bool, List, [], ◌∷◌, length, slice_get, Contains, IsSome, Option, Some, None}
+use Rattle.std.specs.Prelude.{◌≡◌, ◌⊎◌, ◌↔◌, ℕ, Bool, List, [], ◌∷◌, slice_get, Contains, IsSome, Option, Some, None}
 use Rattle.std.specs.FinMap as env
 use Rattle.std.specs.FinMap.{FinMap}
 use Rattle.std.specs.Ordering.{nat_cmp}

@@ -3,7 +3,7 @@ use Rattle.std.specs.Prelude.{◌≡◌, ℕ, slice_get, Some}
 use Rattle.std.specs.FinMap as env
 use Rattle.mls_book.specs.Schemes.{Scheme, IsScheme, Subsumes, AreEquivalent}
 use Rattle.mls_syntax.specs.Terms.{TermTree}
-use Rattle.mls_syntax.specs.Derivations.{Known, Derives, IsBest, HasNone}
+use Rattle.mls_syntax.specs.Derivations.{Known, Derives, IsBest}
 
 -- what is known are schemes
 pub record AreSchemes (known : Known) : Type 0 where
