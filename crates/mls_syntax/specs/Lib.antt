@@ -1,3 +1,4 @@
+pub mod Building
 pub mod Built
 pub mod Chains
 pub mod Derivations
@@ -10,9 +11,11 @@ pub mod Laws
 pub mod Modules
 pub mod Nodes
 pub mod Phrases
+pub mod Pieces
 pub mod Reads
 pub mod Resolution
 pub mod Terms
 pub mod Trees
+pub mod Told
 pub mod TypingLaws
 pub mod WellFormed
