@@ -5,7 +5,10 @@ use Rattle.mls_lexer.specs.Tokens.{Terminal, name, number, word}
 use Rattle.mls_syntax.specs.declared.module.Op.{Op}
 use Rattle.mls_syntax.specs.declared.module.Op.TheVariants as op
 use Rattle.mls_syntax.specs.Phrases.{Sort, source, imports, bindings, bind_rest, expr, let_rest, compare_tail, sum, sum_tail, product, product_tail, apply, arguments, post, dots, atom, parts, more_parts}
-use Rattle.mls_syntax.specs.Pieces.{Piece, name_piece, number_piece, truth_piece, fun_piece, fix_piece, let_piece, if_piece, apply_piece, make_piece, project_piece, binary_piece, last_piece, field_piece, import_piece, binding_piece, Event, imported, bound, labelled, opened, closed}
+use Rattle.mls_syntax.specs.declared.piece.Piece.{Piece}
+use Rattle.mls_syntax.specs.declared.piece.Piece.TheVariants as piece
+use Rattle.mls_syntax.specs.declared.piece.Event.{Event}
+use Rattle.mls_syntax.specs.declared.piece.Event.TheVariants as event
 
 -- A part of the grammar that is still to come, with the nesting of the nearest expression around it, or a piece that is told once what stands before it is over.
 -- Where a place is given it is that of the word with which the part began.
@@ -49,12 +52,12 @@ compare_row n at = a n dots ∷ arguments_of n at ∷ a n product_tail ∷ a n s
 
 -- where an atom can begin, with what comes behind it
 abbrev pub atom_acts : ℕ → List Todo → (at : ℕ) → Terminal → Option Act
-atom_acts n row at (name x) = act row (name_piece at x ∷ []) []
-atom_acts n row at (number value) = act row (number_piece at value ∷ []) []
-atom_acts n row at (word kind.WordTrue) = act row (truth_piece at true ∷ []) []
-atom_acts n row at (word kind.WordFalse) = act row (truth_piece at false ∷ []) []
+atom_acts n row at (name x) = act row (piece.Name at x ∷ []) []
+atom_acts n row at (number value) = act row (piece.Number at value ∷ []) []
+atom_acts n row at (word kind.WordTrue) = act row (piece.Truth at true ∷ []) []
+atom_acts n row at (word kind.WordFalse) = act row (piece.Truth at false ∷ []) []
 atom_acts n row at (word kind.ParenLeft) = act (a n expr ∷ the_paren ∷ row) [] []
-atom_acts n row at (word kind.BraceLeft) = act (a n parts ∷ tell (make_piece at) ∷ row) [] (opened ∷ [])
+atom_acts n row at (word kind.BraceLeft) = act (a n parts ∷ tell (piece.Make at) ∷ row) [] (event.Open ∷ [])
 atom_acts n row at _ = None
 
 abbrev pub imports_acts : (around : ℕ) → Terminal → Option Act
@@ -62,7 +65,7 @@ imports_acts n (word kind.WordImport) = act (the_import ∷ a n imports ∷ []) 
 imports_acts n _ = None
 
 abbrev pub import_acts : (at : ℕ) → Terminal → Option Act
-import_acts at (name x) = act [] (import_piece at x ∷ []) (imported at x ∷ [])
+import_acts at (name x) = act [] (piece.Import at x ∷ []) (event.Import at x ∷ [])
 import_acts at _ = None
 
 abbrev pub bindings_acts : (around : ℕ) → Terminal → Option Act
@@ -70,12 +73,12 @@ bindings_acts n (word kind.WordLet) = act (a n bind_rest ∷ []) [] []
 bindings_acts n _ = None
 
 abbrev pub bind_rest_acts : (around at : ℕ) → Terminal → Option Act
-bind_rest_acts n at (name x) = act (the_equals ∷ a n expr ∷ tell (binding_piece at x) ∷ a n bindings ∷ []) [] (bound at x ∷ [])
+bind_rest_acts n at (name x) = act (the_equals ∷ a n expr ∷ tell (piece.Binding at x) ∷ a n bindings ∷ []) [] (event.Binding at x ∷ [])
 bind_rest_acts n at (word kind.WordRec) = act (the_binding n at ∷ []) [] []
 bind_rest_acts n at _ = None
 
 abbrev pub binding_acts : (around rec_at at : ℕ) → Terminal → Option Act
-binding_acts n rec_at at (name x) = act (the_equals ∷ a n expr ∷ tell (fix_piece rec_at x) ∷ tell (binding_piece at x) ∷ a n bindings ∷ []) [] (bound at x ∷ [])
+binding_acts n rec_at at (name x) = act (the_equals ∷ a n expr ∷ tell (piece.Rec rec_at x) ∷ tell (piece.Binding at x) ∷ a n bindings ∷ []) [] (event.Binding at x ∷ [])
 binding_acts n rec_at at _ = None
 
 -- an expression in which this many others are, itself among them
@@ -83,38 +86,38 @@ abbrev pub expr_acts : (depth at : ℕ) → Terminal → Option Act
 expr_acts m at (word kind.WordFun) = act (the_fun m at ∷ []) [] []
 expr_acts m at (word kind.WordRec) = act (the_fix m at ∷ []) [] []
 expr_acts m at (word kind.WordLet) = act (let_of m at ∷ []) [] []
-expr_acts m at (word kind.WordIf) = act (a m expr ∷ the_then ∷ a m expr ∷ the_else ∷ a m expr ∷ tell (if_piece at) ∷ []) [] []
+expr_acts m at (word kind.WordIf) = act (a m expr ∷ the_then ∷ a m expr ∷ the_else ∷ a m expr ∷ tell (piece.If at) ∷ []) [] []
 expr_acts m at t = atom_acts m (compare_row m at) at t
 
 abbrev pub fun_acts : (around fun_at : ℕ) → Terminal → Option Act
-fun_acts n fun_at (name x) = act (the_arrow ∷ a n expr ∷ tell (fun_piece fun_at x) ∷ []) [] []
+fun_acts n fun_at (name x) = act (the_arrow ∷ a n expr ∷ tell (piece.Fun fun_at x) ∷ []) [] []
 fun_acts n fun_at _ = None
 
 abbrev pub fix_acts : (around rec_at : ℕ) → Terminal → Option Act
-fix_acts n rec_at (name x) = act (the_arrow ∷ a n expr ∷ tell (fix_piece rec_at x) ∷ []) [] []
+fix_acts n rec_at (name x) = act (the_arrow ∷ a n expr ∷ tell (piece.Rec rec_at x) ∷ []) [] []
 fix_acts n rec_at _ = None
 
 abbrev pub let_acts : (around let_at at : ℕ) → Terminal → Option Act
-let_acts n let_at at (name x) = act (the_equals ∷ a n expr ∷ the_in ∷ a n expr ∷ tell (let_piece let_at x) ∷ []) [] []
+let_acts n let_at at (name x) = act (the_equals ∷ a n expr ∷ the_in ∷ a n expr ∷ tell (piece.Let let_at x) ∷ []) [] []
 let_acts n let_at at (word kind.WordRec) = act (the_local n let_at at ∷ []) [] []
 let_acts n let_at at _ = None
 
 abbrev pub local_acts : (around let_at rec_at : ℕ) → Terminal → Option Act
-local_acts n let_at rec_at (name x) = act (the_equals ∷ a n expr ∷ tell (fix_piece rec_at x) ∷ the_in ∷ a n expr ∷ tell (let_piece let_at x) ∷ []) [] []
+local_acts n let_at rec_at (name x) = act (the_equals ∷ a n expr ∷ tell (piece.Rec rec_at x) ∷ the_in ∷ a n expr ∷ tell (piece.Let let_at x) ∷ []) [] []
 local_acts n let_at rec_at _ = None
 
 abbrev pub compare_tail_acts : (around at : ℕ) → Terminal → Option Act
-compare_tail_acts n at (word kind.Less) = act (a n sum ∷ tell (binary_piece at op.Less) ∷ []) [] []
-compare_tail_acts n at (word kind.DoubleEquals) = act (a n sum ∷ tell (binary_piece at op.Equal) ∷ []) [] []
+compare_tail_acts n at (word kind.Less) = act (a n sum ∷ tell (piece.Binary at op.Less) ∷ []) [] []
+compare_tail_acts n at (word kind.DoubleEquals) = act (a n sum ∷ tell (piece.Binary at op.Equal) ∷ []) [] []
 compare_tail_acts n at _ = None
 
 abbrev pub sum_tail_acts : (around at : ℕ) → Terminal → Option Act
-sum_tail_acts n at (word kind.Plus) = act (a n product ∷ tell (binary_piece at op.Plus) ∷ a n sum_tail ∷ []) [] []
-sum_tail_acts n at (word kind.Minus) = act (a n product ∷ tell (binary_piece at op.Minus) ∷ a n sum_tail ∷ []) [] []
+sum_tail_acts n at (word kind.Plus) = act (a n product ∷ tell (piece.Binary at op.Plus) ∷ a n sum_tail ∷ []) [] []
+sum_tail_acts n at (word kind.Minus) = act (a n product ∷ tell (piece.Binary at op.Minus) ∷ a n sum_tail ∷ []) [] []
 sum_tail_acts n at _ = None
 
 abbrev pub product_tail_acts : (around at : ℕ) → Terminal → Option Act
-product_tail_acts n at (word kind.Star) = act (a n apply ∷ tell (binary_piece at op.Times) ∷ a n product_tail ∷ []) [] []
+product_tail_acts n at (word kind.Star) = act (a n apply ∷ tell (piece.Binary at op.Times) ∷ a n product_tail ∷ []) [] []
 product_tail_acts n at _ = None
 
 abbrev pub dots_acts : (around : ℕ) → Terminal → Option Act
@@ -122,21 +125,21 @@ dots_acts n (word kind.Dot) = act (the_label ∷ a n dots ∷ []) [] []
 dots_acts n _ = None
 
 abbrev pub label_acts : (at : ℕ) → Terminal → Option Act
-label_acts at (name x) = act [] (project_piece at x ∷ []) []
+label_acts at (name x) = act [] (piece.Project at x ∷ []) []
 label_acts at _ = None
 
 abbrev pub parts_acts : (around at : ℕ) → Terminal → Option Act
-parts_acts n at (word kind.BraceRight) = act [] (last_piece ∷ []) (closed ∷ [])
-parts_acts n at (name x) = act (the_equals ∷ a n expr ∷ a n more_parts ∷ tell (field_piece x) ∷ []) [] (labelled at x ∷ [])
+parts_acts n at (word kind.BraceRight) = act [] (piece.Last ∷ []) (event.Close ∷ [])
+parts_acts n at (name x) = act (the_equals ∷ a n expr ∷ a n more_parts ∷ tell (piece.Field x) ∷ []) [] (event.Label at x ∷ [])
 parts_acts n at _ = None
 
 abbrev pub more_parts_acts : (around : ℕ) → Terminal → Option Act
-more_parts_acts n (word kind.BraceRight) = act [] (last_piece ∷ []) (closed ∷ [])
+more_parts_acts n (word kind.BraceRight) = act [] (piece.Last ∷ []) (event.Close ∷ [])
 more_parts_acts n (word kind.Comma) = act (the_part n ∷ []) [] []
 more_parts_acts n _ = None
 
 abbrev pub part_acts : (around at : ℕ) → Terminal → Option Act
-part_acts n at (name x) = act (the_equals ∷ a n expr ∷ a n more_parts ∷ tell (field_piece x) ∷ []) [] (labelled at x ∷ [])
+part_acts n at (name x) = act (the_equals ∷ a n expr ∷ a n more_parts ∷ tell (piece.Field x) ∷ []) [] (event.Label at x ∷ [])
 part_acts n at _ = None
 
 abbrev pub equals_acts : Terminal → Option Act
@@ -183,7 +186,7 @@ acts (a n dots) at t = dots_acts n t
 acts (a n atom) at t = atom_acts n [] at t
 acts (a n parts) at t = parts_acts n at t
 acts (a n more_parts) at t = more_parts_acts n t
-acts (arguments_of n apply_at) at t = atom_acts n (a n dots ∷ tell (apply_piece apply_at) ∷ arguments_of n apply_at ∷ []) at t
+acts (arguments_of n apply_at) at t = atom_acts n (a n dots ∷ tell (piece.Apply apply_at) ∷ arguments_of n apply_at ∷ []) at t
 acts (let_of n let_at) at t = let_acts n let_at at t
 acts the_import at t = import_acts at t
 acts (the_binding n rec_at) at t = binding_acts n rec_at at t

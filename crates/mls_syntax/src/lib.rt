@@ -5,6 +5,7 @@ pub mod grammar_laws;
 pub mod laws;
 pub mod module;
 pub mod parse;
+mod piece;
 pub mod resolve;
 pub mod term;
 pub mod typing_laws;
