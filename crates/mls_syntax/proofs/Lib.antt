@@ -2,10 +2,12 @@ pub mod ChainNodes
 pub mod ChainTerms
 pub mod Closed
 pub mod Distinct
+pub mod DoublesIn
 pub mod Environments
 pub mod Expressions
 pub mod Failures
 pub mod FirstStops
+pub mod GivenDoubles
 mod GrammarExamples
 pub mod GrammarGoing
 pub mod GrammarMachine

@@ -1,6 +1,7 @@
 //! Modules and their terms: the grammar, the tree of a text, and the meaning of names.
 #![tactic(auto)]
 
+mod doubles;
 pub mod grammar_laws;
 pub mod laws;
 pub mod module;
