@@ -6,81 +6,11 @@ use Rattle.mls_lexer.specs.declared.token.Kind.TheVariants as kind
 use Rattle.mls_lexer.specs.Tokens.{Terminal, name, word}
 use Rattle.mls_typetext.specs.Phrases.{Sort, whole, codomain, join, join_tail, meet, meet_tail, atom, fields, more_fields, Phrase, recursive, joined, no_codomain, to, joins, no_join, or, meets, no_meet, and, named, boolean, integer, top, bot, parens, braces, no_field, first_field, last_field, next_field, width}
 use Rattle.mls_typetext.specs.Trees.{meaning}
-use Rattle.mls_typetext.specs.Pieces.{postorder, Piece, name_piece, bool_piece, int_piece, top_piece, bot_piece, arrow_piece, join_piece, meet_piece, rec_piece, record_piece, last_piece, field_piece}
+use Rattle.mls_typetext.specs.declared.piece.Piece.{Piece}
+use Rattle.mls_typetext.specs.declared.piece.Piece.TheVariants as piece
+use Rattle.mls_typetext.specs.Pieces.{postorder}
+use Rattle.mls_typetext.specs.Building.{Todo, a, the_rec, the_field, the_dot, the_colon, the_paren, tell, Placed, acts, State, took, advance, build, last_told}
 use Rattle.mls_typetext.proofs.Emitted.{emitted, emitted-meaning}
-
--- a part of the grammar that is still to come, or a piece that is told once what stands before it is over
-pub data Todo : Type 0 where
-  a : Sort → Todo
-  the_rec the_field the_dot the_colon the_paren : Todo
-  tell : Piece → Todo
-
--- a terminal with its place
-abbrev pub Placed : Type 0
-Placed = ℕ × Terminal
-
--- what a part that begins with a terminal leaves to come, and the pieces that it tells at once
-pub record Act : Type 0 where
-  pub row : List Todo
-  pub told : List Piece
-
-abbrev act : List Todo → List Piece → Option Act
-act row told = Some (record { row = row; told = told })
-
-abbrev pub atom_acts : List Todo → ℕ → Terminal → Option Act
-atom_acts row at (name x) = act row (name_piece at x ∷ [])
-atom_acts row at (word kind.WordBool) = act row (bool_piece ∷ [])
-atom_acts row at (word kind.WordInt) = act row (int_piece ∷ [])
-atom_acts row at (word kind.WordTop) = act row (top_piece at ∷ [])
-atom_acts row at (word kind.WordBot) = act row (bot_piece at ∷ [])
-atom_acts row at (word kind.ParenLeft) = act (a whole ∷ the_paren ∷ row) []
-atom_acts row at (word kind.BraceLeft) = act (a fields ∷ tell record_piece ∷ row) []
-atom_acts row at _ = None
-
-abbrev pub acts : Todo → ℕ → Terminal → Option Act
-acts (a whole) at (word kind.WordRec) = act (the_rec ∷ []) []
-acts (a whole) at t = atom_acts (a meet_tail ∷ a join_tail ∷ a codomain ∷ []) at t
-acts (a codomain) at (word kind.Arrow) = act (a whole ∷ tell arrow_piece ∷ []) []
-acts (a join) at t = atom_acts (a meet_tail ∷ a join_tail ∷ []) at t
-acts (a join_tail) at (word kind.Bar) = act (a meet ∷ tell (join_piece at) ∷ a join_tail ∷ []) []
-acts (a meet) at t = atom_acts (a meet_tail ∷ []) at t
-acts (a meet_tail) at (word kind.Amp) = act (a atom ∷ tell (meet_piece at) ∷ a meet_tail ∷ []) []
-acts (a atom) at t = atom_acts [] at t
-acts (a fields) at (word kind.BraceRight) = act [] (last_piece ∷ [])
-acts (a fields) at (name x) = act (the_colon ∷ a whole ∷ a more_fields ∷ tell (field_piece at x) ∷ []) []
-acts (a more_fields) at (word kind.BraceRight) = act [] (last_piece ∷ [])
-acts (a more_fields) at (word kind.Comma) = act (the_field ∷ []) []
-acts the_rec at (name x) = act (the_dot ∷ a whole ∷ tell (rec_piece x) ∷ []) []
-acts the_field at (name x) = act (the_colon ∷ a whole ∷ a more_fields ∷ tell (field_piece at x) ∷ []) []
-acts the_dot at (word kind.Dot) = act [] []
-acts the_colon at (word kind.Colon) = act [] []
-acts the_paren at (word kind.ParenRight) = act [] []
-acts _ at t = None
-
--- what is to do, and what was told
-pub record State : Type 0 where
-  pub stack : List Todo
-  pub told : List Piece
-
-abbrev pub more : List Piece → List Piece → List Piece
-more out [] = out
-more out (piece ∷ pieces) = out ++ (piece ∷ pieces)
-
-abbrev pub took : Option Act → List Todo → List Piece → State → State
-took (Some it) st out later = record { stack = it.row ++ st; told = more out it.told }
-took None st out later = later
-
--- one terminal: what cannot begin with it is over
-abbrev pub advance : ℕ → Terminal → List Todo → List Piece → State
-advance at t [] out = record { stack = []; told = out }
-advance at t (tell piece ∷ st) out = advance at t st (out ++ piece ∷ [])
-advance at t (todo ∷ st) out = took (acts todo at t) st out (advance at t st out)
-
-unfoldable pub build : List Todo → List Piece → List Placed → State
-build st out [] = record { stack = st; told = out }
-build st out (u ∷ us) =
-    let next = advance u.0 u.1 st out in
-    build next.stack next.told us
 
 -- what a phrase spells, with the places of its terminals
 unfoldable pub spells : (place : ℕ → ℕ) → {s : Sort} → ℕ → Phrase s → List Placed → List Placed
@@ -278,10 +208,10 @@ unfolding build spells emitted
 builds place k (recursive x t) before out =
     let r = builds place (k + 3) t nothing out in
     record {
-      after = (r.after.0, r.after.1, r.after.2 ++ rec_piece x ∷ []);
+      after = (r.after.0, r.after.1, r.after.2 ++ piece.Rec x ∷ []);
       told = r.told;
-      goes = λ st ts. r.goes (tell (rec_piece x) ∷ st) ts ∙ ap (λ st. build st r.told ts) (left-whole r.after (rec_piece x) st);
-      sum = sum-whole r.told r.after.0 r.after.1 r.after.2 out (emitted place (k + 3) t) (rec_piece x ∷ []) r.sum;
+      goes = λ st ts. r.goes (tell (piece.Rec x) ∷ st) ts ∙ ap (λ st. build st r.told ts) (left-whole r.after (piece.Rec x) st);
+      sum = sum-whole r.told r.after.0 r.after.1 r.after.2 out (emitted place (k + 3) t) (piece.Rec x ∷ []) r.sum;
     }
 builds place k (joined j c) before out =
     let first = builds place k j nothing out in
@@ -303,17 +233,17 @@ builds place k (to t) before out =
     let y = before.1 in
     let r = builds place (k + 1) t nothing (out ++ x ++ y) in
     record {
-      after = (r.after.0, r.after.1, r.after.2 ++ arrow_piece ∷ []);
+      after = (r.after.0, r.after.1, r.after.2 ++ piece.Arrow ∷ []);
       told = r.told;
       goes = λ st ts.
           let u : Placed = (place k, word kind.Arrow) in
           let us : List Placed = spells place (k + 1) t ts in
           build-tells x u us (a meet_tail ∷ tells y (a join_tail ∷ a codomain ∷ st)) out
           ∙ (build-tells y u us (a join_tail ∷ a codomain ∷ st) (out ++ x)
-          ∙ (r.goes (tell arrow_piece ∷ st) ts ∙ ap (λ st. build st r.told ts) (left-whole r.after arrow_piece st)));
+          ∙ (r.goes (tell piece.Arrow ∷ st) ts ∙ ap (λ st. build st r.told ts) (left-whole r.after piece.Arrow st)));
       sum =
-          sum-whole r.told r.after.0 r.after.1 r.after.2 (out ++ x ++ y) (emitted place (k + 1) t) (arrow_piece ∷ []) r.sum
-          ∙ ap (λ o. o ++ (emitted place (k + 1) t ++ arrow_piece ∷ [])) (append_assoc out x y);
+          sum-whole r.told r.after.0 r.after.1 r.after.2 (out ++ x ++ y) (emitted place (k + 1) t) (piece.Arrow ∷ []) r.sum
+          ∙ ap (λ o. o ++ (emitted place (k + 1) t ++ piece.Arrow ∷ [])) (append_assoc out x y);
     }
 builds place k (joins m t) before out =
     let first = builds place k m nothing out in
@@ -335,7 +265,7 @@ builds place k (or m t) before out =
     let x = before.0 in
     let y = before.1 in
     let first = builds place (k + 1) m nothing (out ++ x ++ y) in
-    let second = builds place (k + 1 + width m) t (first.after.0, join_piece (place k) ∷ [], []) first.told in
+    let second = builds place (k + 1 + width m) t (first.after.0, piece.Join (place k) ∷ [], []) first.told in
     record {
       after = second.after;
       told = second.told;
@@ -344,11 +274,11 @@ builds place k (or m t) before out =
           let us : List Placed = spells place (k + 1) m (spells place (k + 1 + width m) t ts) in
           build-tells x u us (a meet_tail ∷ tells y (a join_tail ∷ st)) out
           ∙ (build-tells y u us (a join_tail ∷ st) (out ++ x)
-          ∙ (first.goes (tell (join_piece (place k)) ∷ a join_tail ∷ st) (spells place (k + 1 + width m) t ts) ∙ second.goes st ts));
+          ∙ (first.goes (tell (piece.Join (place k)) ∷ a join_tail ∷ st) (spells place (k + 1 + width m) t ts) ∙ second.goes st ts));
       sum =
           second.sum
-          ∙ (sum-operand first.told first.after.0 (out ++ x ++ y) (emitted place (k + 1) m) (emitted place (k + 1 + width m) t) (join_piece (place k)) first.sum
-          ∙ ap (λ o. o ++ (emitted place (k + 1) m ++ (join_piece (place k) ∷ emitted place (k + 1 + width m) t))) (append_assoc out x y));
+          ∙ (sum-operand first.told first.after.0 (out ++ x ++ y) (emitted place (k + 1) m) (emitted place (k + 1 + width m) t) (piece.Join (place k)) first.sum
+          ∙ ap (λ o. o ++ (emitted place (k + 1) m ++ (piece.Join (place k) ∷ emitted place (k + 1 + width m) t))) (append_assoc out x y));
     }
 builds place k (meets x t) before out =
     let first = builds place k x nothing out in
@@ -362,23 +292,23 @@ builds place k (meets x t) before out =
 builds place k no_meet before out = record { after = before; told = out; goes = λ st ts. refl; sum = sym (append-nil (out ++ before.0)) }
 builds place k (and x t) before out =
     let first = builds place (k + 1) x nothing (out ++ before.0) in
-    let second = builds place (k + 1 + width x) t (first.after.0 ++ meet_piece (place k) ∷ [], [], []) first.told in
+    let second = builds place (k + 1 + width x) t (first.after.0 ++ piece.Meet (place k) ∷ [], [], []) first.told in
     record {
       after = second.after;
       told = second.told;
       goes = λ st ts.
           let us : List Placed = spells place (k + 1) x (spells place (k + 1 + width x) t ts) in
           build-tells before.0 (place k, word kind.Amp) us (a meet_tail ∷ st) out
-          ∙ (first.goes (tell (meet_piece (place k)) ∷ a meet_tail ∷ st) (spells place (k + 1 + width x) t ts)
-          ∙ (ap (λ st. build st first.told (spells place (k + 1 + width x) t ts)) (tells-append first.after.0 (meet_piece (place k) ∷ []) (a meet_tail ∷ st))
+          ∙ (first.goes (tell (piece.Meet (place k)) ∷ a meet_tail ∷ st) (spells place (k + 1 + width x) t ts)
+          ∙ (ap (λ st. build st first.told (spells place (k + 1 + width x) t ts)) (tells-append first.after.0 (piece.Meet (place k) ∷ []) (a meet_tail ∷ st))
           ∙ second.goes st ts));
-      sum = second.sum ∙ sum-operand first.told first.after.0 (out ++ before.0) (emitted place (k + 1) x) (emitted place (k + 1 + width x) t) (meet_piece (place k)) first.sum;
+      sum = second.sum ∙ sum-operand first.told first.after.0 (out ++ before.0) (emitted place (k + 1) x) (emitted place (k + 1 + width x) t) (piece.Meet (place k)) first.sum;
     }
-builds place k (named x) before out = record { after = nothing; told = out ++ name_piece (place k) x ∷ []; goes = λ st ts. refl; sum = append-nil (out ++ name_piece (place k) x ∷ []) }
-builds place k boolean before out = record { after = nothing; told = out ++ bool_piece ∷ []; goes = λ st ts. refl; sum = append-nil (out ++ bool_piece ∷ []) }
-builds place k integer before out = record { after = nothing; told = out ++ int_piece ∷ []; goes = λ st ts. refl; sum = append-nil (out ++ int_piece ∷ []) }
-builds place k top before out = record { after = nothing; told = out ++ top_piece (place k) ∷ []; goes = λ st ts. refl; sum = append-nil (out ++ top_piece (place k) ∷ []) }
-builds place k bot before out = record { after = nothing; told = out ++ bot_piece (place k) ∷ []; goes = λ st ts. refl; sum = append-nil (out ++ bot_piece (place k) ∷ []) }
+builds place k (named x) before out = record { after = nothing; told = out ++ piece.Name (place k) x ∷ []; goes = λ st ts. refl; sum = append-nil (out ++ piece.Name (place k) x ∷ []) }
+builds place k boolean before out = record { after = nothing; told = out ++ piece.Bool ∷ []; goes = λ st ts. refl; sum = append-nil (out ++ piece.Bool ∷ []) }
+builds place k integer before out = record { after = nothing; told = out ++ piece.Int ∷ []; goes = λ st ts. refl; sum = append-nil (out ++ piece.Int ∷ []) }
+builds place k top before out = record { after = nothing; told = out ++ piece.Top (place k) ∷ []; goes = λ st ts. refl; sum = append-nil (out ++ piece.Top (place k) ∷ []) }
+builds place k bot before out = record { after = nothing; told = out ++ piece.Bot (place k) ∷ []; goes = λ st ts. refl; sum = append-nil (out ++ piece.Bot (place k) ∷ []) }
 builds place k (parens t) before out =
     let r = builds place (k + 1) t nothing out in
     record {
@@ -392,30 +322,30 @@ builds place k (parens t) before out =
 builds place k (braces f) before out =
     let r = builds place (k + 1) f nothing out in
     record {
-      after = (r.after.0 ++ record_piece ∷ [], [], []);
+      after = (r.after.0 ++ piece.Record ∷ [], [], []);
       told = r.told;
-      goes = λ st ts. r.goes (tell record_piece ∷ st) ts ∙ ap (λ st. build st r.told ts) (tells-append r.after.0 (record_piece ∷ []) st);
-      sum = sum-last r.told r.after.0 out (emitted place (k + 1) f) (record_piece ∷ []) r.sum;
+      goes = λ st ts. r.goes (tell piece.Record ∷ st) ts ∙ ap (λ st. build st r.told ts) (tells-append r.after.0 (piece.Record ∷ []) st);
+      sum = sum-last r.told r.after.0 out (emitted place (k + 1) f) (piece.Record ∷ []) r.sum;
     }
-builds place k no_field before out = record { after = nothing; told = out ++ last_piece ∷ []; goes = λ st ts. refl; sum = append-nil (out ++ last_piece ∷ []) }
+builds place k no_field before out = record { after = nothing; told = out ++ piece.Last ∷ []; goes = λ st ts. refl; sum = append-nil (out ++ piece.Last ∷ []) }
 builds place k (first_field label t f) before out =
     let rt = builds place (k + 2) t nothing out in
     let rf = builds place (k + 2 + width t) f rt.after rt.told in
-    let it = read_fields place (k + 2) (k + 2 + width t) t f out (field_piece (place k) label) rt rf in
+    let it = read_fields place (k + 2) (k + 2 + width t) t f out (piece.Field (place k) label) rt rf in
     record { after = it.0; told = it.1; goes = it.2; sum = it.3 }
 builds place k last_field before out =
     let o : List Piece = begun more_fields before out in
     record {
       after = nothing;
-      told = o ++ last_piece ∷ [];
+      told = o ++ piece.Last ∷ [];
       goes = λ st ts. close before (place k) (word kind.BraceRight) ts (a more_fields ∷ st) out refl refl refl;
-      sum = append-nil (o ++ last_piece ∷ []);
+      sum = append-nil (o ++ piece.Last ∷ []);
     }
 builds place k (next_field label t f) before out =
     let o : List Piece = begun more_fields before out in
     let rt = builds place (k + 3) t nothing o in
     let rf = builds place (k + 3 + width t) f rt.after rt.told in
-    let it = read_fields place (k + 3) (k + 3 + width t) t f o (field_piece (place (k + 1)) label) rt rf in
+    let it = read_fields place (k + 3) (k + 3 + width t) t f o (piece.Field (place (k + 1)) label) rt rf in
     record {
       after = it.0;
       told = it.1;
@@ -426,12 +356,6 @@ builds place k (next_field label t f) before out =
           ∙ it.2 st ts;
       sum = it.3;
     }
-
--- what is told when no terminal is left
-abbrev pub last_told : List Todo → List Piece → List Piece
-last_told [] out = out
-last_told (tell piece ∷ st) out = last_told st (out ++ piece ∷ [])
-last_told (todo ∷ st) out = last_told st out
 
 last_told-tells : (pieces : List Piece) (st : List Todo) (out : List Piece) → last_told (tells pieces st) out ≡ last_told st (out ++ pieces)
 last_told-tells [] st out = ap (last_told st) (sym (append-nil out))

@@ -1,6 +1,9 @@
 pub mod Phrases
 pub mod Trees
 pub mod Pieces
+pub mod Building
+pub mod Items
+pub mod Members
 pub mod Faults
 pub mod Books
 pub mod Schemes

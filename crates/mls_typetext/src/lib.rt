@@ -6,6 +6,7 @@
 
 pub mod end;
 pub mod laws;
+mod piece;
 pub mod scheme;
 
 pub use end::type_end;
