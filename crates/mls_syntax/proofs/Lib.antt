@@ -1,6 +1,8 @@
+pub mod Builds
 pub mod ChainNodes
 pub mod ChainTerms
 pub mod Closed
+pub mod Closing
 pub mod Distinct
 pub mod Environments
 pub mod Expressions
@@ -22,9 +24,11 @@ pub mod OneTree
 pub mod PlainPhrases
 pub mod ReadBindings
 pub mod ReadModules
+pub mod Reading
 pub mod Refusals
 pub mod Resolving
 pub mod Rules
+pub mod Spelled
 pub mod TokensAt
 pub mod Undoubled
 pub mod Worked
