@@ -21,6 +21,7 @@ pub mod OneModule
 pub mod OnePhrase
 pub mod OneReading
 pub mod OneTree
+pub mod Placed
 pub mod PlainPhrases
 pub mod ReadBindings
 pub mod ReadModules
@@ -29,6 +30,7 @@ pub mod Refusals
 pub mod Resolving
 pub mod Rules
 pub mod Spelled
+pub mod Telling
 pub mod TokensAt
 pub mod Undoubled
 pub mod Worked
