@@ -8,6 +8,7 @@ pub mod Environments
 pub mod Expressions
 pub mod Failures
 pub mod FirstStops
+pub mod GivenTwice
 mod GrammarExamples
 pub mod GrammarGoing
 pub mod GrammarMachine

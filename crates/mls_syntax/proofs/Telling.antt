@@ -94,18 +94,18 @@ emitted-meaning place at k (choice c e f) =
     let m = k + 2 + width c in
     let n = k + 3 + width c + width e in
     tells_if (place k) (meaning place (k + 1) c) (meaning place m e) (meaning place n f) (emitted place at (k + 1) c) (emitted place at m e) (emitted place at n f)
-        (emitted-meaning place at (k + 1) c) (emitted-meaning place at m e) (emitted-meaning place at n f) refl refl
+    (emitted-meaning place at (k + 1) c) (emitted-meaning place at m e) (emitted-meaning place at n f) refl refl
 emitted-meaning place at k (plain s t) = emitted-meaning place at (k + width s) t (meaning place k s) (emitted place at k s) (emitted-meaning place at k s)
 emitted-meaning place at k (simple_in x e f) =
     let n = k + 3 + width e in
     tells_let at x (meaning place (k + 2) e) (meaning place n f) (emitted place at (k + 2) e) (emitted place at n f)
-        (emitted-meaning place at (k + 2) e) (emitted-meaning place at n f) refl refl
+    (emitted-meaning place at (k + 2) e) (emitted-meaning place at n f) refl refl
 emitted-meaning place at k (recursive_in x e f) =
     let n = k + 4 + width e in
     let first = emitted place at (k + 3) e in
     tells_let at x (a_fix (place k) x (meaning place (k + 3) e)) (meaning place n f) (first ++ piece.Rec (place k) x ∷ []) (emitted place at n f)
-        (tells_fix (place k) x (meaning place (k + 3) e) first (emitted-meaning place at (k + 3) e) refl refl) (emitted-meaning place at n f)
-        (sym (append_assoc first (piece.Rec (place k) x ∷ []) (emitted place at n f ++ piece.Let at x ∷ []))) refl
+    (tells_fix (place k) x (meaning place (k + 3) e) first (emitted-meaning place at (k + 3) e) refl refl) (emitted-meaning place at n f)
+    (sym (append_assoc first (piece.Rec (place k) x ∷ []) (emitted place at n f ++ piece.Let at x ∷ []))) refl
 emitted-meaning place at k no_compare = none_behind
 emitted-meaning place at k (less s) = operand_behind (place k) op.Less (meaning place (k + 1) s) (λ left. left) (emitted place at (k + 1) s) [] (emitted-meaning place at (k + 1) s) none_behind
 emitted-meaning place at k (equal s) = operand_behind (place k) op.Equal (meaning place (k + 1) s) (λ left. left) (emitted place at (k + 1) s) [] (emitted-meaning place at (k + 1) s) none_behind
@@ -114,17 +114,17 @@ emitted-meaning place at k no_sum = none_behind
 emitted-meaning place at k (plus p t) =
     let n = k + 1 + width p in
     operand_behind (place k) op.Plus (meaning place (k + 1) p) (meaning place n t) (emitted place at (k + 1) p) (emitted place at n t)
-        (emitted-meaning place at (k + 1) p) (emitted-meaning place at n t)
+    (emitted-meaning place at (k + 1) p) (emitted-meaning place at n t)
 emitted-meaning place at k (minus p t) =
     let n = k + 1 + width p in
     operand_behind (place k) op.Minus (meaning place (k + 1) p) (meaning place n t) (emitted place at (k + 1) p) (emitted place at n t)
-        (emitted-meaning place at (k + 1) p) (emitted-meaning place at n t)
+    (emitted-meaning place at (k + 1) p) (emitted-meaning place at n t)
 emitted-meaning place at k (multiplied p t) = emitted-meaning place at (k + width p) t (meaning place k p) (emitted place at k p) (emitted-meaning place at k p)
 emitted-meaning place at k no_product = none_behind
 emitted-meaning place at k (times p t) =
     let n = k + 1 + width p in
     operand_behind (place k) op.Times (meaning place (k + 1) p) (meaning place n t) (emitted place at (k + 1) p) (emitted place at n t)
-        (emitted-meaning place at (k + 1) p) (emitted-meaning place at n t)
+    (emitted-meaning place at (k + 1) p) (emitted-meaning place at n t)
 emitted-meaning place at k (applied p m) =
     emitted-meaning place (place k) (k + width p) m (meaning place k p) (emitted place at k p) (emitted-meaning place at k p)
 emitted-meaning place at k no_argument = none_behind
@@ -143,12 +143,12 @@ emitted-meaning place at k no_part = tells_none refl refl
 emitted-meaning place at k (first_part label e p) =
     let n = k + 2 + width e in
     tells_part label (meaning place (k + 2) e) (meaning place n p) (emitted place at (k + 2) e) (emitted place at n p)
-        (emitted-meaning place at (k + 2) e) (emitted-meaning place at n p) refl refl
+    (emitted-meaning place at (k + 2) e) (emitted-meaning place at n p) refl refl
 emitted-meaning place at k last_part = tells_none refl refl
 emitted-meaning place at k (next_part label e p) =
     let n = k + 3 + width e in
     tells_part label (meaning place (k + 3) e) (meaning place n p) (emitted place at (k + 3) e) (emitted place at n p)
-        (emitted-meaning place at (k + 3) e) (emitted-meaning place at n p) refl refl
+    (emitted-meaning place at (k + 3) e) (emitted-meaning place at n p) refl refl
 
 -- so the pieces of a module tell its tree
 pub emitted-tells : (place : ℕ → ℕ) (at : ℕ) (p : Phrase source) → TellsSource (emitted place at 0 p) (meaning place 0 p)

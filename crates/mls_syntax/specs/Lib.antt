@@ -5,6 +5,7 @@ pub mod Derivations
 pub mod Doubles
 pub mod Faults
 pub mod FirstFaults
+pub mod GivenTwice
 pub mod GrammarFaults
 pub mod GrammarLaws
 pub mod Laws
