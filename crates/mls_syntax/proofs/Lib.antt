@@ -1,6 +1,8 @@
+pub mod Builds
 pub mod ChainNodes
 pub mod ChainTerms
 pub mod Closed
+pub mod Closing
 pub mod Distinct
 pub mod DoublesIn
 pub mod Environments
@@ -21,12 +23,16 @@ pub mod OneModule
 pub mod OnePhrase
 pub mod OneReading
 pub mod OneTree
+pub mod Placed
 pub mod PlainPhrases
 pub mod ReadBindings
 pub mod ReadModules
+pub mod Reading
 pub mod Refusals
 pub mod Resolving
 pub mod Rules
+pub mod Spelled
+pub mod Telling
 pub mod TokensAt
 pub mod Undoubled
 pub mod Worked

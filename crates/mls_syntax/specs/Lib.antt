@@ -16,7 +16,7 @@ pub mod Pieces
 pub mod Reads
 pub mod Resolution
 pub mod Terms
-pub mod Trees
 pub mod Told
+pub mod Trees
 pub mod TypingLaws
 pub mod WellFormed
