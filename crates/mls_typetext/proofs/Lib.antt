@@ -17,3 +17,4 @@ pub mod Emitted
 pub mod WholeTexts
 pub mod Builds
 pub mod Placed
+pub mod Pushed

@@ -4,6 +4,7 @@
 //! type ends among tokens; it has no function yet that reads one.
 #![tactic(auto)]
 
+mod bind;
 pub mod end;
 pub mod laws;
 mod piece;
