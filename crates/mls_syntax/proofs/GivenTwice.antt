@@ -5,7 +5,7 @@ use Rattle.mls_syntax.specs.declared.parse.Fault.{Fault}
 use Rattle.mls_syntax.specs.declared.parse.Fault.TheVariants.{DuplicateBinding, DuplicateLabel, DuplicateImport}
 use Rattle.mls_syntax.specs.declared.piece.Event.{Event}
 use Rattle.mls_syntax.specs.declared.piece.Event.TheVariants as event
-use Rattle.mls_syntax.specs.Phrases.{Sort, source, imports, bindings, bind_rest, expr, let_rest, compare_tail, sum, sum_tail, product, product_tail, apply, arguments, post, dots, atom, parts, more_parts, Phrase, whole, no_import, importing, no_binding, binding, simple, recursive, fun, fix, local, choice, plain, simple_in, recursive_in, no_compare, less, equal, summed, no_sum, plus, minus, multiplied, no_product, times, applied, no_argument, argument, posted, no_dot, dot, variable, literal, truth, parens, braces, no_part, first_part, last_part, next_part, width}
+use Rattle.mls_syntax.specs.Phrases.{Sort, source, imports, bindings, bind_rest, parts, more_parts, Phrase, whole, no_import, importing, no_binding, binding, simple, recursive, fun, fix, local, choice, plain, simple_in, recursive_in, no_compare, less, equal, summed, no_sum, plus, minus, multiplied, no_product, times, applied, no_argument, argument, posted, no_dot, dot, variable, literal, truth, parens, braces, no_part, first_part, last_part, next_part, width}
 use Rattle.mls_syntax.specs.Pieces.{given}
 use Rattle.mls_syntax.specs.Doubles.{if_seen, doubles}
 use Rattle.mls_syntax.specs.GivenTwice.{doubles_in}
