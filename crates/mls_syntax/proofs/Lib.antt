@@ -24,6 +24,7 @@ pub mod OnePhrase
 pub mod OneReading
 pub mod OneTree
 pub mod Placed
+pub mod PlacesWithin
 pub mod PlainPhrases
 pub mod ReadBindings
 pub mod ReadModules

@@ -1,18 +1,14 @@
 -- What the machine of modules tells and gives from terminals, whatever is to come behind them: its single steps.
-use Rattle.std.proofs.Common.{◌≡◌, ℕ, suc, Bool, true, false, List, [], ◌∷◌, ◌++◌, refl, sym, ap, ◌∙◌, Some, None, append-nil}
-use Rattle.std.specs.Prelude.{Option}
+use Rattle.std.proofs.Common.{◌≡◌, ℕ, List, [], ◌∷◌, ◌++◌, refl, sym, ap, ◌∙◌, Some, None, append-nil}
 use Rattle.std.proofs.lemmas.List.{append_assoc}
 use Rattle.std.proofs.lemmas.Option.{none-some}
 use Rattle.mls_lexer.specs.declared.token.Kind.TheVariants as kind
-use Rattle.mls_lexer.specs.Tokens.{Terminal, name, number, word}
-use Rattle.mls_syntax.specs.declared.module.Op.{Op}
-use Rattle.mls_syntax.specs.declared.module.Op.TheVariants as op
+use Rattle.mls_lexer.specs.Tokens.{Terminal, word}
 use Rattle.mls_syntax.specs.declared.piece.Piece.{Piece}
 use Rattle.mls_syntax.specs.declared.piece.Piece.TheVariants as piece
 use Rattle.mls_syntax.specs.declared.piece.Event.{Event}
-use Rattle.mls_syntax.specs.declared.piece.Event.TheVariants as event
-use Rattle.mls_syntax.specs.Phrases.{Sort, source, imports, bindings, bind_rest, expr, let_rest, compare_tail, sum, sum_tail, product, product_tail, apply, arguments, post, dots, atom, parts, more_parts}
-use Rattle.mls_syntax.specs.Building.{Todo, a, arguments_of, let_of, the_import, the_binding, the_fun, the_fix, the_local, the_label, the_part, the_equals, the_arrow, the_then, the_else, the_in, the_paren, tell, Act, act, acts, atom_acts, imports_acts, bindings_acts, compare_tail_acts, sum_tail_acts, product_tail_acts, dots_acts, State, took, advance, build, last_told}
+use Rattle.mls_syntax.specs.Phrases.{Sort, dots}
+use Rattle.mls_syntax.specs.Building.{Todo, a, arguments_of, let_of, the_import, the_binding, the_fun, the_fix, the_local, the_label, the_part, the_equals, the_arrow, the_then, the_else, the_in, the_paren, tell, Act, act, acts, State, took, advance, build, last_told}
 use Rattle.mls_syntax.proofs.Spelled.{Placed}
 use Rattle.mls_syntax.proofs.Closing.{First, ClosesApply}
 

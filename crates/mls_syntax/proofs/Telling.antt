@@ -6,7 +6,7 @@ use Rattle.mls_syntax.specs.declared.module.Op.TheVariants as op
 use Rattle.mls_syntax.specs.declared.piece.Piece.{Piece}
 use Rattle.mls_syntax.specs.declared.piece.Piece.TheVariants as piece
 use Rattle.mls_syntax.specs.Phrases.{Sort, source, imports, bindings, bind_rest, expr, let_rest, compare_tail, sum, sum_tail, product, product_tail, apply, arguments, post, dots, atom, parts, more_parts, Phrase, whole, no_import, importing, no_binding, binding, simple, recursive, fun, fix, local, choice, plain, simple_in, recursive_in, no_compare, less, equal, summed, no_sum, plus, minus, multiplied, no_product, times, applied, no_argument, argument, posted, no_dot, dot, variable, literal, truth, parens, braces, no_part, first_part, last_part, next_part, width}
-use Rattle.mls_syntax.specs.Trees.{Tree, an_apply, a_project, a_fix, ImportTree, BindingTree, SourceTree, binary, Meaning, meaning}
+use Rattle.mls_syntax.specs.Trees.{Tree, an_apply, a_project, a_fix, binary, Meaning, meaning}
 use Rattle.mls_syntax.specs.Pieces.{emitted}
 use Rattle.mls_syntax.specs.Told.{Tells, tells_name, tells_number, tells_truth, tells_fun, tells_fix, tells_let, tells_if, tells_apply, tells_binary, tells_make, tells_project, TellFields, tells_none, tells_part, TellBindings, TellsSource}
 

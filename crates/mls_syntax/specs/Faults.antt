@@ -1,10 +1,25 @@
 -- The faults of modules.
+use Rattle.std.specs.Prelude.{ℕ}
 use Rattle.mls_lexer.specs.declared.token.LexFault.{LexFault}
 use Rattle.mls_lexer.specs.declared.token.LexFault.TheVariants as lex
 use Rattle.mls_syntax.specs.declared.parse.Fault.{Fault}
-use Rattle.mls_syntax.specs.declared.parse.Fault.TheVariants.{NotBuilt, Memory}
+use Rattle.mls_syntax.specs.declared.parse.Fault.TheVariants.{BadByte, BigNumber, Unexpected, Ended, TooDeep, DuplicateBinding, DuplicateLabel, DuplicateImport, UnknownName, NotBuilt, Memory}
 
 -- the fault of a text without tokens
 abbrev pub fault_of : LexFault → Fault
 fault_of lex.Memory = Memory
 fault_of _ = NotBuilt 0
+
+-- the place of a fault of a text of this length
+abbrev pub fault_place : ℕ → Fault → ℕ
+fault_place length (BadByte at) = at
+fault_place length (BigNumber at) = at
+fault_place length (Unexpected at kind) = at
+fault_place length Ended = length
+fault_place length (TooDeep at) = at
+fault_place length (UnknownName at) = at
+fault_place length (DuplicateBinding at) = at
+fault_place length (DuplicateLabel at) = at
+fault_place length (DuplicateImport at) = at
+fault_place length (NotBuilt at) = at
+fault_place length Memory = 0
