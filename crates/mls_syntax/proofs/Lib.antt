@@ -8,6 +8,7 @@ pub mod DoublesIn
 pub mod Environments
 pub mod Expressions
 pub mod Failures
+pub mod FaultsWithin
 pub mod FirstStops
 pub mod GivenDoubles
 mod GrammarExamples
