@@ -24,6 +24,7 @@ pub mod OneModule
 pub mod OnePhrase
 pub mod OneReading
 pub mod OneTree
+pub mod ParsedModules
 pub mod Placed
 pub mod PlacesWithin
 pub mod PlainPhrases
