@@ -1,3 +1,4 @@
+pub mod Arranging
 pub mod Building
 pub mod Built
 pub mod Chains
@@ -8,6 +9,7 @@ pub mod FirstFaults
 pub mod GrammarFaults
 pub mod GrammarLaws
 pub mod Laws
+pub mod Linking
 pub mod Modules
 pub mod Nodes
 pub mod Phrases

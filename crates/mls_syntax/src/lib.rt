@@ -4,6 +4,7 @@
 pub mod grammar_laws;
 pub mod laws;
 pub mod module;
+mod nodes;
 pub mod parse;
 mod piece;
 pub mod resolve;
