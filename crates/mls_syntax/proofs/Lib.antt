@@ -1,3 +1,4 @@
+pub mod Arrangements
 pub mod ChainNodes
 pub mod ChainTerms
 pub mod Closed
@@ -13,12 +14,15 @@ pub mod GrammarNesting
 pub mod GrammarReads
 pub mod GrammarStops
 pub mod GrammarTotal
+pub mod LaterSteps
+pub mod Links
 pub mod Metatheory
 pub mod MovedDerivations
 pub mod OneModule
 pub mod OnePhrase
 pub mod OneReading
 pub mod OneTree
+pub mod OrderedPieces
 pub mod PlainPhrases
 pub mod ReadBindings
 pub mod ReadModules
