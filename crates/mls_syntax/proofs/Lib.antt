@@ -1,3 +1,4 @@
+pub mod Arrangements
 pub mod Builds
 pub mod ChainNodes
 pub mod ChainTerms
@@ -18,12 +19,15 @@ pub mod GrammarNesting
 pub mod GrammarReads
 pub mod GrammarStops
 pub mod GrammarTotal
+pub mod LaterSteps
+pub mod Links
 pub mod Metatheory
 pub mod MovedDerivations
 pub mod OneModule
 pub mod OnePhrase
 pub mod OneReading
 pub mod OneTree
+pub mod OrderedPieces
 pub mod ParsedModules
 pub mod Placed
 pub mod PlacesWithin

@@ -1,3 +1,4 @@
+pub mod Arranging
 pub mod Building
 pub mod Built
 pub mod Chains
@@ -9,6 +10,7 @@ pub mod GivenTwice
 pub mod GrammarFaults
 pub mod GrammarLaws
 pub mod Laws
+pub mod Linking
 pub mod Modules
 pub mod Nodes
 pub mod Phrases

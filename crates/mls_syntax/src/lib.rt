@@ -5,6 +5,7 @@ mod doubles;
 pub mod grammar_laws;
 pub mod laws;
 pub mod module;
+mod nodes;
 pub mod parse;
 mod piece;
 pub mod resolve;

@@ -1,5 +1,5 @@
 //! Modules, as read from their texts.
-ghost use Rattle.std.specs.Prelude.{◌≡◌, ◌↔◌, ◌++◌, ◌∷◌, [], length, OnOk, OnErr, IsTrue};
+ghost use Rattle.std.specs.Prelude.{◌≡◌, ◌↔◌, ◌++◌, ◌∷◌, [], length, reverse, OnOk, OnErr, IsTrue};
 ghost use Rattle.mls_syntax.specs.Nodes.{binds};
 
 use mls_base::memory::Memory;
@@ -292,6 +292,15 @@ impl Parts {
     {
         self.items.push(item)?;
         Ok(())
+    }
+
+    /// The parts from the last to the first.
+    pub fn reversed(self) -> Parts
+        ensures { result ≡ reverse self }
+    {
+        let mut items = self.items;
+        items.reverse();
+        Parts { items }
     }
 
     /// How many there are.

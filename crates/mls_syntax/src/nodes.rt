@@ -1,0 +1,495 @@
+//! From the pieces that tell a module to the module, with the nodes of each binding in order.
+ghost use Rattle.std.specs.Prelude.{◌≡◌, ◌∷◌, ◌++◌, [], reverse, IfOk, OnOk};
+ghost use Rattle.mls_syntax.specs.Arranging.{node_piece, fronts, told, left, part_count, parts, arrangement};
+ghost use Rattle.mls_syntax.specs.Linking.{grown, root_of, without_root, parts_of, without_parts, with_part, with_record, with_import, with_binding, joined, linked, link_start, module_linked};
+ghost use Rattle.mls_syntax.specs.Modules.{module_of};
+ghost use Rattle.mls_syntax.specs.Told.{TellsSource};
+ghost use Rattle.mls_syntax.specs.Trees.{SourceTree};
+
+use crate::module::{
+    Binding, Bindings, Expr, ExprNode, ExprNodes, Form, Import, Imports, Module, Part, Parts,
+};
+use crate::piece::Piece;
+use mls_base::memory::Memory;
+use mls_book::name::Name;
+use std::alloc::Global;
+use std::marker::Model;
+use std::mem;
+
+// What stands before the pieces that were read from the back.
+#[derive(Drop)]
+enum Later {
+    // The pieces of a part, which are still to be read.
+    Part,
+    // A piece that is to be told before the next part is read.
+    Tell(Piece),
+}
+
+/// The module that the pieces tell.
+///
+/// # Errors
+///
+/// `Memory` where memory is wanting.
+pub fn module_of(alloc: Global, pieces: Vec<Piece>) -> Result<Module, Memory>
+    ensures { IfOk result (λ m. (tree : SourceTree) → TellsSource pieces.items tree → m ≡ module_of tree) }
+{
+    let backward = arrange(alloc, pieces)?;
+    link(alloc, backward)
+}
+
+// The pieces in the order of the nodes, from the last to the first: there an operator stands before its operands.
+fn arrange(alloc: Global, pieces: Vec<Piece>) -> Result<Vec<Piece>, Memory>
+    ensures { IfOk result (λ backward. backward.items ≡ arrangement [] (reverse pieces.items)) }
+{
+    let mut pieces = pieces;
+    let mut later = Vec::new(alloc);
+    let mut backward = Vec::new(alloc);
+    while let Some(piece) = pieces.pop() {
+        tell(&mut later, &mut backward)?;
+        place(&mut later, &mut backward, piece)?;
+    }
+    tell(&mut later, &mut backward)?;
+    Ok(backward)
+}
+
+// Tells what is to be told before the next part, and takes it and the part off the stack.
+fn tell(later: &mut Vec<Later>, backward: &mut Vec<Piece>) -> Result<(), Memory>
+    ensures told { OnOk result (backward.new.items ≡ backward.old.items ++ told (reverse later.old.items)) }
+    ensures left { OnOk result (reverse later.new.items ≡ left (reverse later.old.items)) }
+{
+    while let Some(next) = later.pop() {
+        match next {
+            Later::Part => return Ok(()),
+            Later::Tell(piece) => backward.push(piece)?,
+        }
+    }
+    Ok(())
+}
+
+// Tells the last piece of a part, and puts on the stack what stands before it.
+fn place(later: &mut Vec<Later>, backward: &mut Vec<Piece>, piece: Piece) -> Result<(), Memory>
+    ensures told { OnOk result (backward.new.items ≡ backward.old.items ++ node_piece piece ∷ []) }
+    ensures fronts { OnOk result (reverse later.new.items ≡ fronts piece ++ reverse later.old.items) }
+{
+    match piece {
+        Piece::Binary(at, op) => {
+            later.push(Later::Tell(Piece::Operator(at, op)))?;
+            later.push(Later::Part)?;
+            later.push(Later::Tell(Piece::Apply(at)))?;
+            later.push(Later::Part)?;
+            backward.push(Piece::Apply(at))?;
+        }
+        other => {
+            put_parts(later, part_count(&other))?;
+            backward.push(other)?;
+        }
+    }
+    Ok(())
+}
+
+// Puts this many parts on the stack.
+fn put_parts(later: &mut Vec<Later>, count: usize) -> Result<(), Memory>
+    ensures { OnOk result (reverse later.new.items ≡ parts count ++ reverse later.old.items) }
+{
+    for _ in 0..count {
+        later.push(Later::Part)?;
+    }
+    Ok(())
+}
+
+// How many parts stand before the piece.
+fn part_count(piece: &Piece) -> usize
+    ensures { result ≡ part_count piece.now }
+{
+    match piece {
+        Piece::Fun(..) | Piece::Rec(..) | Piece::Project(..) => 1,
+        Piece::Make(_) | Piece::Binding(..) => 1,
+        Piece::Let(..) | Piece::Apply(_) | Piece::Binary(..) | Piece::Field(_) => 2,
+        Piece::If(_) => 3,
+        _ => 0,
+    }
+}
+
+// What the pieces so far have made.
+#[derive(Drop)]
+struct Linker {
+    imports: Imports,
+    bindings: Bindings,
+    // The nodes of the binding whose pieces are read.
+    nodes: ExprNodes,
+    // The roots of the expressions that belong to no other so far, the newest last.
+    roots: Vec<usize>,
+    // The parts of the records that are still to be made, each list from the last part to the first.
+    records: Vec<Parts>,
+}
+
+impl Model for Linker {
+    ghost use Rattle.std.specs.Prelude.{reverse};
+    ghost use Rattle.mls_syntax.specs.Linking.{Linked};
+
+    ghost Value = { Linked };
+
+    ghost view = { λ l. record {
+      imports = l.imports;
+      bindings = l.bindings;
+      nodes = l.nodes;
+      roots = reverse l.roots.items;
+      records = reverse l.records.items;
+    } };
+}
+
+// The module of the pieces in the order of the nodes, which are given from the last to the first.
+fn link(alloc: Global, backward: Vec<Piece>) -> Result<Module, Memory>
+    ensures { IfOk result (λ m. m ≡ module_linked (linked link_start (reverse backward.items))) }
+{
+    let mut backward = backward;
+    let mut linker = Linker::new(alloc);
+    while let Some(piece) = backward.pop() {
+        linker.join(alloc, piece)?;
+    }
+    Ok(linker.module())
+}
+
+// Each piece stands behind its parts, so what a method takes off a list has always been put there.
+impl Linker {
+    fn new(alloc: Global) -> Linker
+        ensures { result ≡ link_start }
+    {
+        Linker {
+            imports: Imports::new(alloc),
+            bindings: Bindings::new(alloc),
+            nodes: ExprNodes::new(alloc),
+            roots: Vec::new(alloc),
+            records: Vec::new(alloc),
+        }
+    }
+
+    // Takes the next piece.
+    fn join(&mut self, alloc: Global, piece: Piece) -> Result<(), Memory>
+        ensures { OnOk result (self.new ≡ joined piece self.old) }
+    {
+        match piece {
+            Piece::Name(at, x) => self.grow(at, Form::Var(x)),
+            Piece::Operator(at, op) => self.grow(at, Form::Operator(op)),
+            Piece::Number(at, value) => self.grow(at, Form::Number(value)),
+            Piece::Truth(at, value) => self.grow(at, Form::Truth(value)),
+            Piece::Fun(at, x) => {
+                let body = self.root();
+                self.grow(at, Form::Fun(x, body))
+            }
+            Piece::Rec(at, x) => {
+                let body = self.root();
+                self.grow(at, Form::Rec(x, body))
+            }
+            Piece::Project(at, label) => {
+                let record = self.root();
+                self.grow(at, Form::Project(record, label))
+            }
+            Piece::Let(at, x) => self.local(at, x),
+            Piece::If(at) => self.choice(at),
+            Piece::Apply(at) => self.apply(at),
+            Piece::Last => self.open(alloc),
+            Piece::Field(label) => self.part(alloc, label),
+            Piece::Make(at) => self.make(alloc, at),
+            Piece::Import(at, name) => self.imports.push(Import { name, at }),
+            Piece::Binding(at, name) => self.binding(alloc, at, name),
+            // An operator stands alone by now.
+            Piece::Binary(..) => Ok(()),
+        }
+    }
+
+    // Adds a node, which is the root of an expression.
+    fn grow(&mut self, at: usize, form: Form) -> Result<(), Memory>
+        ensures { OnOk result (self.new ≡ grown at form self.old) }
+    {
+        self.roots.push(self.nodes.len())?;
+        self.nodes.push(ExprNode { at, form })
+    }
+
+    // Takes the newest root.
+    fn root(&mut self) -> usize
+        ensures root { result ≡ root_of self.old }
+        ensures rest { self.new ≡ without_root self.old }
+    {
+        self.roots.pop().unwrap_or(0)
+    }
+
+    fn local(&mut self, at: usize, x: Name) -> Result<(), Memory>
+        ensures { OnOk result (self.new ≡ joined (Piece.Let at x) self.old) }
+    {
+        let body = self.root();
+        let bound = self.root();
+        self.grow(at, Form::Let(x, bound, body))
+    }
+
+    fn choice(&mut self, at: usize) -> Result<(), Memory>
+        ensures { OnOk result (self.new ≡ joined (Piece.If at) self.old) }
+    {
+        let second = self.root();
+        let first = self.root();
+        let condition = self.root();
+        self.grow(at, Form::If(condition, first, second))
+    }
+
+    fn apply(&mut self, at: usize) -> Result<(), Memory>
+        ensures { OnOk result (self.new ≡ joined (Piece.Apply at) self.old) }
+    {
+        let argument = self.root();
+        let function = self.root();
+        self.grow(at, Form::Apply(function, argument))
+    }
+
+    // Begins a record behind its last part.
+    fn open(&mut self, alloc: Global) -> Result<(), Memory>
+        ensures { OnOk result (self.new ≡ with_record [] self.old) }
+    {
+        self.records.push(Parts::new(alloc))?;
+        Ok(())
+    }
+
+    // Takes the parts of the innermost record.
+    fn parts(&mut self, alloc: Global) -> Parts
+        ensures parts { result ≡ parts_of self.old }
+        ensures rest { self.new ≡ without_parts self.old }
+    {
+        match self.records.pop() {
+            Some(parts) => parts,
+            None => Parts::new(alloc),
+        }
+    }
+
+    // Adds the next part towards the front of the innermost record.
+    fn part(&mut self, alloc: Global, label: Name) -> Result<(), Memory>
+        ensures { OnOk result (self.new ≡ joined (Piece.Field label) self.old) }
+    {
+        let child = self.root();
+        let mut parts = self.parts(alloc);
+        parts.push(Part { label, child })?;
+        self.records.push(parts)?;
+        Ok(())
+    }
+
+    // Makes a record of its parts.
+    fn make(&mut self, alloc: Global, at: usize) -> Result<(), Memory>
+        ensures { OnOk result (self.new ≡ joined (Piece.Make at) self.old) }
+    {
+        let parts = self.parts(alloc);
+        self.grow(at, Form::Make(parts.reversed()))
+    }
+
+    // Ends a binding: the nodes so far are its expression.
+    fn binding(&mut self, alloc: Global, at: usize, name: Name) -> Result<(), Memory>
+        ensures { OnOk result (self.new ≡ joined (Piece.Binding at name) self.old) }
+    {
+        self.root();
+        let nodes = mem::replace(&mut self.nodes, ExprNodes::new(alloc));
+        let expr = Expr { nodes };
+        self.bindings.push(Binding { name, at, expr })
+    }
+
+    fn module(self) -> Module
+        ensures { result ≡ module_linked self }
+    {
+        Module {
+            imports: self.imports,
+            bindings: self.bindings,
+        }
+    }
+}
+
+#[cfg(test)]
+mod tests {
+    use super::*;
+    use crate::module::Op;
+    use mls_base::spelling::is_name;
+    use std::alloc::AllocError;
+    use std::test::Fail;
+
+    // The name of these bytes.
+    fn name(alloc: Global, bytes: &[u8]) -> Result<Name, Memory> {
+        if is_name(bytes) {
+            Name::new(alloc, bytes)
+        } else {
+            Err(Memory)
+        }
+    }
+
+    // A name as an expression.
+    fn put_name(
+        alloc: Global,
+        pieces: &mut Vec<Piece>,
+        at: usize,
+        bytes: &[u8],
+    ) -> Result<(), Memory> {
+        let x = name(alloc, bytes)?;
+        pieces.push(Piece::Name(at, x))?;
+        Ok(())
+    }
+
+    // The end of a binding.
+    fn put_binding(alloc: Global, pieces: &mut Vec<Piece>, bytes: &[u8]) -> Result<(), Memory> {
+        let x = name(alloc, bytes)?;
+        pieces.push(Piece::Binding(4, x))?;
+        Ok(())
+    }
+
+    // A node as one word, with the numbers of its children.
+    fn write_node(line: &mut String, node: &ExprNode) -> Result<(), AllocError> {
+        let at = node.at;
+        match &node.form {
+            Form::Var(x) => write!(line, " {}@{at}", x.as_str()),
+            Form::Operator(op) => write!(line, " {op:?}@{at}"),
+            Form::Number(value) => write!(line, " {value}@{at}"),
+            Form::Truth(value) => write!(line, " {value}@{at}"),
+            Form::Fun(x, body) => write!(line, " fun({}, {body})@{at}", x.as_str()),
+            Form::Rec(x, body) => write!(line, " rec({}, {body})@{at}", x.as_str()),
+            Form::Apply(f, x) => write!(line, " apply({f}, {x})@{at}"),
+            Form::Project(record, label) => write!(
+                line,
+                " project({record}, {})@{at}",
+                label.as_str()
+            ),
+            Form::If(c, e, f) => write!(line, " if({c}, {e}, {f})@{at}"),
+            Form::Let(x, e, f) => write!(line, " let({}, {e}, {f})@{at}", x.as_str()),
+            Form::Make(parts) => {
+                write!(line, " make(")?;
+                for part in parts.as_slice() {
+                    write!(line, " {}: {}", part.label.as_str(), part.child)?;
+                }
+                write!(line, " )@{at}")
+            }
+        }
+    }
+
+    // The module of the pieces, with one word for each node.
+    fn shown(alloc: Global, pieces: Vec<Piece>) -> Result<String, AllocError> {
+        let mut line = String::new(alloc);
+        match module_of(alloc, pieces) {
+            Ok(module) => {
+                for import in module.imports.as_slice() {
+                    write!(line, "import {}@{}; ", import.name.as_str(), import.at)?;
+                }
+                for binding in module.bindings.as_slice() {
+                    write!(line, "{}@{}:", binding.name.as_str(), binding.at)?;
+                    for node in binding.expr.nodes.as_slice() {
+                        write_node(&mut line, node)?;
+                    }
+                    write!(line, ";")?;
+                }
+            }
+            Err(_) => write!(line, "out of memory")?,
+        }
+        Ok(line)
+    }
+
+    #[test]
+    fn operators_stand_before_their_operands(rt: HostRuntime) -> Result<(), Fail> {
+        let alloc = rt.alloc();
+        // let k = a + b * c
+        let mut pieces = Vec::new(alloc);
+        put_name(alloc, &mut pieces, 8, b"a")?;
+        put_name(alloc, &mut pieces, 12, b"b")?;
+        put_name(alloc, &mut pieces, 16, b"c")?;
+        pieces.push(Piece::Binary(14, Op::Times))?;
+        pieces.push(Piece::Binary(10, Op::Plus))?;
+        put_binding(alloc, &mut pieces, b"k")?;
+        let line = shown(alloc, pieces)?;
+        assert_eq!(rt;
+            line.as_str(),
+            "k@4: Plus@10 a@8 apply(0, 1)@10 Times@14 b@12 apply(3, 4)@14 c@16 apply(5, 6)@14 apply(2, 7)@10;"
+        );
+        // let k = a + b - c
+        let mut pieces = Vec::new(alloc);
+        put_name(alloc, &mut pieces, 8, b"a")?;
+        put_name(alloc, &mut pieces, 12, b"b")?;
+        pieces.push(Piece::Binary(10, Op::Plus))?;
+        put_name(alloc, &mut pieces, 16, b"c")?;
+        pieces.push(Piece::Binary(14, Op::Minus))?;
+        put_binding(alloc, &mut pieces, b"k")?;
+        let line = shown(alloc, pieces)?;
+        assert_eq!(rt;
+            line.as_str(),
+            "k@4: Minus@14 Plus@10 a@8 apply(1, 2)@10 b@12 apply(3, 4)@10 apply(0, 5)@14 c@16 apply(6, 7)@14;"
+        );
+        Ok(())
+    }
+
+    #[test]
+    fn parts_stand_in_the_order_of_the_text(rt: HostRuntime) -> Result<(), Fail> {
+        let alloc = rt.alloc();
+        // let k = f x y
+        let mut pieces = Vec::new(alloc);
+        put_name(alloc, &mut pieces, 8, b"f")?;
+        put_name(alloc, &mut pieces, 10, b"x")?;
+        pieces.push(Piece::Apply(8))?;
+        put_name(alloc, &mut pieces, 12, b"y")?;
+        pieces.push(Piece::Apply(8))?;
+        put_binding(alloc, &mut pieces, b"k")?;
+        let line = shown(alloc, pieces)?;
+        assert_eq!(rt;
+            line.as_str(),
+            "k@4: f@8 x@10 apply(0, 1)@8 y@12 apply(2, 3)@8;"
+        );
+        // let k = {a = 1, b = {}}.b
+        let mut pieces = Vec::new(alloc);
+        pieces.push(Piece::Number(13, 1))?;
+        pieces.push(Piece::Last)?;
+        pieces.push(Piece::Make(20))?;
+        pieces.push(Piece::Last)?;
+        pieces.push(Piece::Field(name(alloc, b"b")?))?;
+        pieces.push(Piece::Field(name(alloc, b"a")?))?;
+        pieces.push(Piece::Make(8))?;
+        pieces.push(Piece::Project(24, name(alloc, b"b")?))?;
+        put_binding(alloc, &mut pieces, b"k")?;
+        let line = shown(alloc, pieces)?;
+        assert_eq!(rt;
+            line.as_str(),
+            "k@4: 1@13 make( )@20 make( a: 0 b: 1 )@8 project(2, b)@24;"
+        );
+        Ok(())
+    }
+
+    #[test]
+    fn each_binding_has_its_own_nodes(rt: HostRuntime) -> Result<(), Fail> {
+        let alloc = rt.alloc();
+        // import m let rec f = fun x -> x let k = let rec g = g in if true then f else g
+        let mut pieces = Vec::new(alloc);
+        pieces.push(Piece::Import(7, name(alloc, b"m")?))?;
+        put_name(alloc, &mut pieces, 30, b"x")?;
+        pieces.push(Piece::Fun(21, name(alloc, b"x")?))?;
+        pieces.push(Piece::Rec(13, name(alloc, b"f")?))?;
+        put_binding(alloc, &mut pieces, b"f")?;
+        put_name(alloc, &mut pieces, 52, b"g")?;
+        pieces.push(Piece::Rec(44, name(alloc, b"g")?))?;
+        pieces.push(Piece::Truth(60, true))?;
+        put_name(alloc, &mut pieces, 70, b"f")?;
+        put_name(alloc, &mut pieces, 77, b"g")?;
+        pieces.push(Piece::If(57))?;
+        pieces.push(Piece::Let(40, name(alloc, b"g")?))?;
+        put_binding(alloc, &mut pieces, b"k")?;
+        let line = shown(alloc, pieces)?;
+        assert_eq!(rt;
+            line.as_str(),
+            "import m@7; f@4: x@30 fun(x, 0)@21 rec(f, 1)@13;k@4: g@52 rec(g, 0)@44 true@60 f@70 g@77 if(2, 3, 4)@57 let(g, 1, 5)@40;"
+        );
+        Ok(())
+    }
+
+    #[test]
+    fn sums_may_be_long(rt: HostRuntime) -> Result<(), Fail> {
+        let alloc = rt.alloc();
+        let mut pieces = Vec::new(alloc);
+        put_name(alloc, &mut pieces, 0, b"a")?;
+        for at in 1..100_000 {
+            put_name(alloc, &mut pieces, at, b"a")?;
+            pieces.push(Piece::Binary(at, Op::Plus))?;
+        }
+        put_binding(alloc, &mut pieces, b"k")?;
+        let module = module_of(alloc, pieces)?;
+        assert_eq!(rt; module.bindings.len(), 1);
+        for binding in module.bindings.as_slice() {
+            assert_eq!(rt; binding.expr.nodes.len(), 399_997);
+        }
+        Ok(())
+    }
+}
