@@ -1,14 +1,7 @@
--- The faults of modules.
+-- The places of faults.
 use Rattle.std.specs.Prelude.{ℕ}
-use Rattle.mls_lexer.specs.declared.token.LexFault.{LexFault}
-use Rattle.mls_lexer.specs.declared.token.LexFault.TheVariants as lex
 use Rattle.mls_syntax.specs.declared.parse.Fault.{Fault}
 use Rattle.mls_syntax.specs.declared.parse.Fault.TheVariants.{BadByte, BigNumber, Unexpected, Ended, TooDeep, DuplicateBinding, DuplicateLabel, DuplicateImport, UnknownName, NotBuilt, Memory}
-
--- the fault of a text without tokens
-abbrev pub fault_of : LexFault → Fault
-fault_of lex.Memory = Memory
-fault_of _ = NotBuilt 0
 
 -- the place of a fault of a text of this length
 abbrev pub fault_place : ℕ → Fault → ℕ

@@ -1,17 +1,14 @@
--- The laws of modules: with them a text is exactly one module or has exactly one fault at most.
+-- The laws of modules.
 use Rattle.std.specs.Prelude.{◌≡◌, ℕ, List}
 use Rattle.mls_syntax.specs.declared.module.Module.{Module}
 use Rattle.mls_syntax.specs.declared.parse.Fault.{Fault}
-use Rattle.mls_syntax.specs.Modules.{IsPlainModuleOf, HasFault}
+use Rattle.mls_syntax.specs.Modules.{IsModuleText}
+use Rattle.mls_syntax.specs.FirstFaults.{HasFirstFault}
 
--- a text is one module
+-- a text is one module at most
 abbrev pub OneModule : Type 0
-OneModule = (text : List ℕ) (m n : Module) → IsPlainModuleOf text m → IsPlainModuleOf text n → m ≡ n
+OneModule = (text : List ℕ) (m n : Module) → IsModuleText text m → IsModuleText text n → m ≡ n
 
--- a text that is a module has no fault
+-- a text that is a module has no fault before its names are looked at
 abbrev pub NoFaultBesideAModule : Type 0
-NoFaultBesideAModule = (text : List ℕ) (m : Module) (fault : Fault) → IsPlainModuleOf text m → HasFault text fault → ⊥
-
--- a text has one first fault
-abbrev pub OneFirstFault : Type 0
-OneFirstFault = (text : List ℕ) (fault other : Fault) → HasFault text fault → HasFault text other → fault ≡ other
+NoFaultBesideAModule = (text : List ℕ) (m : Module) (fault : Fault) → IsModuleText text m → HasFirstFault text fault → ⊥

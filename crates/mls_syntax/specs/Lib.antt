@@ -1,6 +1,5 @@
 pub mod Arranging
 pub mod Building
-pub mod Built
 pub mod Chains
 pub mod Derivations
 pub mod Doubles
@@ -15,7 +14,6 @@ pub mod Modules
 pub mod Nodes
 pub mod Phrases
 pub mod Pieces
-pub mod Reads
 pub mod Resolution
 pub mod Terms
 pub mod Told

@@ -5,8 +5,6 @@ use Rattle.mls_lexer.specs.Tokens.{IsTokens, terminals}
 use Rattle.mls_syntax.specs.declared.module.Module.{Module}
 use Rattle.mls_syntax.specs.declared.module.Import.{Import}
 use Rattle.mls_syntax.specs.declared.module.Binding.{Binding}
-use Rattle.mls_syntax.specs.declared.parse.Fault.{Fault}
-use Rattle.mls_syntax.specs.declared.parse.Fault.TheVariants.{NotBuilt}
 use Rattle.mls_syntax.specs.Phrases.{source, Phrase, yields, nesting}
 use Rattle.mls_syntax.specs.Trees.{Tree, a_name, an_operator, a_number, a_truth, a_fun, a_fix, a_let, an_if, an_apply, a_make, a_project, Fields, no_field, a_field, ImportTree, BindingTree, SourceTree, meaning, postorder}
 
@@ -73,35 +71,3 @@ pub record IsModuleText (text : List ℕ) (m : Module) : Type 0 where
   pub tree : SourceTree
   pub text_of : IsTextOf text tree
   pub nodes : m ≡ module_of tree
-
--- every name in the tree is bound by a function around it, or is one of these, and it has only the forms that are built:
--- functions, names, numbers and truth values
-abbrev pub IsPlain : List (List ℕ) → Tree → Type 0
-IsPlain names (a_name at x) = Contains names x
-IsPlain names (a_number at value) = Unit {0}
-IsPlain names (a_truth at value) = Unit {0}
-IsPlain names (a_fun at x e) = IsPlain (x ∷ names) e
-IsPlain names _ = ⊥
-
--- no imports, and bindings of built forms alone
-pub record IsPlainSource (tree : SourceTree) : Type 0 where
-  pub no_imports : tree.imported ≡ []
-  pub bodies : (b : BindingTree) → Contains tree.bound b → IsPlain [] b.body
-
--- the module has only what is built so far
-pub record IsPlainModule (m : Module) : Type 0 where
-  pub tree : SourceTree
-  pub plain : IsPlainSource tree
-  pub no_doubles : HasNoDoubles tree
-  pub nodes : m ≡ module_of tree
-
--- the text is this module, and has only what is built so far
-pub record IsPlainModuleOf (text : List ℕ) (m : Module) : Type 0 where
-  pub tree : SourceTree
-  pub text_of : IsTextOf text tree
-  pub plain : IsPlainSource tree
-  pub nodes : m ≡ module_of tree
-
--- the first fault of a text: so far the one that it is no module of built forms
-pub data HasFault (text : List ℕ) : Fault → Type 0 where
-  not_built : ((m : Module) → IsPlainModuleOf text m → ⊥) → HasFault text (NotBuilt 0)

@@ -8,6 +8,7 @@ pub mod module;
 mod nodes;
 pub mod parse;
 mod piece;
+mod read;
 pub mod resolve;
 pub mod term;
 pub mod typing_laws;

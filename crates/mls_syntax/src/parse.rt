@@ -1,18 +1,15 @@
 //! From the text of a module to its tree.
-ghost use Rattle.std.specs.Prelude.{◌≡◌, ◌≢◌, ◌↔◌, ◌+◌, ◌<◌, ◌≤◌, [], ◌∷◌, length, All, Some, IfOk, IfErr, OnOk, IsTrue, not, bytes_eq};
-ghost use Rattle.indexmap.specs.IndexSet.{contains, insert_key};
-ghost use Rattle.mls_lexer.specs.Tokens.{IsTokens, IsToken};
-ghost use Rattle.mls_syntax.specs.Modules.{IsPlainModuleOf, HasFault, place_of};
-ghost use Rattle.mls_syntax.specs.Nodes.{bind, is_bound_form, are_bound};
-ghost use Rattle.mls_syntax.specs.Reads.{IsWithin, kind_at, bytes_at, start_of, Refuses, ReadsExpr, HasNoExpr, ReadsBinding, HasNoBinding};
+ghost use Rattle.std.specs.Prelude.{◌≡◌, ◌≢◌, IfOk, IfErr};
+ghost use Rattle.mls_syntax.specs.Modules.{IsModuleText};
+ghost use Rattle.mls_syntax.specs.FirstFaults.{HasFirstFault};
 
-use crate::module::{Binding, Bindings, Expr, ExprNode, ExprNodes, Form, Imports, Module};
-use indexmap::IndexSet;
+use crate::doubles::first_double;
+use crate::module::Module;
+use crate::nodes::module_of;
+use crate::read::{Reading, read};
 use mls_base::memory::Memory;
-use mls_book::name::Name;
-use mls_lexer::number::number_of;
 use mls_lexer::scan::tokens;
-use mls_lexer::token::{Kind, LexFault, Token};
+use mls_lexer::token::{Kind, LexFault};
 use std::alloc::{AllocError, AllocFailed, Global};
 use thiserror::Error;
 
@@ -46,7 +43,8 @@ pub enum Fault {
     /// A name without a meaning.
     #[error("unknown name, at {0}")]
     UnknownName(usize),
-    /// The text has a form that is not built yet.
+    /// An import or an expression of a form for which no types are inferred yet; neither `parse_module` nor `resolve`
+    /// answers it.
     #[error("not built yet, at {0}")]
     NotBuilt(usize),
     /// Memory was wanting.
@@ -84,280 +82,108 @@ impl<T: Drop> From<AllocFailed<T>> for Fault {
     }
 }
 
-/// So far a text that has no tokens is answered by `NotBuilt(0)`.
 impl From<LexFault> for Fault {
     ghost use Rattle.std.specs.Prelude.{◌≡◌};
-    ghost use Rattle.mls_syntax.specs.Faults.{fault_of};
+    ghost use Rattle.mls_syntax.specs.FirstFaults.{of_tokens};
 
-    ghost from_gives = { λ e fault. fault ≡ fault_of e };
+    ghost from_gives = { λ e fault. fault ≡ of_tokens e };
 
     fn from(e: LexFault) -> Fault {
         match e {
-            LexFault::BadByte(_) => Fault::NotBuilt(0),
-            LexFault::BigNumber(_) => Fault::NotBuilt(0),
+            LexFault::BadByte(at) => Fault::BadByte(at),
+            LexFault::BigNumber(at) => Fault::BigNumber(at),
             LexFault::Memory => Fault::Memory,
         }
     }
 }
 
-// How deep expressions may be nested.
-const DEEPEST: usize = 200;
-
-// What an expression is, by its first token.
-#[derive(Clone, Copy)]
-enum Start {
-    Name,
-    Number,
-    Truth(bool),
-    Fun,
-    Parens,
-    Nothing,
-}
-
-/// Reads the text of a module.
+/// Reads the text of a module: its tree, or its first fault.
 ///
-/// So far a module is read if its tokens are bindings `let NAME = e` alone, where `e` is `fun NAME -> e`, a name,
-/// a number, `true`, `false` or an `e` in parentheses, nested at most 200 deep; no name is bound twice by the
-/// module, and every name that is used is bound by a `fun` around it. Every other text is answered by
-/// `NotBuilt(0)`.
+/// The stages come in this order, and a later one is looked at only if the earlier ones have no fault: the tokens, the
+/// grammar, and names and labels that are given twice. Within a stage the fault with the least place is answered. Names
+/// are not looked up here. It takes no recursion, so chains of operators, arguments and bindings may be as long as
+/// memory allows; expressions are nested at most 200 deep.
+///
+/// # Errors
+///
+/// The first fault of the text, or `Memory` where memory is wanting.
 pub fn parse_module(alloc: Global, text: &[u8]) -> Result<Module, Fault>
-    ensures found { IfOk result (λ m. IsPlainModuleOf text.now m) }
-    ensures fault { IfErr result (λ fault. fault ≢ Fault.Memory → HasFault text.now fault) }
+    ensures found { IfOk result (λ m. IsModuleText text.now m) }
+    ensures fault { IfErr result (λ fault. fault ≢ Fault.Memory → HasFirstFault text.now fault) }
 {
     let tokens = tokens(alloc, text)?;
-    let bindings = bindings(alloc, text, &tokens)?;
-    Ok(Module {
-        imports: Imports::new(alloc),
-        bindings,
-    })
-}
-
-// The bindings that these tokens of the text are.
-fn bindings(alloc: Global, text: &[u8], tokens: &[Token]) -> Result<Bindings, Fault>
-    requires { IsTokens text.now tokens.now }
-    ensures found { IfOk result (λ bindings. IsPlainModuleOf text.now (record { imports = []; bindings = bindings })) }
-    ensures fault { IfErr result (λ fault. fault ≢ Fault.Memory → HasFault text.now fault) }
-{
-    let mut bindings = Bindings::new(alloc);
-    let mut names = IndexSet::new(alloc);
-    let mut at = 0;
-    while at < tokens.len() {
-        let (binding, end) = binding(alloc, text, tokens, at)?;
-        if !is_new(&mut names, &binding.name)? {
-            return Err(Fault::NotBuilt(0));
-        }
-        bindings.push(binding)?;
-        at = end;
+    let Reading { pieces, events } = read(alloc, text, &tokens)?;
+    if let Some(fault) = first_double(alloc, events)? {
+        return Err(fault);
     }
-    Ok(bindings)
-}
-
-// Adds a copy of the name to the set, and says whether it is new there.
-fn is_new(names: &mut IndexSet<Name>, name: &Name) -> Result<bool, Fault>
-    ensures new { IfOk result (λ new. new ≡ not (contains bytes_eq names.old name.now)) }
-    ensures keys { OnOk result (names.new.keys ≡ insert_key bytes_eq names.old.keys name.now) }
-    ensures fault { IfErr result (λ fault. fault ≡ Fault.Memory) }
-{
-    let (_, new) = names.insert_full(name.clone()?)?;
-    Ok(new)
-}
-
-// The binding that begins at token `at`, and the number of the token after it.
-fn binding(
-    alloc: Global,
-    text: &[u8],
-    tokens: &[Token],
-    at: usize,
-) -> Result<(Binding, usize), Fault>
-    requires tokens { All (IsToken text.now) tokens.now }
-    requires within { at ≤ length tokens.now }
-    ensures found { IfOk result (λ r. ReadsBinding text.now tokens.now at r.0 r.1) }
-    ensures fault { IfErr result (Refuses (HasNoBinding text.now tokens.now at)) }
-{
-    expect(tokens, at, Kind::WordLet)?;
-    let name = name_at(alloc, text, tokens, at + 1)?;
-    expect(tokens, at + 2, Kind::Equals)?;
-    let (nodes, end) = expr(alloc, text, tokens, at + 3, 0)?;
-    if !are_bound(nodes.as_slice()) {
-        return Err(Fault::NotBuilt(0));
-    }
-    let binding = Binding {
-        name,
-        at: tokens[at + 1].start,
-        expr: Expr { nodes },
-    };
-    Ok((binding, end))
-}
-
-// The nodes of the expression that begins at token `at`, and the number of the token after it. It lies in as many
-// expressions as `around` says.
-fn expr(
-    alloc: Global,
-    text: &[u8],
-    tokens: &[Token],
-    at: usize,
-    around: usize,
-) -> Result<(ExprNodes, usize), Fault>
-    requires tokens { All (IsToken text.now) tokens.now }
-    requires within { at ≤ length tokens.now }
-    requires depth { around ≤ 200 }
-    ensures found { IfOk result (λ r. ReadsExpr text.now tokens.now at around r.0 r.1) }
-    ensures fault { IfErr result (Refuses (HasNoExpr text.now tokens.now at around)) }
-{
-    if around == DEEPEST {
-        return Err(Fault::NotBuilt(0));
-    }
-    match start_at(tokens, at) {
-        Start::Fun => {
-            let name = name_at(alloc, text, tokens, at + 1)?;
-            expect(tokens, at + 2, Kind::Arrow)?;
-            let (mut nodes, end) = expr(alloc, text, tokens, at + 3, around + 1)?;
-            let body = nodes.len() - 1;
-            nodes.push(ExprNode {
-                at: tokens[at].start,
-                form: Form::Fun(name, body),
-            })?;
-            Ok((nodes, end))
-        }
-        Start::Parens => {
-            let (nodes, end) = expr(alloc, text, tokens, at + 1, around + 1)?;
-            expect(tokens, end, Kind::ParenRight)?;
-            Ok((nodes, end + 1))
-        }
-        Start::Name => {
-            let name = name_at(alloc, text, tokens, at)?;
-            one_node(alloc, tokens, at, Form::Var(name))
-        }
-        Start::Number => {
-            let number = number_of(text, &tokens[at]);
-            one_node(alloc, tokens, at, Form::Number(number))
-        }
-        Start::Truth(value) => one_node(alloc, tokens, at, Form::Truth(value)),
-        Start::Nothing => Err(Fault::NotBuilt(0)),
-    }
-}
-
-// A node alone, which is at token `k`, and the number of the next token.
-fn one_node(
-    alloc: Global,
-    tokens: &[Token],
-    k: usize,
-    form: Form,
-) -> Result<(ExprNodes, usize), Fault>
-    requires { k < length tokens.now }
-    ensures found { IfOk result (λ r. (r.0 ≡ record { at = place_of tokens.now k; form = form } ∷ []) × (r.1 ≡ k + 1)) }
-    ensures fault { IfErr result (λ fault. fault ≡ Fault.Memory) }
-{
-    let mut nodes = ExprNodes::new(alloc);
-    nodes.push(ExprNode {
-        at: tokens[k].start,
-        form,
-    })?;
-    Ok((nodes, k + 1))
-}
-
-// What an expression is that begins at token `k`.
-fn start_at(tokens: &[Token], k: usize) -> Start
-    ensures start { result ≡ start_of (kind_at tokens.now k) }
-    ensures within { IsWithin result k (length tokens.now) }
-{
-    if k < tokens.len() {
-        start_of(tokens[k].kind)
-    } else {
-        Start::Nothing
-    }
-}
-
-// What an expression is that begins with a token of this kind.
-fn start_of(kind: Kind) -> Start
-    ensures { result ≡ start_of (Some kind) }
-{
-    match kind {
-        Kind::Name => Start::Name,
-        Kind::Number => Start::Number,
-        Kind::WordTrue => Start::Truth(true),
-        Kind::WordFalse => Start::Truth(false),
-        Kind::WordFun => Start::Fun,
-        Kind::ParenLeft => Start::Parens,
-        _ => Start::Nothing,
-    }
-}
-
-// The name that token `k` is. A text without it is refused.
-fn name_at(alloc: Global, text: &[u8], tokens: &[Token], k: usize) -> Result<Name, Fault>
-    requires { All (IsToken text.now) tokens.now }
-    ensures found { IfOk result (λ name. name ≡ bytes_at text.now tokens.now k) }
-    ensures kind { OnOk result (kind_at tokens.now k ≡ Some Kind.Name) }
-    ensures within { OnOk result (k < length tokens.now) }
-    ensures fault { IfErr result (Refuses (kind_at tokens.now k ≢ Some Kind.Name)) }
-{
-    expect(tokens, k, Kind::Name)?;
-    let token = tokens[k];
-    let name = Name::new(alloc, &text[token.start..token.end])?;
-    Ok(name)
-}
-
-// That token `k` is of this kind. A text where it is not is refused.
-fn expect(tokens: &[Token], k: usize, kind: Kind) -> Result<(), Fault>
-    ensures kind { OnOk result (kind_at tokens.now k ≡ Some kind) }
-    ensures within { OnOk result (k < length tokens.now) }
-    ensures fault { IfErr result (Refuses (kind_at tokens.now k ≢ Some kind)) }
-{
-    if is_at(tokens, k, kind) {
-        Ok(())
-    } else {
-        Err(Fault::NotBuilt(0))
-    }
-}
-
-// Whether token `k` is of this kind.
-fn is_at(tokens: &[Token], k: usize, kind: Kind) -> bool
-    ensures kind { IsTrue result ↔ (kind_at tokens.now k ≡ Some kind) }
-    ensures within { IsTrue result → k < length tokens.now }
-{
-    k < tokens.len() && tokens[k].kind == kind
-}
-
-// Whether each name among the nodes is bound by one of them.
-fn are_bound(nodes: &[ExprNode]) -> bool
-    ensures { result ≡ are_bound nodes.now }
-{
-    nodes.iter().all(|node| is_bound(nodes, &node.form))
-}
-
-// Whether one of the nodes binds the name, if it is one.
-fn is_bound(nodes: &[ExprNode], form: &Form) -> bool
-    ensures { result ≡ is_bound_form nodes.now form.now }
-{
-    match form {
-        Form::Var(name) => bind(nodes, name),
-        _ => true,
-    }
-}
-
-// Whether one of the nodes binds the name.
-fn bind(nodes: &[ExprNode], name: &Name) -> bool
-    ensures { result ≡ bind nodes.now name.now }
-{
-    nodes.iter().any(|node| node.binds(name))
+    let module = module_of(alloc, pieces)?;
+    Ok(module)
 }
 
 #[cfg(test)]
 mod tests {
     use super::*;
+    use crate::module::{ExprNode, Form, Op};
+    use mls_book::name::Name;
     use std::test::Fail;
 
-    // The bindings of a text with their places and nodes, or its fault.
+    // Adds a name.
+    fn show_name(line: &mut String, name: &Name) -> Result<(), AllocError> {
+        line.push_str(name.as_str())
+    }
+
+    // How a text writes an operator.
+    fn sign(op: Op) -> &'static str {
+        match op {
+            Op::Plus => "+",
+            Op::Minus => "-",
+            Op::Times => "*",
+            Op::Less => "<",
+            Op::Equal => "==",
+        }
+    }
+
+    // Adds a node: what it is, with the numbers of its children, and its place.
+    fn show_node(line: &mut String, node: &ExprNode) -> Result<(), AllocError> {
+        match &node.form {
+            Form::Var(name) => show_name(line, name)?,
+            Form::Operator(op) => line.push_str(sign(*op))?,
+            Form::Number(value) => write!(line, "{value}")?,
+            Form::Truth(value) => write!(line, "{value}")?,
+            Form::Fun(name, body) => write!(line, "fun {} {body}", name.as_str())?,
+            Form::Apply(function, argument) => write!(line, "apply {function} {argument}")?,
+            Form::Make(parts) => {
+                line.push_str("{")?;
+                for part in parts.as_slice() {
+                    write!(line, " {}:{}", part.label.as_str(), part.child)?;
+                }
+                line.push_str(" }")?;
+            }
+            Form::Project(record, label) => write!(line, "{record}.{}", label.as_str())?,
+            Form::If(condition, first, second) => {
+                write!(line, "if {condition} {first} {second}")?
+            }
+            Form::Let(name, bound, body) => write!(line, "let {} {bound} {body}", name.as_str())?,
+            Form::Rec(name, body) => write!(line, "rec {} {body}", name.as_str())?,
+        }
+        write!(line, "@{}", node.at)
+    }
+
+    // The imports, the bindings and their nodes of a text with their places, or its fault.
     fn shown(alloc: Global, text: &[u8]) -> Result<String, AllocError> {
         let mut line = String::new(alloc);
         match parse_module(alloc, text) {
             Ok(module) => {
-                write!(line, "{} imports", module.imports.len())?;
+                for import in module.imports.as_slice() {
+                    write!(line, "import {}@{}; ", import.name.as_str(), import.at)?;
+                }
                 for binding in module.bindings.as_slice() {
-                    write!(line, "; {:?}@{}", binding.name, binding.at)?;
+                    write!(line, "{}@{}:", binding.name.as_str(), binding.at)?;
                     for node in binding.expr.nodes.as_slice() {
-                        write!(line, " {:?}@{}", node.form, node.at)?;
+                        line.push_str(" ")?;
+                        show_node(&mut line, node)?;
                     }
+                    line.push_str("; ")?;
                 }
             }
             Err(fault) => write!(line, "{fault:?}")?,
@@ -365,52 +191,242 @@ mod tests {
         Ok(line)
     }
 
-    // A binding of a number in this many parentheses.
-    fn in_parentheses(alloc: Global, count: usize) -> Result<String, AllocError> {
-        let mut text = String::new(alloc);
-        text.push_str("let a = ")?;
+    // So many times this text behind one text, and another text behind all.
+    fn repeated(
+        alloc: Global,
+        before: &str,
+        text: &str,
+        count: usize,
+        behind: &str,
+    ) -> Result<String, AllocError> {
+        let mut line = String::new(alloc);
+        line.push_str(before)?;
         for _ in 0..count {
-            text.push_str("(")?;
+            line.push_str(text)?;
         }
-        text.push_str("1")?;
-        for _ in 0..count {
-            text.push_str(")")?;
-        }
-        Ok(text)
+        line.push_str(behind)?;
+        Ok(line)
     }
 
     #[test]
-    fn reads_what_is_built_and_nothing_else(rt: HostRuntime) -> Result<(), Fail> {
-        let id =
-            "0 imports; Name { letters: [105, 100] }@4 Var(Name { letters: [120] })@18 Fun(Name { letters: [120] }, 0)@9";
-        let k =
-            "0 imports; Name { letters: [107] }@4 Var(Name { letters: [120] })@28 Fun(Name { letters: [121] }, 0)@18 Fun(Name { letters: [120] }, 1)@8";
-        let two =
-            "0 imports; Name { letters: [97] }@4 Truth(true)@8; Name { letters: [98] }@17 Truth(false)@21";
-        let n = "0 imports; Name { letters: [110] }@4 Number(9223372036854775807)@8";
-        let cases: [(&[u8], &str); 22] = [
-            (b"let id = fun x -> x", id),
-            (b"let k = fun x -> (fun y -> (x))", k),
-            (b"let a = true let b = false", two),
-            (b"let n = 9223372036854775807", n),
-            (b"", "0 imports"),
-            (b"# nothing", "0 imports"),
-            (b"let a = b", "NotBuilt(0)"),
-            (b"let a = 1 let b = a", "NotBuilt(0)"),
-            (b"let f = fun x -> y", "NotBuilt(0)"),
-            (b"let a = 1 let a = 2", "NotBuilt(0)"),
-            (b"let n = 9223372036854775808", "NotBuilt(0)"),
-            (b"let a = $", "NotBuilt(0)"),
-            (b"let a = (1", "NotBuilt(0)"),
-            (b"let a = 1)", "NotBuilt(0)"),
-            (b"let a = 1 2", "NotBuilt(0)"),
-            (b"let a = 1 + 2", "NotBuilt(0)"),
-            (b"let a =", "NotBuilt(0)"),
-            (b"let a", "NotBuilt(0)"),
-            (b"let rec f = fun x -> x", "NotBuilt(0)"),
-            (b"import k", "NotBuilt(0)"),
-            (b"let a = {}", "NotBuilt(0)"),
-            (b"let f = fun x x", "NotBuilt(0)"),
+    fn reads_every_form(rt: HostRuntime) -> Result<(), Fail> {
+        let cases: [(&[u8], &str); 44] = [
+            (b"", ""),
+            (b"# nothing", ""),
+            (b"import k", "import k@7; "),
+            (
+                b"import k import m let a = 1",
+                "import k@7; import m@16; a@22: 1@26; ",
+            ),
+            (b"let a = 1 let b = 2", "a@4: 1@8; b@14: 2@18; "),
+            (b"let a = 007", "a@4: 7@8; "),
+            (
+                b"let n = 9223372036854775807",
+                "n@4: 9223372036854775807@8; ",
+            ),
+            (
+                b"let t = true let f = false",
+                "t@4: true@8; f@17: false@21; ",
+            ),
+            (b"let id = fun x -> x", "id@4: x@18 fun x 0@9; "),
+            (
+                b"let k = fun x -> (fun y -> (x))",
+                "k@4: x@28 fun y 0@18 fun x 1@8; ",
+            ),
+            (
+                b"let a = fun x -> x 1",
+                "a@4: x@17 1@19 apply 0 1@17 fun x 2@8; ",
+            ),
+            (b"let a = rec f -> f", "a@4: f@17 rec f 0@8; "),
+            (b"let rec f = f", "f@8: f@12 rec f 0@4; "),
+            (
+                b"let a = 1 + 2",
+                "a@4: +@10 1@8 apply 0 1@10 2@12 apply 2 3@10; ",
+            ),
+            (
+                b"let a = 1 + 2 - 3",
+                "a@4: -@14 +@10 1@8 apply 1 2@10 2@12 apply 3 4@10 apply 0 5@14 3@16 apply 6 7@14; ",
+            ),
+            (
+                b"let a = 1 + 2 * 3",
+                "a@4: +@10 1@8 apply 0 1@10 *@14 2@12 apply 3 4@14 3@16 apply 5 6@14 apply 2 7@10; ",
+            ),
+            (
+                b"let a = 1 * 2 + 3",
+                "a@4: +@14 *@10 1@8 apply 1 2@10 2@12 apply 3 4@10 apply 0 5@14 3@16 apply 6 7@14; ",
+            ),
+            (
+                b"let a = (1 + 2) * 3",
+                "a@4: *@16 +@11 1@9 apply 1 2@11 2@13 apply 3 4@11 apply 0 5@16 3@18 apply 6 7@16; ",
+            ),
+            (
+                b"let a = 1 < 2",
+                "a@4: <@10 1@8 apply 0 1@10 2@12 apply 2 3@10; ",
+            ),
+            (
+                b"let a = 1 == 2 + 3",
+                "a@4: ==@10 1@8 apply 0 1@10 +@15 2@13 apply 3 4@15 3@17 apply 5 6@15 apply 2 7@10; ",
+            ),
+            (
+                b"let a = (1 < 2) == t",
+                "a@4: ==@16 <@11 1@9 apply 1 2@11 2@13 apply 3 4@11 apply 0 5@16 t@19 apply 6 7@16; ",
+            ),
+            (
+                b"let a = f x y",
+                "a@4: f@8 x@10 apply 0 1@8 y@12 apply 2 3@8; ",
+            ),
+            (b"let a = 1 2", "a@4: 1@8 2@10 apply 0 1@8; "),
+            (b"let a = (1) 2", "a@4: 1@9 2@12 apply 0 1@8; "),
+            (
+                b"let a = f (x y)",
+                "a@4: f@8 x@11 y@13 apply 1 2@11 apply 0 3@8; ",
+            ),
+            (
+                b"let a = f x + g y",
+                "a@4: +@12 f@8 x@10 apply 1 2@8 apply 0 3@12 g@14 y@16 apply 5 6@14 apply 4 7@12; ",
+            ),
+            (b"let a = r.l.m", "a@4: r@8 0.l@10 1.m@12; "),
+            (b"let a = f r.l", "a@4: f@8 r@10 1.l@12 apply 0 2@8; "),
+            (b"let a = (f x).l", "a@4: f@9 x@11 apply 0 1@9 2.l@14; "),
+            (
+                b"let a = r.f x.y 1",
+                "a@4: r@8 0.f@10 x@12 2.y@14 apply 1 3@8 1@16 apply 4 5@8; ",
+            ),
+            (b"let a = {}", "a@4: { }@8; "),
+            (
+                b"let a = {x = 1, y = {}}",
+                "a@4: 1@13 { }@20 { x:0 y:1 }@8; ",
+            ),
+            (b"let a = {y = 1, x = 2}", "a@4: 1@13 2@20 { y:0 x:1 }@8; "),
+            (b"let a = {x = {x = 1}}", "a@4: 1@18 { x:0 }@13 { x:1 }@8; "),
+            (b"let a = {x = 1}.x", "a@4: 1@13 { x:0 }@8 1.x@16; "),
+            (
+                b"let a = {x = 1 + 2, y = f z}",
+                "a@4: +@15 1@13 apply 0 1@15 2@17 apply 2 3@15 f@24 z@26 apply 5 6@24 { x:4 y:7 }@8; ",
+            ),
+            (
+                b"let a = if b then 1 else 2",
+                "a@4: b@11 1@18 2@25 if 0 1 2@8; ",
+            ),
+            (
+                b"let a = if b then 1 else 2 + 3",
+                "a@4: b@11 1@18 +@27 2@25 apply 2 3@27 3@29 apply 4 5@27 if 0 1 6@8; ",
+            ),
+            (
+                b"let a = let x = 1 in x",
+                "a@4: 1@16 x@21 let x 0 1@8; ",
+            ),
+            (
+                b"let a = let rec f = f in f",
+                "a@4: f@20 rec f 0@12 f@25 let f 1 2@8; ",
+            ),
+            (
+                b"let a = let x = let y = 1 in y in x",
+                "a@4: 1@24 y@29 let y 0 1@16 x@34 let x 2 3@8; ",
+            ),
+            (
+                b"let a = (let x = 1 in x) 2",
+                "a@4: 1@17 x@22 let x 0 1@9 2@25 apply 2 3@8; ",
+            ),
+            (
+                b"import a let a = 1",
+                "import a@7; a@13: 1@17; ",
+            ),
+            (
+                b"let x = x# x\nlet y = x",
+                "x@4: x@8; y@17: x@21; ",
+            ),
+        ];
+        for (text, want) in cases {
+            let line = shown(rt.alloc(), text)?;
+            assert_eq!(rt; line.as_str(), want);
+        }
+        Ok(())
+    }
+
+    #[test]
+    fn answers_the_first_fault(rt: HostRuntime) -> Result<(), Fail> {
+        let cases: [(&[u8], &str); 62] = [
+            (b"$", "BadByte(0)"),
+            (b"let a = @", "BadByte(8)"),
+            (b"let n = 9223372036854775808", "BigNumber(8)"),
+            (b"let n = 9223372036854775808 $", "BigNumber(8)"),
+            (b"let a = ) $", "BadByte(10)"),
+            (b"import k import k $", "BadByte(18)"),
+            (b"a", "Unexpected(0, Name)"),
+            (b"l", "Unexpected(0, Name)"),
+            (b"le", "Unexpected(0, Name)"),
+            (b"let", "Ended"),
+            (b"let a", "Ended"),
+            (b"let a =", "Ended"),
+            (b"let rec", "Ended"),
+            (b"import", "Ended"),
+            (b"let a = (", "Ended"),
+            (b"let a = (1", "Ended"),
+            (b"let a = {", "Ended"),
+            (b"let a = {x", "Ended"),
+            (b"let a = {x =", "Ended"),
+            (b"let a = {x = 1", "Ended"),
+            (b"let a = {x = 1,", "Ended"),
+            (b"let a = 1 +", "Ended"),
+            (b"let a = x.", "Ended"),
+            (b"let id = fun x ->", "Ended"),
+            (b"let a = if 1 then 2", "Ended"),
+            (b"let a = let x = 1", "Ended"),
+            (b"let a = let x = 1 in", "Ended"),
+            (b"import let", "Unexpected(7, WordLet)"),
+            (b"let a = 1 import k", "Unexpected(10, WordImport)"),
+            (b"let a = )", "Unexpected(8, ParenRight)"),
+            (b"let a = 1)", "Unexpected(9, ParenRight)"),
+            (b"let let", "Unexpected(4, WordLet)"),
+            (b"let and = 1", "Unexpected(4, WordAnd)"),
+            (b"let a a", "Unexpected(6, Name)"),
+            (b"let a = =", "Unexpected(8, Equals)"),
+            (b"let f = fun x x", "Unexpected(14, Name)"),
+            (b"let f = fun 1", "Unexpected(12, Number)"),
+            (b"let a = 1 < 2 < 3", "Unexpected(14, Less)"),
+            (b"let a = 1 < 2 == 3", "Unexpected(14, DoubleEquals)"),
+            (b"let a = f fun x -> x", "Unexpected(10, WordFun)"),
+            (b"let a = 1 + fun x -> x", "Unexpected(12, WordFun)"),
+            (b"let a = {1}", "Unexpected(9, Number)"),
+            (b"let a = {x 1}", "Unexpected(11, Number)"),
+            (b"let a = {x = 1,}", "Unexpected(15, BraceRight)"),
+            (b"let a = {x = 1 y = 2}", "Unexpected(17, Equals)"),
+            (b"let a = r.1", "Unexpected(10, Number)"),
+            (b"let a = if 1 else 2", "Unexpected(13, WordElse)"),
+            (b"let a = let x = 1 let b = 2", "Unexpected(18, WordLet)"),
+            (b"let a = 1 in 2", "Unexpected(10, WordIn)"),
+            (b"val x : int", "Unexpected(0, WordVal)"),
+            (b"let a = 1 | 2", "Unexpected(10, Bar)"),
+            (b"let a = 1 let a = 2", "DuplicateBinding(14)"),
+            (b"let a = 1 let rec a = 2", "DuplicateBinding(18)"),
+            (b"import k\nimport k", "DuplicateImport(16)"),
+            (b"let r = {a = 1, a = 2}", "DuplicateLabel(16)"),
+            (
+                b"let r = {a = {b = 1, b = 2}, a = 3}",
+                "DuplicateLabel(21)",
+            ),
+            (
+                b"let r = {a = 1, a = {b = 1, b = 2}}",
+                "DuplicateLabel(16)",
+            ),
+            (
+                b"let r = {a = 1, b = 2, a = 3, b = 4}",
+                "DuplicateLabel(23)",
+            ),
+            (
+                b"let a = 1 let a = {x = 1, x = 2}",
+                "DuplicateBinding(14)",
+            ),
+            (
+                b"let a = {x = 1, x = 2} let a = 1",
+                "DuplicateLabel(16)",
+            ),
+            (
+                b"import k import k let a = {x = 1, x = 2}",
+                "DuplicateImport(16)",
+            ),
+            (b"let a = {x = 1, x = 2} )", "Unexpected(23, ParenRight)"),
         ];
         for (text, want) in cases {
             let line = shown(rt.alloc(), text)?;
@@ -421,16 +437,42 @@ mod tests {
 
     #[test]
     fn reads_down_to_the_deepest_nesting(rt: HostRuntime) -> Result<(), Fail> {
+        for (text, behind, want) in [
+            ("(", "1", "TooDeep(208)"),
+            ("(", "", "Ended"),
+            ("(", ")", "Unexpected(208, ParenRight)"),
+            ("fun x -> ", "x", "TooDeep(1808)"),
+            ("f (", "x", "TooDeep(608)"),
+            ("{l = ", "x", "TooDeep(1008)"),
+            ("if ", "x", "TooDeep(608)"),
+            ("let x = ", "x", "TooDeep(1608)"),
+        ] {
+            let alloc = rt.alloc();
+            let text = repeated(alloc, "let a = ", text, 200, behind)?;
+            let line = shown(alloc, text.as_bytes())?;
+            assert_eq!(rt; line.as_str(), want);
+        }
         let alloc = rt.alloc();
-        let deepest = in_parentheses(alloc, 199)?;
-        let too_deep = in_parentheses(alloc, 200)?;
-        assert!(rt; parse_module(alloc, deepest.as_bytes()).is_ok());
-        assert!(rt;
-            matches!(
-                parse_module(alloc, too_deep.as_bytes()),
-                Err(Fault::NotBuilt(0))
-            )
-        );
+        let inner = repeated(alloc, "1", ")", 199, "")?;
+        let text = repeated(alloc, "let d = ", "(", 199, inner.as_str())?;
+        assert_eq!(rt; shown(alloc, text.as_bytes())?.as_str(), "d@4: 1@207; ");
+        Ok(())
+    }
+
+    #[test]
+    fn reads_long_chains(rt: HostRuntime) -> Result<(), Fail> {
+        let alloc = rt.alloc();
+        for (before, text, count, nodes) in [
+            ("let a = 1", "+1", 40_000, 160_001),
+            ("let a = f", " x", 40_000, 80_001),
+            ("let a = r", ".l", 40_000, 40_001),
+        ] {
+            let text = repeated(alloc, before, text, count, "")?;
+            let module = parse_module(alloc, text.as_bytes())?;
+            for binding in module.bindings.as_slice() {
+                assert_eq!(rt; binding.expr.nodes.len(), nodes);
+            }
+        }
         Ok(())
     }
 }

@@ -1,4 +1,4 @@
-use Rattle.mls_syntax.proofs.OneModule.{one_module}
+use Rattle.mls_syntax.proofs.ModuleLaws.{one_module}
 use Rattle.mls_syntax.proofs.laws.one_module.Goals as goal
 
 pub returns : goal.returns
