@@ -7,8 +7,9 @@ use Rattle.mls_lexer.specs.Tokens.{line_of, column_of}
 use Rattle.mls_syntax.specs.declared.parse.Fault.{Fault}
 use Rattle.mls_syntax.specs.declared.module.Module.{Module}
 use Rattle.mls_syntax.specs.declared.term.Resolved.{Resolved}
-use Rattle.mls_syntax.specs.Modules.{HasFault, IsPlainModuleOf}
+use Rattle.mls_syntax.specs.Modules.{IsModuleText}
 use Rattle.mls_syntax.specs.Resolution.{Resolves}
+use Rattle.mls_syntax.specs.Unbuilt.{AreAllBuilt}
 use Rattle.mls_top.specs.declared.answer.Answer.{Answer}
 use Rattle.mls_top.specs.declared.answer.Halt.{Halt}
 use Rattle.mls_top.specs.declared.answer.Halt.TheVariants as halt
@@ -17,25 +18,25 @@ use Rattle.mls_top.specs.declared.fetching.Stop.{Stop}
 use Rattle.mls_top.specs.declared.fetching.Stop.TheVariants as stop
 use Rattle.mls_top.specs.declared.status.Status.TheVariants.{Done, BadText}
 use Rattle.mls_top.specs.Lines.{module_file, fault_line, fault_number, fault_text, fault_place}
-use Rattle.mls_top.specs.Outcomes.{no_text, has_text, faulty, signed, refused, bad_text, inferred, no_file, too_long, text_at, module_limit, IsInferred}
+use Rattle.mls_top.specs.Outcomes.{no_text, has_text, InfersFrom, signed, refused, bad_text, inferred, no_file, too_long, text_at, module_limit, IsInferred}
 use Rattle.mls_top.specs.Fetching.{HoldsOf}
 use Rattle.mls_top.specs.Answering.{IsSignature, IsRefused}
 use Rattle.mls_top.specs.Answers.{IsAnswerOf, infer}
 
--- a text with a fault is told by its line
-pub faulty_is_inferred : (x text said : List ℕ) (fault : Fault) → HasFault text fault → said ≡ fault_line (module_file x) (line_of text (fault_place (length text) fault)) (column_of text (fault_place (length text) fault)) (fault_number fault) (fault_text fault) → IsInferred x text BadText said
-faulty_is_inferred x text said fault h e = record {
+-- a text that is refused is told by the line of its fault
+pub refused_is_inferred : (x text said : List ℕ) (fault : Fault) → InfersFrom x text (refused (bad_text (module_file x) text fault)) → said ≡ fault_line (module_file x) (line_of text (fault_place (length text) fault)) (column_of text (fault_place (length text) fault)) (fault_number fault) (fault_text fault) → IsInferred x text BadText said
+refused_is_inferred x text said fault h e = record {
   outcome = refused (bad_text (module_file x) text fault);
-  found = faulty h;
+  found = h;
   status_is = refl;
   text_is = e;
 }
 
 -- the signature of a module is what is found for its text
-pub signed_is_inferred : (x text said : List ℕ) (m : Module) (r : Resolved) → IsPlainModuleOf text m → Resolves m [] r → IsSignature r.bindings said → IsInferred x text Done said
-signed_is_inferred x text said m r h resolves s = record {
+pub signed_is_inferred : (x text said : List ℕ) (m : Module) (r : Resolved) → IsModuleText text m → m.imports ≡ [] → Resolves m [] r → AreAllBuilt r → IsSignature r.bindings said → IsInferred x text Done said
+signed_is_inferred x text said m r h none resolves built s = record {
   outcome = inferred s.entries;
-  found = signed h resolves s.are_entries;
+  found = signed h none resolves built s.are_entries;
   status_is = refl;
   text_is = s.text_is;
 }

@@ -1,4 +1,5 @@
 -- The lines that are printed.
+pub use Rattle.mls_syntax.specs.Faults.{fault_place}
 use Rattle.std.specs.Prelude.{ℕ, List, [], ◌++◌, codes, decimal}
 use Rattle.mls_syntax.specs.declared.parse.Fault.{Fault}
 use Rattle.mls_syntax.specs.declared.parse.Fault.TheVariants.{BadByte, BigNumber, Unexpected, Ended, TooDeep, DuplicateBinding, DuplicateLabel, DuplicateImport, UnknownName, NotBuilt, Memory}
@@ -43,20 +44,6 @@ fault_text (DuplicateLabel at) = codes "label given twice"
 fault_text (DuplicateImport at) = codes "module imported twice"
 fault_text (NotBuilt at) = codes "not built yet"
 fault_text Memory = []
-
--- the place of a fault of a text of this length
-abbrev pub fault_place : ℕ → Fault → ℕ
-fault_place length (BadByte at) = at
-fault_place length (BigNumber at) = at
-fault_place length (Unexpected at kind) = at
-fault_place length Ended = length
-fault_place length (TooDeep at) = at
-fault_place length (UnknownName at) = at
-fault_place length (DuplicateBinding at) = at
-fault_place length (DuplicateLabel at) = at
-fault_place length (DuplicateImport at) = at
-fault_place length (NotBuilt at) = at
-fault_place length Memory = 0
 
 -- FILE:LINE:COLUMN: fault NUMBER: TEXT
 abbrev pub fault_line : List ℕ → (line column number : ℕ) → List ℕ → List ℕ

@@ -7,8 +7,12 @@ use Rattle.mls_syntax.specs.declared.module.Module.{Module}
 use Rattle.mls_syntax.specs.declared.term.Resolved.{Resolved}
 use Rattle.mls_syntax.specs.declared.term.ResolvedBinding.{ResolvedBinding}
 use Rattle.mls_syntax.specs.declared.parse.Fault.{Fault}
-use Rattle.mls_syntax.specs.Modules.{IsPlainModuleOf, HasFault}
-use Rattle.mls_syntax.specs.Resolution.{Resolves}
+use Rattle.mls_syntax.specs.declared.module.Import.{Import}
+use Rattle.mls_syntax.specs.declared.parse.Fault.TheVariants.{NotBuilt}
+use Rattle.mls_syntax.specs.Modules.{IsModuleText}
+use Rattle.mls_syntax.specs.FirstFaults.{HasFirstFault}
+use Rattle.mls_syntax.specs.Resolution.{Resolves, HasUnknownName}
+use Rattle.mls_syntax.specs.Unbuilt.{AreAllBuilt, IsLeastUnbuilt}
 use Rattle.mls_syntax.specs.Terms.{TermTree, postorder}
 use Rattle.mls_syntax.specs.Derivations.{Known, IsBest}
 use Rattle.mls_typetext.specs.declared.scheme.ReadScheme.{ReadScheme}
@@ -81,10 +85,19 @@ pub data Outcome : Type 0 where
 
 -- what is found for the text of the module of this name, by the first case that holds
 pub data InfersFrom (x text : List ℕ) : Outcome → Type 0 where
-  -- the text has a first fault
-  faulty : {fault : Fault} → HasFault text fault → InfersFrom x text (refused (bad_text (module_file x) text fault))
+  -- the text has a first fault before its names are looked at
+  faulty : {fault : Fault} → HasFirstFault text fault → InfersFrom x text (refused (bad_text (module_file x) text fault))
+  -- the module has an import; so far modules without imports alone are inferred
+  imports_first : {m : Module} {i : Import} {rest : List Import} → IsModuleText text m → m.imports ≡ i ∷ rest
+      → InfersFrom x text (refused (bad_text (module_file x) text (NotBuilt i.at)))
+  -- a name has no meaning
+  unknown : {m : Module} {fault : Fault} → IsModuleText text m → m.imports ≡ [] → HasUnknownName m [] fault
+      → InfersFrom x text (refused (bad_text (module_file x) text fault))
+  -- a node has a form for which nothing is inferred so far
+  unbuilt : {m : Module} {r : Resolved} {at : ℕ} → IsModuleText text m → m.imports ≡ [] → Resolves m [] r → IsLeastUnbuilt r at
+      → InfersFrom x text (refused (bad_text (module_file x) text (NotBuilt at)))
   -- each binding has an entry
-  signed : {m : Module} {r : Resolved} {entries : List Entry} → IsPlainModuleOf text m → Resolves m [] r → AreEntriesOf [] r.bindings entries
+  signed : {m : Module} {r : Resolved} {entries : List Entry} → IsModuleText text m → m.imports ≡ [] → Resolves m [] r → AreAllBuilt r → AreEntriesOf [] r.bindings entries
       → InfersFrom x text (inferred entries)
 
 -- what is found for the module of this name over these files, by the first case that holds

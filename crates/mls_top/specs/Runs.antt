@@ -1,9 +1,12 @@
 -- What a run of the program does to its store and its sink.
-use Rattle.std.specs.Prelude.{◌≡◌, ◌⊎◌, ℕ, List, Ok, Some}
+use Rattle.std.specs.Prelude.{◌≡◌, ◌⊎◌, ℕ, List, [], Ok, Some}
 use Rattle.mls_base.specs.Files.{Files}
 use Rattle.mls_io.specs.Sinks.{Written, Adds, TakesNone}
 use Rattle.mls_syntax.specs.declared.module.Module.{Module}
-use Rattle.mls_syntax.specs.Modules.{IsPlainModuleOf}
+use Rattle.mls_syntax.specs.declared.term.Resolved.{Resolved}
+use Rattle.mls_syntax.specs.Modules.{IsModuleText}
+use Rattle.mls_syntax.specs.Resolution.{Resolves}
+use Rattle.mls_syntax.specs.Unbuilt.{AreAllBuilt}
 use Rattle.mls_top.specs.declared.status.Status.{Status}
 use Rattle.mls_top.specs.declared.status.Status.TheVariants.{Memory, Usage}
 use Rattle.mls_top.specs.Answers.{IsAnswer, IsFrontOfAnswer}
@@ -33,11 +36,16 @@ IsCutOffOrNothing files words old new = TakesNone old new ⊎ IsCutOff files wor
 abbrev pub IsWithoutCommand : (old new : Written) → Status → Type 0
 IsWithoutCommand old new status = IsTold Usage usage_line old new status ⊎ ((status ≡ Memory) × TakesNone old new)
 
--- the words ask for the signature of a module whose text the files have within its limit and which is a module
+-- the words ask for the signature of a module whose text the files have within its limit; it is a module without imports, whose names have
+-- meanings, and it has the forms alone for which types are inferred so far
 pub record CanBeInferred (files : Files) (words : List (List ℕ)) : Type 0 where
   pub x : List ℕ
   pub text : List ℕ
   pub «module» : Module
   pub is_command : command_of words ≡ Some (Infer x)
   pub is_there : text_at files (module_file x) module_limit ≡ Ok text
-  pub is_module : IsPlainModuleOf text «module»
+  pub is_module : IsModuleText text «module»
+  pub no_imports : «module».imports ≡ []
+  pub resolved : Resolved
+  pub resolves : Resolves «module» [] resolved
+  pub built : AreAllBuilt resolved

@@ -1,7 +1,7 @@
 //! The signature of a module, as a function of the module's text. No store and no sink is in scope here.
-ghost use Rattle.std.specs.Prelude.{◌≡◌, ◌≢◌, All, IfOk};
-ghost use Rattle.mls_syntax.specs.Modules.{HasFault};
-ghost use Rattle.mls_top.specs.Outcomes.{IsInferred};
+ghost use Rattle.std.specs.Prelude.{◌≡◌, ◌≢◌, ◌≤◌, length, IfOk};
+ghost use Rattle.mls_top.specs.Lines.{module_file, fault_place};
+ghost use Rattle.mls_top.specs.Outcomes.{IsInferred, InfersFrom, refused, bad_text};
 
 use crate::answer::Answer;
 use crate::lines::{fault_line, fault_number, fault_place, fault_text, module_file};
@@ -12,9 +12,14 @@ use mls_book::name::Name;
 use mls_lexer::place::locate;
 use mls_syntax::parse::{Fault, parse_module};
 use mls_syntax::resolve::resolve;
+use mls_syntax::unbuilt::first_unbuilt;
 use std::alloc::Global;
 
-/// The answer of `infer` for the module of this name with this text.
+/// The answer of `infer` for the module of this name with this text: its signature, or the fault for which it has none.
+///
+/// So far types are inferred for modules without imports, of functions, names that they bind, numbers and truth values.
+/// Every other module is refused by `NotBuilt` at its first import or, once its names are looked up, at the first
+/// expression of another form.
 pub fn infer(alloc: Global, name: &Name, text: &[u8]) -> Result<Answer, Memory>
     ensures { IfOk result (λ answer. IsInferred name.now text.now answer.status answer.text.items) }
 {
@@ -22,18 +27,26 @@ pub fn infer(alloc: Global, name: &Name, text: &[u8]) -> Result<Answer, Memory>
         Ok(source) => source,
         Err(fault) => return bad_text(alloc, name, text, fault),
     };
-    match resolve(alloc, &source, &[]) {
-        Ok(resolved) => Ok(Answer {
-            status: Status::Done,
-            text: signature(alloc, &resolved)?,
-        }),
-        Err(_) => Err(Memory),
+    if let Some(import) = source.imports.as_slice().first() {
+        return bad_text(alloc, name, text, Fault::NotBuilt(import.at));
     }
+    let resolved = match resolve(alloc, &source, &[]) {
+        Ok(resolved) => resolved,
+        Err(fault) => return bad_text(alloc, name, text, fault),
+    };
+    if let Some(at) = first_unbuilt(&resolved) {
+        return bad_text(alloc, name, text, Fault::NotBuilt(at));
+    }
+    Ok(Answer {
+        status: Status::Done,
+        text: signature(alloc, &resolved)?,
+    })
 }
 
-// The answer for a text with this first fault.
+// The answer for a text that is refused for this fault.
 fn bad_text(alloc: Global, name: &Name, text: &[u8], fault: Fault) -> Result<Answer, Memory>
-    requires { fault ≢ Fault.Memory → HasFault text.now fault }
+    requires found { fault ≢ Fault.Memory → InfersFrom name.now text.now (refused (bad_text (module_file name.now) text.now fault)) }
+    requires within { fault ≢ Fault.Memory → fault_place (length text.now) fault ≤ length text.now }
     ensures { IfOk result (λ answer. IsInferred name.now text.now answer.status answer.text.items) }
 {
     if fault == Fault::Memory {
