@@ -22,6 +22,9 @@ pub mod OneTree
 pub mod PlainPhrases
 pub mod ReadBindings
 pub mod ReadModules
+pub mod ReaderLoops
+pub mod ReaderParts
+pub mod ReaderSteps
 pub mod Refusals
 pub mod Resolving
 pub mod Rules

@@ -12,6 +12,7 @@ pub mod Modules
 pub mod Nodes
 pub mod Phrases
 pub mod Pieces
+pub mod Readings
 pub mod Reads
 pub mod Resolution
 pub mod Terms

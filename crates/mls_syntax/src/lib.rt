@@ -6,6 +6,7 @@ pub mod laws;
 pub mod module;
 pub mod parse;
 mod piece;
+mod read;
 pub mod resolve;
 pub mod term;
 pub mod typing_laws;
