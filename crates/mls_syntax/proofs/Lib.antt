@@ -22,6 +22,7 @@ pub mod OneTree
 pub mod PlainPhrases
 pub mod ReadBindings
 pub mod ReadModules
+pub mod ReaderEnds
 pub mod ReaderLoops
 pub mod ReaderParts
 pub mod ReaderSteps

@@ -1,12 +1,12 @@
 -- The loops over the stack of the reader of modules.
-use Rattle.std.proofs.Common.{◌≡◌, ◌≢◌, ℕ, suc, Bool, true, false, List, [], ◌∷◌, ◌++◌, map, reverse, refl, sym, ap, ◌∙◌, append-nil, Some, None}
-use Rattle.std.specs.Prelude.{Option, ◌&&◌}
+use Rattle.std.proofs.Common.{◌≡◌, ◌≢◌, ℕ, suc, Bool, true, false, List, [], ◌∷◌, ◌++◌, map, reverse, refl, sym, ap, ◌∙◌, append-nil, subst, Some, None, Ok, Err}
+use Rattle.std.specs.Prelude.{Option, Result, IsErrAnd, IfErr}
 use Rattle.std.specs.List.{list_all}
 use Rattle.std.proofs.lemmas.List.{reverse-append, map-append}
 use Rattle.mls_lexer.specs.declared.token.Token.{Token}
 use Rattle.mls_lexer.specs.Tokens.{Terminal, terminal}
 use Rattle.mls_syntax.specs.declared.parse.Fault.{Fault}
-use Rattle.mls_syntax.specs.declared.parse.Fault.TheVariants.{Unexpected}
+use Rattle.mls_syntax.specs.declared.parse.Fault.TheVariants.{Unexpected, Memory}
 use Rattle.mls_syntax.specs.declared.piece.Piece.{Piece}
 use Rattle.mls_syntax.specs.declared.piece.Event.{Event}
 use Rattle.mls_syntax.specs.declared.read.Part.{Part}
@@ -91,3 +91,8 @@ end_same reader = record { owed = refl; told = refl; events = refl }
 last_told-part : (p : Part) (st : List Todo) (told : List Piece) → last_told (part_of p ∷ st) told ≡ last_told st told
 last_told-part part.Imports st told = refl
 last_told-part _ st told = refl
+
+-- the exit of a `?` after a fault that tells more
+pub fault-passed : {T : Type 0} (result : Result T Fault) (fault : Fault) (P Q : Fault → Type 0) → IsErrAnd result (λ e. e ≡ fault) → ((e : Fault) → P e → Q e) → (fault ≢ Memory → P fault) → IfErr result (λ e. e ≢ Memory → Q e)
+fault-passed (Ok x) fault P Q is more h = tt
+fault-passed (Err e) fault P Q is more h = λ other. more e (subst P (sym is) (h (λ memory. other (is ∙ memory))))
