@@ -224,7 +224,7 @@ first (x ∷ xs) = go (cases_lt x 201) (cases_lt 201 x) (first xs)
     go (inr h) (inl i) rest = first-later x xs (λ e. absurd (omega arith)) rest
     go (inr h) (inr i) rest = let here : x ≡ 201 = omega arith in inl (0, ap (λ y. Some y) here, (λ j low e. absurd (omega arith)))
 
-mark-within : (ts : List Terminal) (st : List Part) (k m : ℕ) → slice_get (marks st ts) k ≡ Some m → k < length ts
+pub mark-within : (ts : List Terminal) (st : List Part) (k m : ℕ) → slice_get (marks st ts) k ≡ Some m → k < length ts
 unfolding marks
 mark-within [] st k m e = absurd (cc)
 mark-within (t ∷ ts) st zero m e = omega arith

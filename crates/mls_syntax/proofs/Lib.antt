@@ -28,6 +28,10 @@ pub mod OrderedPieces
 pub mod ParsedModules
 pub mod Placed
 pub mod PlacesWithin
+pub mod ReaderEnds
+pub mod ReaderLoops
+pub mod ReaderParts
+pub mod ReaderSteps
 pub mod Reading
 pub mod Resolving
 pub mod Rules

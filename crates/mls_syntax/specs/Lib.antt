@@ -14,6 +14,7 @@ pub mod Modules
 pub mod Nodes
 pub mod Phrases
 pub mod Pieces
+pub mod Readings
 pub mod Resolution
 pub mod Terms
 pub mod Told
