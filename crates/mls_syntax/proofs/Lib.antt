@@ -26,6 +26,7 @@ pub mod OnePhrase
 pub mod OneTree
 pub mod OrderedPieces
 pub mod ParsedModules
+pub mod PassedFaults
 pub mod Placed
 pub mod PlacesWithin
 pub mod ReaderEnds

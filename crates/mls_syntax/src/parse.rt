@@ -312,10 +312,7 @@ mod tests {
                 b"let a = if b then 1 else 2 + 3",
                 "a@4: b@11 1@18 +@27 2@25 apply 2 3@27 3@29 apply 4 5@27 if 0 1 6@8; ",
             ),
-            (
-                b"let a = let x = 1 in x",
-                "a@4: 1@16 x@21 let x 0 1@8; ",
-            ),
+            (b"let a = let x = 1 in x", "a@4: 1@16 x@21 let x 0 1@8; "),
             (
                 b"let a = let rec f = f in f",
                 "a@4: f@20 rec f 0@12 f@25 let f 1 2@8; ",
@@ -328,14 +325,8 @@ mod tests {
                 b"let a = (let x = 1 in x) 2",
                 "a@4: 1@17 x@22 let x 0 1@9 2@25 apply 2 3@8; ",
             ),
-            (
-                b"import a let a = 1",
-                "import a@7; a@13: 1@17; ",
-            ),
-            (
-                b"let x = x# x\nlet y = x",
-                "x@4: x@8; y@17: x@21; ",
-            ),
+            (b"import a let a = 1", "import a@7; a@13: 1@17; "),
+            (b"let x = x# x\nlet y = x", "x@4: x@8; y@17: x@21; "),
         ];
         for (text, want) in cases {
             let line = shown(rt.alloc(), text)?;
@@ -402,26 +393,14 @@ mod tests {
             (b"let a = 1 let rec a = 2", "DuplicateBinding(18)"),
             (b"import k\nimport k", "DuplicateImport(16)"),
             (b"let r = {a = 1, a = 2}", "DuplicateLabel(16)"),
-            (
-                b"let r = {a = {b = 1, b = 2}, a = 3}",
-                "DuplicateLabel(21)",
-            ),
-            (
-                b"let r = {a = 1, a = {b = 1, b = 2}}",
-                "DuplicateLabel(16)",
-            ),
+            (b"let r = {a = {b = 1, b = 2}, a = 3}", "DuplicateLabel(21)"),
+            (b"let r = {a = 1, a = {b = 1, b = 2}}", "DuplicateLabel(16)"),
             (
                 b"let r = {a = 1, b = 2, a = 3, b = 4}",
                 "DuplicateLabel(23)",
             ),
-            (
-                b"let a = 1 let a = {x = 1, x = 2}",
-                "DuplicateBinding(14)",
-            ),
-            (
-                b"let a = {x = 1, x = 2} let a = 1",
-                "DuplicateLabel(16)",
-            ),
+            (b"let a = 1 let a = {x = 1, x = 2}", "DuplicateBinding(14)"),
+            (b"let a = {x = 1, x = 2} let a = 1", "DuplicateLabel(16)"),
             (
                 b"import k import k let a = {x = 1, x = 2}",
                 "DuplicateImport(16)",
