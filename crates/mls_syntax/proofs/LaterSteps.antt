@@ -1,9 +1,9 @@
 -- What the functions over the stack do is what the machine does.
 use Rattle.std.proofs.Common.{◌≡◌, ℕ, ◌+◌, List, [], ◌∷◌, ◌++◌, reverse, sym, ap, ◌∙◌, add-one}
-use Rattle.std.proofs.lemmas.List.{reverse-append, append_assoc, append-nil}
+use Rattle.std.proofs.lemmas.List.{reverse-append, append_assoc}
 use Rattle.mls_syntax.specs.declared.piece.Piece.{Piece}
 use Rattle.mls_syntax.specs.declared.nodes.Later.{Later}
-use Rattle.mls_syntax.specs.declared.nodes.Later.TheVariants.{Part, Tell}
+use Rattle.mls_syntax.specs.declared.nodes.Later.TheVariants.{Part}
 use Rattle.mls_syntax.specs.Arranging.{node_piece, fronts, told, left, parts, arrangement}
 
 -- a stack and what was told give the same as these
@@ -14,27 +14,6 @@ pub record GiveSame (later old_later : List Later) (backward old_backward : List
 -- the last of a list comes first in the reverse
 pub reverse-last : {X : Type 0} (xs old : List X) (x : X) → old ≡ xs ++ x ∷ [] → reverse old ≡ x ∷ reverse xs
 reverse-last xs old x e = ap reverse e ∙ reverse-append xs (x ∷ [])
-
-pub give_same-tell : (st rest old : List Later) (p : Piece) (out new before : List Piece) → st ≡ rest ++ Tell p ∷ [] → new ≡ out ++ p ∷ [] → GiveSame st old out before → GiveSame rest old new before
-give_same-tell st rest old p out new before e f same = record {
-  told =
-      ap (λ l. l ++ told (reverse rest)) f
-      ∙ (append_assoc out (p ∷ []) (told (reverse rest))
-      ∙ (ap (λ l. out ++ told l) (sym (reverse-last rest st (Tell p) e)) ∙ same.told));
-  left = ap left (sym (reverse-last rest st (Tell p) e)) ∙ same.left;
-}
-
-pub told-part : (st rest old : List Later) (out before : List Piece) → st ≡ rest ++ Part ∷ [] → GiveSame st old out before → out ≡ before ++ told (reverse old)
-told-part st rest old out before e same = sym (append-nil out) ∙ (ap (λ l. out ++ told l) (sym (reverse-last rest st Part e)) ∙ same.told)
-
-pub left-part : (st rest old : List Later) (out before : List Piece) → st ≡ rest ++ Part ∷ [] → GiveSame st old out before → reverse rest ≡ left (reverse old)
-left-part st rest old out before e same = ap left (sym (reverse-last rest st Part e)) ∙ same.left
-
-pub told-end : (st old : List Later) (out before : List Piece) → st ≡ [] → GiveSame st old out before → out ≡ before ++ told (reverse old)
-told-end st old out before e same = sym (append-nil out) ∙ (ap (λ l. out ++ told (reverse l)) (sym e) ∙ same.told)
-
-pub left-end : (st old : List Later) (out before : List Piece) → st ≡ [] → GiveSame st old out before → reverse st ≡ left (reverse old)
-left-end st old out before e same = (ap reverse e ∙ ap (λ l. left (reverse l)) (sym e)) ∙ same.left
 
 -- one part more on the stack
 pub parts-more : (st more old : List Later) (i : ℕ) → more ≡ st ++ Part ∷ [] → reverse st ≡ parts i ++ reverse old → reverse more ≡ parts (i + 1) ++ reverse old

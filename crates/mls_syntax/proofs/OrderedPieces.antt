@@ -1,5 +1,5 @@
 -- The pieces that tell a module, put into the order of the nodes, make the module.
-use Rattle.std.proofs.Common.{◌≡◌, List, [], reverse, Result, Ok, Err, IfOk, sym, ap, ◌∙◌}
+use Rattle.std.proofs.Common.{◌≡◌, List, [], reverse, Result, Ok, Err, IfOk, ap, ◌∙◌}
 use Rattle.std.proofs.lemmas.List.{reverse-reverse}
 use Rattle.mls_base.specs.declared.memory.Memory.{Memory}
 use Rattle.mls_syntax.specs.declared.module.Module.{Module}

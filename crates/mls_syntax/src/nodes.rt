@@ -1,7 +1,7 @@
 //! From the pieces that tell a module to the module, with the nodes of each binding in order.
 ghost use Rattle.std.specs.Prelude.{◌≡◌, ◌∷◌, ◌++◌, [], reverse, IfOk, OnOk};
 ghost use Rattle.mls_syntax.specs.Arranging.{node_piece, fronts, told, left, part_count, parts, arrangement};
-ghost use Rattle.mls_syntax.specs.Linking.{grown, root_of, without_root, parts_of, without_parts, with_part, with_record, with_import, with_binding, joined, linked, link_start, module_linked};
+ghost use Rattle.mls_syntax.specs.Linking.{grown, root_of, without_root, parts_of, without_parts, with_record, joined, linked, link_start, module_linked};
 ghost use Rattle.mls_syntax.specs.Modules.{module_of};
 ghost use Rattle.mls_syntax.specs.Told.{TellsSource};
 ghost use Rattle.mls_syntax.specs.Trees.{SourceTree};
@@ -152,6 +152,7 @@ fn link(alloc: Global, backward: Vec<Piece>) -> Result<Module, Memory>
 
 // Each piece stands behind its parts, so what a method takes off a list has always been put there.
 impl Linker {
+    // What no piece has made.
     fn new(alloc: Global) -> Linker
         ensures { result ≡ link_start }
     {
@@ -193,7 +194,7 @@ impl Linker {
             Piece::Make(at) => self.make(alloc, at),
             Piece::Import(at, name) => self.imports.push(Import { name, at }),
             Piece::Binding(at, name) => self.binding(alloc, at, name),
-            // An operator stands alone by now.
+            // No operator has its operands with it by now.
             Piece::Binary(..) => Ok(()),
         }
     }
@@ -214,6 +215,7 @@ impl Linker {
         self.roots.pop().unwrap_or(0)
     }
 
+    // Ends a `let` behind its body.
     fn local(&mut self, at: usize, x: Name) -> Result<(), Memory>
         ensures { OnOk result (self.new ≡ joined (Piece.Let at x) self.old) }
     {
@@ -222,6 +224,7 @@ impl Linker {
         self.grow(at, Form::Let(x, bound, body))
     }
 
+    // Ends an `if` behind its second branch.
     fn choice(&mut self, at: usize) -> Result<(), Memory>
         ensures { OnOk result (self.new ≡ joined (Piece.If at) self.old) }
     {
@@ -231,6 +234,7 @@ impl Linker {
         self.grow(at, Form::If(condition, first, second))
     }
 
+    // Ends an application behind its argument.
     fn apply(&mut self, at: usize) -> Result<(), Memory>
         ensures { OnOk result (self.new ≡ joined (Piece.Apply at) self.old) }
     {
@@ -269,7 +273,7 @@ impl Linker {
         Ok(())
     }
 
-    // Makes a record of its parts.
+    // Ends a record: its parts are in the order of the text.
     fn make(&mut self, alloc: Global, at: usize) -> Result<(), Memory>
         ensures { OnOk result (self.new ≡ joined (Piece.Make at) self.old) }
     {
@@ -287,6 +291,7 @@ impl Linker {
         self.bindings.push(Binding { name, at, expr })
     }
 
+    // The module of the pieces.
     fn module(self) -> Module
         ensures { result ≡ module_linked self }
     {
