@@ -1,6 +1,7 @@
-pub mod ChainNodes
-pub mod ChainTerms
+pub mod Bounds
+pub mod BuiltChains
 pub mod Closed
+pub mod Counting
 pub mod Distinct
 pub mod Environments
 pub mod Expressions
@@ -13,11 +14,15 @@ pub mod GrammarNesting
 pub mod GrammarReads
 pub mod GrammarStops
 pub mod GrammarTotal
+pub mod LeastPlaces
+pub mod Meant
 pub mod Metatheory
+pub mod Named
 pub mod MovedDerivations
 pub mod OneModule
 pub mod OnePhrase
 pub mod OneReading
+pub mod OneResolution
 pub mod OneTree
 pub mod PlainPhrases
 pub mod ReadBindings
@@ -25,6 +30,11 @@ pub mod ReadModules
 pub mod Refusals
 pub mod Resolving
 pub mod Rules
+pub mod Scopes
+pub mod Tasks
 pub mod TokensAt
+pub mod TreesOfNodes
 pub mod Undoubled
+pub mod Walking
+pub mod WholeWalks
 pub mod Worked

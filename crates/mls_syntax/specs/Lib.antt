@@ -1,5 +1,5 @@
 pub mod Built
-pub mod Chains
+pub mod Counts
 pub mod Derivations
 pub mod Doubles
 pub mod Faults
@@ -7,12 +7,16 @@ pub mod FirstFaults
 pub mod GrammarFaults
 pub mod GrammarLaws
 pub mod Laws
+pub mod Meanings
 pub mod Modules
 pub mod Nodes
 pub mod Phrases
+pub mod Reading
 pub mod Reads
 pub mod Resolution
+pub mod ResolutionLaws
 pub mod Terms
 pub mod Trees
 pub mod TypingLaws
+pub mod Unbuilt
 pub mod WellFormed

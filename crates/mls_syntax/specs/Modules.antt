@@ -68,6 +68,12 @@ pub record IsTextOf (text : List ℕ) (tree : SourceTree) : Type 0 where
   pub meant : tree ≡ meaning (place_of tokens) 0 phrase
   pub no_doubles : HasNoDoubles tree
 
+-- the module is that of a tree without doubles
+pub record IsModule (m : Module) : Type 0 where
+  pub tree : SourceTree
+  pub no_doubles : HasNoDoubles tree
+  pub nodes : m ≡ module_of tree
+
 -- every name in the tree is bound by a function around it, or is one of these, and it has only the forms that are built:
 -- functions, names, numbers and truth values
 abbrev pub IsPlain : List (List ℕ) → Tree → Type 0

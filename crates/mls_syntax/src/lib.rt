@@ -1,10 +1,14 @@
 //! Modules and their terms: the grammar, the tree of a text, and the meaning of names.
 #![tactic(auto)]
 
+mod counts;
 pub mod grammar_laws;
 pub mod laws;
 pub mod module;
 pub mod parse;
+pub mod resolution_laws;
 pub mod resolve;
+mod resolver;
 pub mod term;
 pub mod typing_laws;
+pub mod unbuilt;
