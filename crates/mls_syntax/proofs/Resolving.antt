@@ -1,78 +1,158 @@
--- Plain modules and their terms.
-use Rattle.std.proofs.Common.{◌≡◌, ℕ, ◌<◌, ◌≤◌, List, [], ◌∷◌, ◌++◌, length, map, take, get_or, All, refl, sym, ap, subst, ◌∙◌, arith}
-use Rattle.std.proofs.lemmas.List.{take_all}
-use Rattle.std.proofs.lemmas.List.Elements.{All-head, All-tail, All-map, All-weaker, All-contains_itself}
+-- Bindings are resolved one after another.
+use Rattle.std.proofs.Common.{◌≡◌, ℕ, zero, suc, ◌+◌, ◌<◌, ◌≤◌, List, [], ◌∷◌, ◌++◌, length, map, take, get_or, refl, sym, ap, subst, ◌∙◌, arith, add-one}
+use Rattle.std.proofs.lemmas.List.{append_assoc, append-nil, take_all, take-map, length-map}
 use Rattle.mls_syntax.specs.declared.module.Binding.{Binding}
 use Rattle.mls_syntax.specs.declared.module.Module.{Module}
+use Rattle.mls_syntax.specs.declared.parse.Fault.{Fault}
+use Rattle.mls_syntax.specs.declared.resolver.Resolver.{Resolver}
 use Rattle.mls_syntax.specs.declared.term.Resolved.{Resolved}
 use Rattle.mls_syntax.specs.declared.term.ResolvedBinding.{ResolvedBinding}
+use Rattle.mls_syntax.specs.declared.term.Term.{Term}
 use Rattle.mls_syntax.specs.Trees.{BindingTree}
-use Rattle.mls_syntax.specs.Modules.{IsPlain, IsPlainModule, binding_of}
-use Rattle.mls_syntax.specs.Resolution.{Scope, scope_after, IsTermOf, AreTermsOf, Resolves, HasChain}
-use Rattle.mls_syntax.specs.Chains.{AreChain, resolved_of}
-use Rattle.mls_syntax.proofs.ChainTerms.{length-plain, binders-plain, lets-plain, chain_of, terms_are, own_term, own_means, own_chain}
+use Rattle.mls_syntax.specs.Trees as tree
+use Rattle.mls_syntax.specs.Modules.{binding_of, IsModule, AreDistinct}
+use Rattle.mls_syntax.specs.Resolution.{Scope, scheme, names_of, unknowns, scope_after, schemes_from, declared_from, declared_count, unknown_names, AreTermsOf, Resolves, HasUnknownName}
+use Rattle.mls_syntax.specs.Meanings.{IsExpression, term_of, binding_in, bindings_in}
+use Rattle.mls_syntax.specs.Reading.{IsReady, IsIdle, HasTerm, HasUnknown}
+use Rattle.mls_syntax.proofs.Meant.{are_terms}
+use Rattle.mls_syntax.proofs.Scopes.{ready_more}
 
--- a plain binding has its term in every scope
-term_of_binding : (scope : Scope) (b : BindingTree) → IsPlain [] b.body → IsTermOf scope b (resolved_of (binding_of b))
-term_of_binding scope b h = record {
-  name = refl;
-  at = refl;
-  term_tree = own_term b.body h;
-  means = own_means b.body h scope;
-  nodes = terms_are b.body h;
-  binders = omega (arith, length-plain [] 0 b.body h, binders-plain [] b.body h);
-  lets = sym (lets-plain [] b.body h);
-}
+abbrev pub names : List BindingTree → List (List ℕ)
+names bs = map (λ (b : BindingTree). b.x) bs
 
-terms_of_bindings : (declared : List (List (List ℕ))) (earlier : List (List ℕ)) (bs : List BindingTree) → All (λ (b : BindingTree). IsPlain [] b.body) bs
-    → AreTermsOf declared earlier bs (map resolved_of (map binding_of bs))
-terms_of_bindings declared earlier [] h = refl
-terms_of_bindings declared earlier (b ∷ bs) h = (
-  resolved_of (binding_of b),
-  map resolved_of (map binding_of bs),
-  refl,
-  term_of_binding (scope_after declared earlier) b (All-head (λ (c : BindingTree). IsPlain [] c.body) b bs h),
-  terms_of_bindings declared (earlier ++ b.x ∷ []) bs (All-tail (λ (c : BindingTree). IsPlain [] c.body) b bs h),
-)
+-- the first k bindings are resolved
+pub record IsSoFar (declared : List (List (List ℕ))) (bs : List BindingTree) (k : ℕ) (r : Resolver) (schemes : ℕ) (rs : List ResolvedBinding) : Type 0 where
+  pub terms : rs ≡ bindings_in declared [] (take k bs)
+  pub all_known : unknown_names declared [] (take k bs) ≡ []
+  pub ready : IsReady r (scope_after declared (names (take k bs)))
+  pub next : schemes ≡ 5 + declared_count declared + k
 
-module _ (m : Module) (p : IsPlainModule m) where
-  bodies : All (λ (b : BindingTree). IsPlain [] b.body) p.tree.bound
-  bodies = λ k d inside. p.plain.bodies _ (All-contains_itself p.tree.bound k d inside)
+-- one of some bindings, and those before it and behind it
+record Split (bs : List BindingTree) (k : ℕ) : Type 0 where
+  b : BindingTree
+  behind : List BindingTree
+  whole : bs ≡ take k bs ++ b ∷ behind
+  more : take (k + 1) bs ≡ take k bs ++ b ∷ []
+  item : (d : Binding) → get_or (map binding_of bs) k d ≡ binding_of b
+  name : (d : List ℕ) → get_or (names bs) k d ≡ b.x
 
+split : (bs : List BindingTree) (k : ℕ) → k < length bs → Split bs k
+split [] k h = absurd (omega arith)
+split (b ∷ bs) zero h = record { b = b; behind = bs; whole = refl; more = refl; item = λ d. refl; name = λ d. refl }
+split (b ∷ bs) (suc k) h =
+    let s = split bs k (omega arith) in
+    let e : suc k + 1 ≡ suc (k + 1) = omega arith in
+    record {
+      b = s.b;
+      behind = s.behind;
+      whole = ap (λ (cs : List BindingTree). b ∷ cs) s.whole;
+      more = ap (λ n. take n (b ∷ bs)) e ∙ ap (λ (cs : List BindingTree). b ∷ cs) s.more;
+      item = s.item;
+      name = s.name;
+    }
+
+module _ (declared : List (List (List ℕ))) where
+  bindings_append : (earlier : List (List ℕ)) (xs ys : List BindingTree) → bindings_in declared earlier (xs ++ ys) ≡ bindings_in declared earlier xs ++ bindings_in declared (earlier ++ names xs) ys
+  bindings_append earlier [] ys = ap (λ es. bindings_in declared es ys) (sym (append-nil earlier))
+  bindings_append earlier (b ∷ bs) ys =
+      ap (λ rs. binding_in (scope_after declared earlier) b ∷ rs)
+      (bindings_append (earlier ++ b.x ∷ []) bs ys ∙ ap (λ es. bindings_in declared (earlier ++ b.x ∷ []) bs ++ bindings_in declared es ys) (append_assoc earlier (b.x ∷ []) (names bs)))
+
+  unknown_append : (earlier : List (List ℕ)) (xs ys : List BindingTree) → unknown_names declared earlier (xs ++ ys) ≡ unknown_names declared earlier xs ++ unknown_names declared (earlier ++ names xs) ys
+  unknown_append earlier [] ys = ap (λ es. unknown_names declared es ys) (sym (append-nil earlier))
+  unknown_append earlier (b ∷ bs) ys =
+      let here = unknowns (names_of (scope_after declared earlier)) b.body in
+      ap (λ ps. here ++ ps) (unknown_append (earlier ++ b.x ∷ []) bs ys ∙ ap (λ es. unknown_names declared (earlier ++ b.x ∷ []) bs ++ unknown_names declared es ys) (append_assoc earlier (b.x ∷ []) (names bs)))
+      ∙ sym (append_assoc here (unknown_names declared (earlier ++ b.x ∷ []) bs) (unknown_names declared (earlier ++ names (b ∷ bs)) ys))
+
+module _ (m : Module) (declared : List (List (List ℕ))) (p : IsModule m) where
   bindings_are : m.bindings ≡ map binding_of p.tree.bound
   bindings_are = ap (λ (n : Module). n.bindings) p.nodes
 
-  -- what holds of each plain binding
-  each_binding : (P : Binding → Type 0) → ((b : BindingTree) → IsPlain [] b.body → P (binding_of b)) → All P m.bindings
-  each_binding P all =
-      subst (λ (bs : List Binding). All P bs) (sym bindings_are)
-      (All-map P binding_of p.tree.bound (All-weaker (λ (b : BindingTree). IsPlain [] b.body) (λ (b : BindingTree). P (binding_of b)) all p.tree.bound bodies))
+  -- at the first binding
+  pub so_far_first : (r : Resolver) (schemes : ℕ) (rs : List ResolvedBinding) → IsReady r (declared_from 5 declared) → schemes ≡ 5 + declared_count declared → rs ≡ [] → IsSoFar declared p.tree.bound 0 r schemes rs
+  so_far_first r schemes rs ready next none = record { terms = none; all_known = refl; ready = ready; next = omega arith }
 
-  pub bindings_are_chains : All (λ (b : Binding). AreChain b.expr.nodes) m.bindings
-  bindings_are_chains = each_binding (λ (b : Binding). AreChain b.expr.nodes) (λ b h. chain_of b.body h)
+  -- at a binding
+  module _ (items : List Binding) (k : ℕ) (item : Binding) (same : items ≡ m.bindings) (inside : k < length items) (is : item ≡ get_or items k item)
+      (r : Resolver) (schemes : ℕ) (rs : List ResolvedBinding) (far : IsSoFar declared p.tree.bound k r schemes rs) where
+    abbrev bs : List BindingTree
+    bs = p.tree.bound
 
-  module _ (r : Resolved) (is : r.bindings ≡ map resolved_of m.bindings) where
-    pub plain_resolves : (declared : List (List (List ℕ))) → Resolves m declared r
-    plain_resolves declared = record {
-      tree = p.tree;
-      nodes = p.nodes;
-      terms =
-          subst (λ (rs : List ResolvedBinding). AreTermsOf declared [] p.tree.bound rs) (sym (is ∙ ap (map resolved_of) bindings_are))
-          (terms_of_bindings declared [] p.tree.bound bodies);
-    }
+    bound_inside : k < length bs
+    bound_inside = omega (arith, ap length (same ∙ bindings_are), length-map bs binding_of)
 
-    pub plain_chains : All HasChain r.bindings
-    plain_chains =
-        subst (λ (rs : List ResolvedBinding). All HasChain rs) (sym is)
-        (All-map HasChain resolved_of m.bindings
-        (each_binding (λ (b : Binding). HasChain (resolved_of b)) (λ b h. record { term_tree = own_term b.body h; chain = own_chain b.body h; nodes = terms_are b.body h })))
+    abbrev s : Split bs k
+    s = split bs k bound_inside
 
-  -- the same of a binding that a loop is at
-  pub chain_at : (items : List Binding) (i : ℕ) (b : Binding) → items ≡ m.bindings → i < length items → b ≡ get_or items i b → AreChain b.expr.nodes
-  chain_at items i b same inside is =
-      let all : All (λ (c : Binding). AreChain c.expr.nodes) items = subst (λ (bs : List Binding). All (λ (c : Binding). AreChain c.expr.nodes) bs) (sym same) bindings_are_chains in
-      subst (λ (c : Binding). AreChain c.expr.nodes) (sym is) (all i b inside)
+    abbrev scope : Scope
+    scope = scope_after declared (names (take k bs))
 
--- at the end of the loop all bindings have their terms
-pub all_resolved : (bs items : List Binding) (rs : List ResolvedBinding) (i : ℕ) → items ≡ bs → length items ≤ i → rs ≡ map resolved_of (take i bs) → rs ≡ map resolved_of bs
-all_resolved bs items rs i same past is = is ∙ ap (map resolved_of) (take_all i bs (subst (λ (l : List Binding). length l ≤ i) same past))
+    item_is : item ≡ binding_of s.b
+    item_is = is ∙ ap (λ (is : List Binding). get_or is k item) (same ∙ bindings_are) ∙ s.item item
+
+    nodes_are : item.expr.nodes ≡ tree.postorder 0 s.b.body
+    nodes_are = ap (λ (b : Binding). b.expr.nodes) item_is
+
+    pub is_expression : IsExpression item.expr.nodes
+    is_expression = (s.b.body, nodes_are)
+
+    pub is_idle : IsIdle r
+    is_idle = (scope, far.ready)
+
+    pub has_unknown_name : (fault : Fault) → HasUnknown r item.expr.nodes fault → HasUnknownName m declared fault
+    has_unknown_name fault h =
+        let it = h scope s.b.body nodes_are far.ready in
+        let rest = unknown_names declared (names (take k bs) ++ s.b.x ∷ []) s.behind in
+        record {
+          tree = p.tree;
+          nodes = p.nodes;
+          place = it.0;
+          later = it.1 ++ rest;
+          first =
+              ap (unknown_names declared []) s.whole
+              ∙ unknown_append declared [] (take k bs) (s.b ∷ s.behind)
+              ∙ (λ i. far.all_known i ++ (it.2 i ++ rest));
+          fault_is = it.3;
+        }
+
+    pub so_far_more : (middle new : Resolver) (result : ResolvedBinding) (next : ℕ) (more : List ResolvedBinding)
+        → result.name ≡ item.name → result.at ≡ item.at → HasTerm r middle item.expr.nodes result.term → more ≡ rs ++ result ∷ []
+        → ((outer : Scope) → IsReady middle outer → IsReady new ((item.name, scheme schemes) ∷ outer)) → next ≡ schemes + 1
+        → IsSoFar declared bs (k + 1) new next more
+    so_far_more middle new result next more name at has pushed declares next_is =
+        let it = has scope s.b.body nodes_are far.ready in
+        let result_is : result ≡ binding_in scope s.b =
+        λ i. record { name = (name ∙ ap (λ (b : Binding). b.name) item_is) i; at = (at ∙ ap (λ (b : Binding). b.at) item_is) i; term = it.0 i } in
+        let named : item.name ≡ get_or (names bs) k item.name = ap (λ (b : Binding). b.name) item_is ∙ sym (s.name item.name) in
+        let before : names (take k bs) ≡ take k (names bs) = sym (take-map (λ (b : BindingTree). b.x) k bs) in
+        let behind : take (k + 1) (names bs) ≡ names (take (k + 1) bs) = take-map (λ (b : BindingTree). b.x) (k + 1) bs in
+        let g = 5 + declared_count declared in
+        record {
+          terms =
+              pushed ∙ (λ i. far.terms i ++ result_is i ∷ [])
+              ∙ sym (ap (bindings_in declared []) s.more ∙ bindings_append declared [] (take k bs) (s.b ∷ []));
+          all_known =
+              ap (unknown_names declared []) s.more
+              ∙ unknown_append declared [] (take k bs) (s.b ∷ [])
+              ∙ (λ i. far.all_known i ++ (it.1 i ++ []));
+          ready =
+              subst (λ ns. IsReady new (schemes_from g ns ++ declared_from 5 declared)) behind
+              (ready_more g (names bs) p.no_doubles.bound k (omega (arith, bound_inside, length-map bs (λ (b : BindingTree). b.x))) item.name named new (declared_from 5 declared)
+              (subst (λ ns. IsReady new ((item.name, scheme (g + k)) ∷ (schemes_from g ns ++ declared_from 5 declared))) before
+              (subst (λ n. IsReady new ((item.name, scheme n) ∷ scope)) far.next (declares scope it.2))));
+          next = omega (arith, far.next);
+        }
+
+  -- behind the last binding
+  pub resolves : (items : List Binding) (k : ℕ) (r : Resolver) (schemes : ℕ) (rs : List ResolvedBinding) → items ≡ m.bindings → length items ≤ k → IsSoFar declared p.tree.bound k r schemes rs
+      → Resolves m declared (record { bindings = rs })
+  resolves items k r schemes rs same past far =
+      let all : take k p.tree.bound ≡ p.tree.bound = take_all k p.tree.bound (omega (arith, ap length (same ∙ bindings_are), length-map p.tree.bound binding_of)) in
+      record {
+        tree = p.tree;
+        nodes = p.nodes;
+        terms =
+            subst (AreTermsOf declared [] p.tree.bound) (sym (far.terms ∙ ap (bindings_in declared []) all))
+            (are_terms declared [] p.tree.bound (sym (ap (unknown_names declared []) all) ∙ far.all_known));
+      }

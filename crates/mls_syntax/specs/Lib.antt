@@ -1,6 +1,6 @@
 pub mod Arranging
 pub mod Building
-pub mod Chains
+pub mod Counts
 pub mod Derivations
 pub mod Doubles
 pub mod Faults
@@ -10,14 +10,18 @@ pub mod GrammarFaults
 pub mod GrammarLaws
 pub mod Laws
 pub mod Linking
+pub mod Meanings
 pub mod Modules
 pub mod Nodes
 pub mod Phrases
 pub mod Pieces
+pub mod Reading
 pub mod Readings
 pub mod Resolution
+pub mod ResolutionLaws
 pub mod Terms
 pub mod Told
 pub mod Trees
 pub mod TypingLaws
+pub mod Unbuilt
 pub mod WellFormed

@@ -66,6 +66,12 @@ pub record IsTextOf (text : List ℕ) (tree : SourceTree) : Type 0 where
   pub meant : tree ≡ meaning (place_of tokens) 0 phrase
   pub no_doubles : HasNoDoubles tree
 
+-- the module is that of a tree without doubles
+pub record IsModule (m : Module) : Type 0 where
+  pub tree : SourceTree
+  pub no_doubles : HasNoDoubles tree
+  pub nodes : m ≡ module_of tree
+
 -- the text is this module
 pub record IsModuleText (text : List ℕ) (m : Module) : Type 0 where
   pub tree : SourceTree

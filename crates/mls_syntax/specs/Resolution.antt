@@ -1,10 +1,13 @@
 -- What the names of a module mean.
-use Rattle.std.specs.Prelude.{◌≡◌, ℕ, suc, ◌+◌, ◌<◌, List, [], ◌∷◌, ◌++◌, length, sum_by, find, bytes_eq, Option, Some, option_map}
+use Rattle.std.specs.Prelude.{◌≡◌, ℕ, suc, ◌+◌, ◌<◌, List, [], ◌∷◌, ◌++◌, map, length, sum_by, find, bytes_eq, if◌then◌else◌, Bool, Option, Some, option_map}
+use Rattle.std.specs.List.{list_any}
 use Rattle.mls_syntax.specs.declared.module.Module.{Module}
 use Rattle.mls_syntax.specs.declared.module.Op.{Op}
 use Rattle.mls_syntax.specs.declared.module.Op.TheVariants as op
 use Rattle.mls_syntax.specs.declared.term.Resolved.{Resolved}
 use Rattle.mls_syntax.specs.declared.term.ResolvedBinding.{ResolvedBinding}
+use Rattle.mls_syntax.specs.declared.parse.Fault.{Fault}
+use Rattle.mls_syntax.specs.declared.parse.Fault.TheVariants.{UnknownName}
 use Rattle.mls_syntax.specs.Trees.{Tree, a_name, an_operator, a_number, a_truth, a_fun, a_fix, a_let, an_if, an_apply, a_make, a_project, Fields, no_field, a_field, BindingTree, SourceTree}
 use Rattle.mls_syntax.specs.Modules.{module_of}
 use Rattle.mls_syntax.specs.Terms.{TermTree, TermFields, bound, inner, global, number, truth, fun, apply, make, project, choice, local, fix, postorder}
@@ -155,6 +158,48 @@ pub record Resolves (m : Module) (declared : List (List (List ℕ))) (r : Resolv
   pub tree : SourceTree
   pub nodes : m ≡ module_of tree
   pub terms : AreTermsOf declared [] tree.bound r.bindings
+
+-- the names that have a meaning in a scope
+abbrev pub names_of : Scope → List (List ℕ)
+names_of scope = map (λ entry. entry.0) scope
+
+-- the name is one of these
+abbrev pub is_known : List (List ℕ) → List ℕ → Bool
+is_known known x = list_any (λ y. bytes_eq y x) known
+
+-- the places of the names of a tree that have no meaning, in the order of the text, where these names have one around the tree:
+-- a function and a recursion give their name a meaning in their bodies, and a let in its second part alone
+abbrev mutual
+  pub unknowns : List (List ℕ) → Tree → List ℕ
+  unknowns known (a_name at x) = if is_known known x then [] else at ∷ []
+  unknowns known (an_operator at o) = []
+  unknowns known (a_number at value) = []
+  unknowns known (a_truth at value) = []
+  unknowns known (a_fun at x e) = unknowns (x ∷ known) e
+  unknowns known (a_fix at x e) = unknowns (x ∷ known) e
+  unknowns known (a_let at x e f) = unknowns known e ++ unknowns (x ∷ known) f
+  unknowns known (an_if at c e f) = unknowns known c ++ unknowns known e ++ unknowns known f
+  unknowns known (an_apply at f a) = unknowns known f ++ unknowns known a
+  unknowns known (a_make at fields) = field_unknowns known fields
+  unknowns known (a_project at e label) = unknowns known e
+
+  pub field_unknowns : List (List ℕ) → Fields → List ℕ
+  field_unknowns known no_field = []
+  field_unknowns known (a_field label e rest) = unknowns known e ++ field_unknowns known rest
+
+-- the same of bindings, where the names of these earlier bindings are in scope
+abbrev pub unknown_names : List (List (List ℕ)) → (earlier : List (List ℕ)) → List BindingTree → List ℕ
+unknown_names declared earlier [] = []
+unknown_names declared earlier (b ∷ bs) = unknowns (names_of (scope_after declared earlier)) b.body ++ unknown_names declared (earlier ++ b.x ∷ []) bs
+
+-- the fault is the first name of the module that has no meaning, where the imports declare these names
+pub record HasUnknownName (m : Module) (declared : List (List (List ℕ))) (fault : Fault) : Type 0 where
+  pub tree : SourceTree
+  pub nodes : m ≡ module_of tree
+  pub place : ℕ
+  pub later : List ℕ
+  pub first : unknown_names declared [] tree.bound ≡ place ∷ later
+  pub fault_is : fault ≡ UnknownName place
 
 -- functions around a use of a binder, a number or a truth value; the functions bind the numbers from b on, from outside in
 abbrev pub IsChain : ℕ → TermTree → Type 0

@@ -105,14 +105,14 @@ pub enum Form {
 }
 
 /// A part of a record expression: its label, and the number of its root.
-#[derive(Debug, Drop)]
+#[derive(Clone, Debug, Drop)]
 pub struct Part {
     pub label: Name,
     pub child: usize,
 }
 
 /// The parts of a record expression, in the order of the text.
-#[derive(Debug, Drop)]
+#[derive(Clone, Debug, Drop)]
 pub struct Parts {
     items: Vec<Part>,
 }

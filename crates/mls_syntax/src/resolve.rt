@@ -1,15 +1,12 @@
 //! The meaning of names.
-ghost use Rattle.std.specs.Prelude.{◌≡◌, ◌↔◌, ◌++◌, ◌∷◌, ◌<◌, [], IfOk, IsOkUnless, OnOk, OnErr, All, IsTrue, length, position};
-ghost use Rattle.mls_syntax.specs.Modules.{IsPlainModule};
-ghost use Rattle.mls_syntax.specs.Nodes.{binds, bind};
-ghost use Rattle.mls_syntax.specs.Resolution.{Resolves, HasChain};
-ghost use Rattle.mls_syntax.specs.Chains.{IsChainForm, AreChain, first_binder, term_form, terms_of, resolved_of};
+ghost use Rattle.std.specs.Prelude.{◌≡◌, ◌≢◌, ◌↔◌, ◌++◌, ◌∷◌, [], IfOk, IfErr, OnOk, OnErr, All, IsTrue, length};
+ghost use Rattle.mls_syntax.specs.Modules.{IsModule, AreDistinct};
+ghost use Rattle.mls_syntax.specs.Resolution.{Resolves, HasUnknownName};
 
-use crate::module::{Binding, ExprNode, Form, Module};
+use crate::module::Module;
 use crate::parse::Fault;
-use crate::term::{
-    Resolved, ResolvedBinding, ResolvedBindings, Term, TermForm, TermNode, TermNodes,
-};
+use crate::resolver::Resolver;
+use crate::term::{Resolved, ResolvedBindings};
 use mls_base::memory::Memory;
 use mls_book::name::Name;
 use std::alloc::Global;
@@ -76,86 +73,26 @@ impl NameList {
 
 /// Replaces each name of a module by what it means: the innermost binder of that spelling around it; if there is
 /// none, the earlier binding of the module; if there is none, the declaration of the latest import that has it.
+/// It takes no recursion, so expressions may be as deep as memory allows.
 ///
-/// So far the module has to be one that `parse_module` gave, where every name means a binder.
+/// # Errors
+///
+/// `UnknownName` with the place of the first name that means nothing; `Memory` where memory is wanting.
 pub fn resolve(alloc: Global, module: &Module, declared: &[NameList]) -> Result<Resolved, Fault>
-    requires plain { IsPlainModule «module».now }
+    requires module { IsModule «module».now }
     requires declared { length declared.now ≡ length «module».now.imports }
+    requires distinct { All AreDistinct declared.now }
     ensures found { IfOk result (λ r. Resolves «module».now declared.now r) }
-    ensures chains { IfOk result (λ r. All HasChain r.bindings) }
-    ensures fault { IsOkUnless result Fault.Memory }
+    ensures fault { IfErr result (λ f. f ≢ Fault.Memory → HasUnknownName «module».now declared.now f) }
 {
+    let mut resolver = Resolver::new(alloc);
+    let mut schemes = resolver.declare_imports(declared)?;
     let mut bindings = ResolvedBindings::new(alloc);
     for binding in module.bindings.as_slice() {
-        bindings.push(resolved(alloc, binding)?)?;
+        bindings.push(resolver.binding(alloc, binding)?)?;
+        schemes = resolver.declare(&binding.name, schemes)?;
     }
     Ok(Resolved { bindings })
-}
-
-// A binding with its term.
-fn resolved(alloc: Global, binding: &Binding) -> Result<ResolvedBinding, Memory>
-    requires { AreChain binding.now.expr.nodes }
-    ensures { IfOk result (λ r. r ≡ resolved_of binding.now) }
-{
-    let nodes = binding.expr.nodes.as_slice();
-    let term = Term {
-        nodes: terms(alloc, nodes)?,
-        binders: nodes.len() - 1,
-        lets: 0,
-    };
-    let name = binding.name.clone()?;
-    Ok(ResolvedBinding {
-        name,
-        at: binding.at,
-        term,
-    })
-}
-
-// The nodes of the term that these nodes make.
-fn terms(alloc: Global, nodes: &[ExprNode]) -> Result<TermNodes, Memory>
-    requires { AreChain nodes.now }
-    ensures { IfOk result (λ terms. terms ≡ terms_of nodes.now) }
-{
-    let mut terms = TermNodes::new(alloc);
-    for (i, node) in nodes.iter().enumerate() {
-        terms.push(TermNode {
-            at: node.at,
-            form: term_form(nodes, i, &node.form),
-        })?;
-    }
-    Ok(terms)
-}
-
-// What node `i`, which has this form, becomes. The last node is the outermost function, and binds the number 0.
-fn term_form(nodes: &[ExprNode], i: usize, form: &Form) -> TermForm
-    requires within { i < length nodes.now }
-    requires form { IsChainForm nodes.now form.now }
-    ensures { result ≡ term_form nodes.now i form.now }
-{
-    let last = nodes.len() - 1;
-    match form {
-        Form::Var(name) => TermForm::Bound(last - first_binder(nodes, name)),
-        Form::Number(value) => TermForm::Number(*value),
-        Form::Truth(value) => TermForm::Truth(*value),
-        Form::Fun(_, body) => TermForm::Fun(last - i, *body),
-        _ => unreachable!(),
-    }
-}
-
-// The number of the first node that binds the name, which is the innermost one around it.
-fn first_binder(nodes: &[ExprNode], name: &Name) -> usize
-    requires { IsTrue (bind nodes.now name.now) }
-    ensures first { result ≡ first_binder nodes.now name.now }
-    ensures within { result < length nodes.now }
-{
-    position(nodes, name).unwrap()
-}
-
-// The number of the first node that binds the name, where one does.
-fn position(nodes: &[ExprNode], name: &Name) -> Option<usize>
-    ensures { result ≡ position (λ node. binds node name.now) nodes.now }
-{
-    nodes.iter().position(|node| node.binds(name))
 }
 
 #[cfg(test)]
@@ -163,6 +100,7 @@ mod tests {
     use super::*;
     use crate::module::{Import, Imports, Part, Parts};
     use crate::parse::parse_module;
+    use crate::term::Term;
     use std::test::Fail;
 
     // The binders, lets and nodes of each term of a text.

@@ -1,5 +1,5 @@
 //! Modules whose names are replaced by what they mean.
-ghost use Rattle.std.specs.Prelude.{◌≡◌, ◌↔◌, ◌++◌, ◌∷◌, [], length, OnOk, OnErr, IsTrue};
+ghost use Rattle.std.specs.Prelude.{◌≡◌, ◌↔◌, ◌++◌, ◌∷◌, [], length, reverse, OnOk, OnErr, IsTrue};
 
 use crate::module::Parts;
 use mls_base::memory::Memory;
@@ -152,6 +152,13 @@ impl TermNodes {
     {
         self.items.push(item)?;
         Ok(())
+    }
+
+    /// Turns the order around.
+    pub fn reverse(&mut self)
+        ensures { self.new ≡ reverse self.old }
+    {
+        self.items.reverse();
     }
 
     /// How many there are.

@@ -1,7 +1,8 @@
-use Rattle.std.proofs.Common.{◌≡◌, map, take}
-use Rattle.mls_syntax.specs.Chains.{resolved_of}
+use Rattle.std.proofs.Common.{◌≡◌}
+use Rattle.mls_syntax.specs.Modules.{IsModule}
+use Rattle.mls_syntax.proofs.Resolving.{IsSoFar}
 use Rattle.mls_syntax.proofs.resolve.resolve.Given as goal
 
 -- the bindings so far
 abbrev pub invariant-loop-binding : goal.invariant-loop-binding
-invariant-loop-binding l = l.bindings ≡ map resolved_of (take l.binding-index l.module.bindings)
+invariant-loop-binding l = (p : IsModule l.module) → IsSoFar l.declared p.tree.bound l.binding-index l.resolver l.schemes l.bindings
