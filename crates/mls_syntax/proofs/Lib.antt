@@ -26,6 +26,7 @@ pub mod Metatheory
 pub mod ModuleLaws
 pub mod MovedDerivations
 pub mod Named
+pub mod NamesWithin
 pub mod OnePhrase
 pub mod OneResolution
 pub mod OneTree

@@ -9,7 +9,7 @@ use Rattle.mls_syntax.specs.declared.module.Module.{Module}
 use Rattle.mls_syntax.specs.declared.term.Resolved.{Resolved}
 use Rattle.mls_syntax.specs.Modules.{IsModuleText}
 use Rattle.mls_syntax.specs.Resolution.{Resolves}
-use Rattle.mls_syntax.specs.Unbuilt.{AreAllBuilt}
+use Rattle.mls_syntax.specs.Unbuilt.{IsBuilt}
 use Rattle.mls_top.specs.declared.answer.Answer.{Answer}
 use Rattle.mls_top.specs.declared.answer.Halt.{Halt}
 use Rattle.mls_top.specs.declared.answer.Halt.TheVariants as halt
@@ -33,7 +33,7 @@ refused_is_inferred x text said fault h e = record {
 }
 
 -- the signature of a module is what is found for its text
-pub signed_is_inferred : (x text said : List ℕ) (m : Module) (r : Resolved) → IsModuleText text m → m.imports ≡ [] → Resolves m [] r → AreAllBuilt r → IsSignature r.bindings said → IsInferred x text Done said
+pub signed_is_inferred : (x text said : List ℕ) (m : Module) (r : Resolved) → IsModuleText text m → m.imports ≡ [] → Resolves m [] r → IsBuilt r → IsSignature r.bindings said → IsInferred x text Done said
 signed_is_inferred x text said m r h none resolves built s = record {
   outcome = inferred s.entries;
   found = signed h none resolves built s.are_entries;

@@ -12,7 +12,7 @@ use Rattle.mls_syntax.specs.declared.parse.Fault.TheVariants.{NotBuilt}
 use Rattle.mls_syntax.specs.Modules.{IsModuleText}
 use Rattle.mls_syntax.specs.FirstFaults.{HasFirstFault}
 use Rattle.mls_syntax.specs.Resolution.{Resolves, HasUnknownName}
-use Rattle.mls_syntax.specs.Unbuilt.{AreAllBuilt, IsLeastUnbuilt}
+use Rattle.mls_syntax.specs.Unbuilt.{IsBuilt, IsLeastUnbuilt}
 use Rattle.mls_syntax.specs.Terms.{TermTree, postorder}
 use Rattle.mls_syntax.specs.Derivations.{Known, IsBest}
 use Rattle.mls_typetext.specs.declared.scheme.ReadScheme.{ReadScheme}
@@ -97,7 +97,7 @@ pub data InfersFrom (x text : List ℕ) : Outcome → Type 0 where
   unbuilt : {m : Module} {r : Resolved} {at : ℕ} → IsModuleText text m → m.imports ≡ [] → Resolves m [] r → IsLeastUnbuilt r at
       → InfersFrom x text (refused (bad_text (module_file x) text (NotBuilt at)))
   -- each binding has an entry
-  signed : {m : Module} {r : Resolved} {entries : List Entry} → IsModuleText text m → m.imports ≡ [] → Resolves m [] r → AreAllBuilt r → AreEntriesOf [] r.bindings entries
+  signed : {m : Module} {r : Resolved} {entries : List Entry} → IsModuleText text m → m.imports ≡ [] → Resolves m [] r → IsBuilt r → AreEntriesOf [] r.bindings entries
       → InfersFrom x text (inferred entries)
 
 -- what is found for the module of this name over these files, by the first case that holds

@@ -6,7 +6,7 @@ use Rattle.mls_syntax.specs.declared.module.Module.{Module}
 use Rattle.mls_syntax.specs.declared.term.Resolved.{Resolved}
 use Rattle.mls_syntax.specs.Modules.{IsModuleText}
 use Rattle.mls_syntax.specs.Resolution.{Resolves}
-use Rattle.mls_syntax.specs.Unbuilt.{AreAllBuilt}
+use Rattle.mls_syntax.specs.Unbuilt.{IsBuilt}
 use Rattle.mls_top.specs.declared.status.Status.{Status}
 use Rattle.mls_top.specs.declared.status.Status.TheVariants.{Memory, Usage}
 use Rattle.mls_top.specs.Answers.{IsAnswer, IsFrontOfAnswer}
@@ -48,4 +48,4 @@ pub record CanBeInferred (files : Files) (words : List (List ℕ)) : Type 0 wher
   pub no_imports : «module».imports ≡ []
   pub resolved : Resolved
   pub resolves : Resolves «module» [] resolved
-  pub built : AreAllBuilt resolved
+  pub built : IsBuilt resolved
