@@ -103,3 +103,7 @@ module _ (m : Resolved) (k : ℕ) (past : length m.bindings ≤ k) where
   pub least_exactly : (least : Option ℕ) → IsLeastOf (unbuilt_of (take k m.bindings)) least → IfSome least (λ at. IsLeastUnbuilt m at)
   least_exactly None h = tt
   least_exactly (Some at) h = let it = all_places (Some at) h in record { there = it.0; least = it.1 }
+
+-- where every form is built there is no such place
+pub none_unbuilt : (m : Resolved) (at : ℕ) → IsBuilt m → IsLeastUnbuilt m at → ⊥
+none_unbuilt m at built least = let there : Contains [] at = subst (λ ps. Contains ps at) (of_none m.bindings built) least.there in absurd (omega (arith, there.1))

@@ -1,11 +1,12 @@
 -- What the pure phase of `infer` says, as an answer over the files.
-use Rattle.std.proofs.Common.{◌≡◌, ℕ, List, [], length, refl, sym, subst}
-use Rattle.std.specs.Prelude.{Option, Some, None, Result, Ok, Err, IfSome, IfOk, IfErr}
+use Rattle.std.proofs.Common.{◌≡◌, ℕ, List, [], ◌∷◌, length, refl, sym, ap, subst}
+use Rattle.std.specs.Prelude.{Option, Some, None, Result, Ok, Err, IfSome, IfOk, IfErr, slice_get}
 use Rattle.mls_base.specs.Files.{Files}
 use Rattle.mls_base.specs.declared.memory.Memory.{Memory}
 use Rattle.mls_lexer.specs.Tokens.{line_of, column_of}
 use Rattle.mls_syntax.specs.declared.parse.Fault.{Fault}
 use Rattle.mls_syntax.specs.declared.module.Module.{Module}
+use Rattle.mls_syntax.specs.declared.module.Import.{Import}
 use Rattle.mls_syntax.specs.declared.term.Resolved.{Resolved}
 use Rattle.mls_syntax.specs.Modules.{IsModuleText}
 use Rattle.mls_syntax.specs.Resolution.{Resolves}
@@ -22,6 +23,15 @@ use Rattle.mls_top.specs.Outcomes.{no_text, has_text, InfersFrom, signed, refuse
 use Rattle.mls_top.specs.Fetching.{HoldsOf}
 use Rattle.mls_top.specs.Answering.{IsSignature, IsRefused}
 use Rattle.mls_top.specs.Answers.{IsAnswerOf, infer}
+
+-- the first of a list, and a list without a first
+pub first_is : (is : List Import) (i : Import) → Some i ≡ slice_get is 0 → (rest : List Import) × (is ≡ i ∷ rest)
+first_is [] i e = absurd (cc)
+first_is (j ∷ is) i e = let same : j ≡ i = cc in (is, ap (λ (k : Import). k ∷ is) same)
+
+pub none_is : (is : List Import) → None ≡ slice_get is 0 → is ≡ []
+none_is [] e = refl
+none_is (j ∷ is) e = absurd (cc)
 
 -- a text that is refused is told by the line of its fault
 pub refused_is_inferred : (x text said : List ℕ) (fault : Fault) → InfersFrom x text (refused (bad_text (module_file x) text fault)) → said ≡ fault_line (module_file x) (line_of text (fault_place (length text) fault)) (column_of text (fault_place (length text) fault)) (fault_number fault) (fault_text fault) → IsInferred x text BadText said

@@ -1,10 +1,19 @@
 -- What a run says after the text of an answer was written, or a front of it.
-use Rattle.std.proofs.Common.{◌≡◌, ◌⊎◌, inl, inr, ℕ, true, false, List, refl, sym, ap, ◌∙◌, subst}
+use Rattle.std.proofs.Common.{◌≡◌, ◌⊎◌, inl, inr, ℕ, true, false, List, [], ◌∷◌, refl, sym, ap, ◌∙◌, subst}
 use Rattle.std.specs.Prelude.{Option, Some, None, IfSome, IsFalse}
 use Rattle.mls_base.specs.Files.{Files}
 use Rattle.mls_io.specs.Counts.{Rose}
 use Rattle.mls_io.specs.Sinks.{Written}
-use Rattle.mls_syntax.specs.Modules.{not_built, IsPlainModuleOf}
+use Rattle.mls_syntax.specs.declared.module.Module.{Module}
+use Rattle.mls_syntax.specs.declared.module.Import.{Import}
+use Rattle.mls_syntax.specs.declared.term.Resolved.{Resolved}
+use Rattle.mls_syntax.specs.Modules.{IsModuleText}
+use Rattle.mls_syntax.specs.FirstFaults.{HasFirstFault}
+use Rattle.mls_syntax.specs.Resolution.{Resolves, HasUnknownName}
+use Rattle.mls_syntax.specs.Unbuilt.{IsBuilt, IsLeastUnbuilt}
+use Rattle.mls_syntax.proofs.ModuleLaws.{one_module, no_fault_beside_a_module}
+use Rattle.mls_syntax.proofs.OneResolution.{one_resolution, no_unknown_name_beside_a_resolution}
+use Rattle.mls_syntax.proofs.LeastPlaces.{none_unbuilt}
 use Rattle.mls_top.specs.declared.status.Status.{Status}
 use Rattle.mls_top.specs.declared.status.Status.TheVariants.{Done, BadText, NoFile, ReadFault, WriteFault, Memory, Usage, TooLong}
 use Rattle.mls_top.specs.declared.command.Command.{Command}
@@ -12,7 +21,7 @@ use Rattle.mls_top.specs.declared.command.Command.TheVariants.{Infer}
 use Rattle.mls_top.specs.Statuses.{is_cut, is_answer}
 use Rattle.mls_top.specs.Commands.{command_of}
 use Rattle.mls_top.specs.Lines.{module_file, usage_line}
-use Rattle.mls_top.specs.Outcomes.{Outcome, no_file, too_long, bad_text, refused, inferred, outcome_status, IsInferred, Infers, no_text, has_text, InfersFrom, faulty, signed, text_at, module_limit}
+use Rattle.mls_top.specs.Outcomes.{Outcome, no_file, too_long, bad_text, refused, inferred, outcome_status, IsInferred, Infers, no_text, has_text, InfersFrom, faulty, imports_first, unknown, unbuilt, signed, text_at, module_limit}
 use Rattle.mls_top.specs.Answers.{IsAnswer, no_command, of_command, IsAnswerOf, infer}
 use Rattle.mls_top.specs.Runs.{IsAnswered, IsCutOff, IsCutOffOrNothing, CanBeInferred}
 use Rattle.mls_top.specs.Writing.{IsTold, AddsFront}
@@ -97,10 +106,23 @@ command_answer None words command status text said e same a = tt
 command_answer (Some files) words command status text said e same a =
     of_command command e (let P : List ℕ → Type 0 = λ t. IsAnswerOf files command status t in subst P (sym same) a)
 
--- a module that is there and has no fault is answered by its signature
+-- a module that can be inferred is answered by its signature
+no_import : (m n : Module) (i : Import) (rest : List Import) → m ≡ n → m.imports ≡ i ∷ rest → n.imports ≡ [] → ⊥
+no_import m n i rest same e none = let also : n.imports ≡ i ∷ rest = subst (λ (m : Module). m.imports ≡ i ∷ rest) same e in cc
+
 done_from : (x text : List ℕ) (o : Outcome) (files : Files) (words : List (List ℕ)) (can : CanBeInferred files words) → text ≡ can.text → InfersFrom x text o → outcome_status o ≡ Done
-done_from x text o files words can e (faulty (not_built h)) = absurd (h can.«module» (let P : List ℕ → Type 0 = λ t. IsPlainModuleOf t can.«module» in subst P (sym e) can.is_module))
-done_from x text o files words can e (signed h r s) = refl
+done_from x text o files words can e (faulty {fault} h) =
+    absurd (no_fault_beside_a_module can.text can.«module» fault can.is_module (subst (λ t. HasFirstFault t fault) e h))
+done_from x text o files words can e (imports_first {m} {i} {rest} is there) =
+    absurd (no_import m can.«module» i rest (one_module can.text m can.«module» (subst (λ t. IsModuleText t m) e is) can.is_module) there can.no_imports)
+done_from x text o files words can e (unknown {m} {fault} is none has) =
+    let same = one_module can.text m can.«module» (subst (λ t. IsModuleText t m) e is) can.is_module in
+    absurd (no_unknown_name_beside_a_resolution can.«module» [] can.resolved fault can.resolves (subst (λ m. HasUnknownName m [] fault) same has))
+done_from x text o files words can e (unbuilt {m} {r} {at} is none resolves least) =
+    let same = one_module can.text m can.«module» (subst (λ t. IsModuleText t m) e is) can.is_module in
+    let one = one_resolution can.«module» [] r can.resolved (subst (λ m. Resolves m [] r) same resolves) can.resolves in
+    absurd (none_unbuilt can.resolved at can.built (subst (λ r. IsLeastUnbuilt r at) one least))
+done_from x text o files words can e (signed is none resolves built entries) = refl
 
 done_of : (x : List ℕ) (o : Outcome) (files : Files) (words : List (List ℕ)) (can : CanBeInferred files words) → x ≡ can.x → Infers files x o → outcome_status o ≡ Done
 done_of x o files words can e (no_text h) = let f = ap (λ y. text_at files (module_file y) module_limit) e in absurd (cc (f, can.is_there))
