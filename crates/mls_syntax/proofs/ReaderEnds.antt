@@ -15,7 +15,8 @@ use Rattle.mls_syntax.specs.declared.piece.Event.{Event}
 use Rattle.mls_syntax.specs.declared.read.Reader.{Reader}
 use Rattle.mls_syntax.specs.GrammarFaults.{nestings, HasGrammarFault}
 use Rattle.mls_syntax.specs.Building.{Todo, State, advance, build, last_told, beginning}
-use Rattle.mls_syntax.specs.Readings.{stack_of, state_of, IsNew, may_be_empty, mark, Went, Stopped, stuck, deep, Finished, placed, at_end, ReadsSource}
+use Rattle.mls_syntax.specs.Todos.{stack_of, may_be_empty}
+use Rattle.mls_syntax.specs.Readings.{state_of, IsNew, mark, Went, Stopped, stuck, deep, Finished, placed, at_end, ReadsSource}
 use Rattle.mls_syntax.proofs.GrammarMachine.{Part, opens, may_end, read, start}
 use Rattle.mls_syntax.proofs.GrammarNesting.{begun, further, marks, marked-source}
 use Rattle.mls_syntax.proofs.GrammarGoing.{ends-source}

@@ -9,12 +9,13 @@ use Rattle.mls_syntax.specs.declared.parse.Fault.{Fault}
 use Rattle.mls_syntax.specs.declared.parse.Fault.TheVariants.{Unexpected, Memory}
 use Rattle.mls_syntax.specs.declared.piece.Piece.{Piece}
 use Rattle.mls_syntax.specs.declared.piece.Event.{Event}
-use Rattle.mls_syntax.specs.declared.read.Part.{Part}
-use Rattle.mls_syntax.specs.declared.read.Part.TheVariants as part
-use Rattle.mls_syntax.specs.declared.read.Todo.{Todo as Kept}
+use Rattle.mls_syntax.specs.declared.todo.Part.{Part}
+use Rattle.mls_syntax.specs.declared.todo.Part.TheVariants as part
+use Rattle.mls_syntax.specs.declared.todo.Todo.{Todo as Kept}
 use Rattle.mls_syntax.specs.declared.read.Reader.{Reader}
 use Rattle.mls_syntax.specs.Building.{Todo, tell, Act, acts, State, took, advance, last_told}
-use Rattle.mls_syntax.specs.Readings.{part_of, todo_of, stack_of, state_of, Did, may_be_empty, own, told_by, reached, mark, Tried, Refused, is_owed, is_too_deep, Went, Stopped, stuck, deep, Finished}
+use Rattle.mls_syntax.specs.Todos.{part_of, todo_of, stack_of, may_be_empty}
+use Rattle.mls_syntax.specs.Readings.{state_of, Did, own, told_by, reached, mark, Tried, Refused, is_owed, is_too_deep, Went, Stopped, stuck, deep, Finished}
 
 -- the next to do is the last that was put on the stack
 pub popped : (st rest : List Kept) (todo : Kept) → st ≡ rest ++ todo ∷ [] → stack_of st ≡ todo_of todo ∷ stack_of rest
@@ -87,10 +88,6 @@ pub record EndSame (old new : Reader) : Type 0 where
 
 pub end_same : (reader : Reader) → EndSame reader reader
 end_same reader = record { owed = refl; told = refl; events = refl }
-
-last_told-part : (p : Part) (st : List Todo) (told : List Piece) → last_told (part_of p ∷ st) told ≡ last_told st told
-last_told-part part.Imports st told = refl
-last_told-part _ st told = refl
 
 -- the exit of a `?` after a fault that tells more
 pub fault-passed : {T : Type 0} (result : Result T Fault) (fault : Fault) (P Q : Fault → Type 0) → IsErrAnd result (λ e. e ≡ fault) → ((e : Fault) → P e → Q e) → (fault ≢ Memory → P fault) → IfErr result (λ e. e ≢ Memory → Q e)

@@ -12,7 +12,8 @@ use Rattle.mls_syntax.specs.declared.piece.Event.{Event}
 use Rattle.mls_syntax.specs.Phrases.{source, imports, bindings, bind_rest, expr, let_rest, compare_tail, sum, sum_tail, product, product_tail, apply, arguments, post, dots, atom, parts, more_parts}
 use Rattle.mls_syntax.specs.Building as build
 use Rattle.mls_syntax.specs.Building.{Todo, arguments_of, let_of, the_import, the_binding, the_fun, the_fix, the_local, the_label, the_part, tell, Act, acts, atom_acts, apply_row, product_row, sum_row, compare_row, State, advance}
-use Rattle.mls_syntax.specs.Readings.{may_be_empty, own, told_by, reached, mark}
+use Rattle.mls_syntax.specs.Todos.{may_be_empty}
+use Rattle.mls_syntax.specs.Readings.{own, told_by, reached, mark}
 use Rattle.mls_syntax.proofs.GrammarMachine as grammar
 use Rattle.mls_syntax.proofs.GrammarMachine.{Part, a, the_name, the_equals, the_arrow, the_then, the_else, the_in, the_paren, atom_opens, opens, may_end}
 use Rattle.mls_syntax.proofs.GrammarNesting as nesting

@@ -16,6 +16,7 @@ pub mod Readings
 pub mod Reads
 pub mod Resolution
 pub mod Terms
+pub mod Todos
 pub mod Trees
 pub mod Told
 pub mod TypingLaws

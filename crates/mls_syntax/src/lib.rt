@@ -9,4 +9,5 @@ mod piece;
 mod read;
 pub mod resolve;
 pub mod term;
+mod todo;
 pub mod typing_laws;
