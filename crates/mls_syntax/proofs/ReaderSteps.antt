@@ -1,5 +1,5 @@
 -- What the reader does with what it had to do next is what the machine does.
-use Rattle.std.proofs.Common.{◌≡◌, ◌≢◌, ℕ, suc, Bool, true, false, List, [], ◌∷◌, ◌++◌, refl, sym, ap, ◌∙◌, append-nil, arith, Some, None}
+use Rattle.std.proofs.Common.{◌≡◌, ◌≢◌, ℕ, suc, Bool, true, false, List, [], ◌++◌, refl, sym, ap, ◌∙◌, append-nil, arith, Some, None}
 use Rattle.std.specs.Prelude.{Option, ◌&&◌, ◌==◌}
 use Rattle.std.proofs.lemmas.Bool.Decides.{nat_tests}
 use Rattle.mls_lexer.specs.declared.token.Kind.{Kind}
@@ -15,7 +15,7 @@ use Rattle.mls_syntax.specs.declared.read.Reader.{Reader}
 use Rattle.mls_syntax.specs.Phrases.{expr}
 use Rattle.mls_syntax.specs.Building.{Todo, a, Act, acts, expr_acts}
 use Rattle.mls_syntax.specs.Todos.{part_of, word_of, begins_expr, is_deep, may_be_empty}
-use Rattle.mls_syntax.specs.Readings.{Acted, Did, own, told_by, Tried, Refused, is_owed, is_too_deep}
+use Rattle.mls_syntax.specs.Readings.{Acted, own, told_by, Tried, Refused, is_owed, is_too_deep}
 
 -- an expression has an act exactly at the kinds with which one begins
 begins-some : (k : Kind) (m at : ℕ) (bytes : List ℕ) → begins_expr k ≡ true → (it : Act) × (expr_acts m at (terminal_of k bytes) ≡ Some it)

@@ -1,9 +1,8 @@
 -- What the functions of the reader of modules answer, and what is read at last.
-use Rattle.std.specs.Prelude.{◌≡◌, ◌≢◌, ℕ, suc, ◌≤◌, Bool, true, false, ◌&&◌, ◌==◌, is_some, List, [], ◌∷◌, ◌++◌, map, reverse, Option, Some, None}
+use Rattle.std.specs.Prelude.{◌≡◌, ◌≢◌, ℕ, suc, ◌≤◌, Bool, true, false, List, [], ◌∷◌, ◌++◌, map, Option, Some, None}
 use Rattle.std.specs.List.{list_all}
-use Rattle.mls_lexer.specs.declared.token.Kind.{Kind}
 use Rattle.mls_lexer.specs.declared.token.Token.{Token}
-use Rattle.mls_lexer.specs.Tokens.{Terminal, name, terminal, terminal_of, terminals}
+use Rattle.mls_lexer.specs.Tokens.{Terminal, name, terminal, terminals}
 use Rattle.mls_syntax.specs.declared.parse.Fault.{Fault}
 use Rattle.mls_syntax.specs.declared.parse.Fault.TheVariants.{Unexpected, TooDeep}
 use Rattle.mls_syntax.specs.declared.piece.Piece.{Piece}
@@ -11,9 +10,9 @@ use Rattle.mls_syntax.specs.declared.piece.Piece.TheVariants as piece
 use Rattle.mls_syntax.specs.declared.piece.Event.{Event}
 use Rattle.mls_syntax.specs.declared.todo.Todo.{Todo as Kept}
 use Rattle.mls_syntax.specs.declared.read.Reader.{Reader}
-use Rattle.mls_syntax.specs.Phrases.{Phrase, source, imports, bindings, bind_rest, expr, compare_tail, sum, sum_tail, product, product_tail, apply, dots, parts, more_parts, yields, nesting}
+use Rattle.mls_syntax.specs.Phrases.{Phrase, source, expr, yields, nesting}
 use Rattle.mls_syntax.specs.Todos.{stack_of, may_be_empty}
-use Rattle.mls_syntax.specs.Building.{Todo, a, arguments_of, let_of, the_import, the_binding, the_fun, the_fix, the_local, the_label, the_part, the_equals, the_arrow, the_then, the_else, the_in, the_paren, tell, Act, acts, expr_acts, State, advance, build, last_told, beginning}
+use Rattle.mls_syntax.specs.Building.{Todo, a, the_then, the_else, tell, Act, acts, State, advance, build, last_told, beginning}
 
 -- a reader as the state of the machine
 abbrev pub state_of : Reader → State

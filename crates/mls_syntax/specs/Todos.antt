@@ -1,5 +1,5 @@
 -- What is still to do, as the machine has it, and what may be empty or is nested too deep.
-use Rattle.std.specs.Prelude.{◌≡◌, ℕ, suc, Bool, true, false, ◌&&◌, ◌==◌, is_some, List, [], map, reverse}
+use Rattle.std.specs.Prelude.{Bool, true, false, ◌&&◌, ◌==◌, is_some, List, [], map, reverse}
 use Rattle.mls_lexer.specs.declared.token.Kind.{Kind}
 use Rattle.mls_lexer.specs.declared.token.Kind.TheVariants as kind
 use Rattle.mls_lexer.specs.Tokens.{terminal_of}
