@@ -1,13 +1,12 @@
 -- How the loop over the tokens of a module goes on and ends.
-use Rattle.std.proofs.Common.{◌≡◌, ℕ, zero, suc, ◌+◌, ◌<◌, ◌≤◌, true, false, List, [], ◌∷◌, ◌++◌, length, take, get_or, map, refl, sym, ap, ◌∙◌, subst, arith, add-one, ◌⊎◌, inl, inr, Some, None}
+use Rattle.std.proofs.Common.{◌≡◌, ℕ, zero, suc, ◌+◌, ◌<◌, ◌≤◌, true, false, List, [], ◌∷◌, ◌++◌, length, take, refl, sym, ap, ◌∙◌, subst, arith, add-one, ◌⊎◌, inl, inr, Some, None}
 use Rattle.std.specs.Prelude.{Option, option_map, slice_get}
-use Rattle.std.specs.List.{list_all}
 use Rattle.std.proofs.lemmas.Bool.{cases_lt}
 use Rattle.std.proofs.lemmas.List.{length-map, take_all}
-use Rattle.std.proofs.lemmas.Option.{slice_get-map, slice_get-get_or}
+use Rattle.std.proofs.lemmas.Option.{slice_get-map}
 use Rattle.mls_lexer.specs.declared.token.Token.{Token}
 use Rattle.mls_lexer.specs.Tokens.{Terminal, terminal, terminals}
-use Rattle.mls_lexer.proofs.Machine.{run, step, onward, run-append, can_end}
+use Rattle.mls_lexer.proofs.Machine.{run, step, onward, run-append}
 use Rattle.mls_syntax.specs.declared.parse.Fault.{Fault}
 use Rattle.mls_syntax.specs.declared.parse.Fault.TheVariants.{Ended}
 use Rattle.mls_syntax.specs.declared.piece.Piece.{Piece}
@@ -15,7 +14,8 @@ use Rattle.mls_syntax.specs.declared.piece.Event.{Event}
 use Rattle.mls_syntax.specs.declared.read.Reader.{Reader}
 use Rattle.mls_syntax.specs.GrammarFaults.{nestings, HasGrammarFault}
 use Rattle.mls_syntax.specs.Building.{Todo, State, advance, build, last_told, beginning}
-use Rattle.mls_syntax.specs.Readings.{stack_of, state_of, IsNew, may_be_empty, mark, Went, Stopped, stuck, deep, Finished, placed, at_end, ReadsSource}
+use Rattle.mls_syntax.specs.Todos.{stack_of}
+use Rattle.mls_syntax.specs.Readings.{state_of, IsNew, Went, Stopped, stuck, deep, Finished, placed, at_end, ReadsSource}
 use Rattle.mls_syntax.proofs.GrammarMachine.{Part, opens, may_end, read, start}
 use Rattle.mls_syntax.proofs.GrammarNesting.{begun, further, marks, marked-source}
 use Rattle.mls_syntax.proofs.GrammarGoing.{ends-source}

@@ -1,6 +1,6 @@
 -- The loops over the stack of the reader of modules.
-use Rattle.std.proofs.Common.{◌≡◌, ◌≢◌, ℕ, suc, Bool, true, false, List, [], ◌∷◌, ◌++◌, map, reverse, refl, sym, ap, ◌∙◌, append-nil, subst, Some, None, Ok, Err}
-use Rattle.std.specs.Prelude.{Option, Result, IsErrAnd, IfErr}
+use Rattle.std.proofs.Common.{◌≡◌, ◌≢◌, ℕ, List, [], ◌∷◌, ◌++◌, map, reverse, refl, sym, ap, ◌∙◌, append-nil, subst, Some, None, Ok, Err}
+use Rattle.std.specs.Prelude.{Result, IsErrAnd, IfErr}
 use Rattle.std.specs.List.{list_all}
 use Rattle.std.proofs.lemmas.List.{reverse-append, map-append}
 use Rattle.mls_lexer.specs.declared.token.Token.{Token}
@@ -9,12 +9,11 @@ use Rattle.mls_syntax.specs.declared.parse.Fault.{Fault}
 use Rattle.mls_syntax.specs.declared.parse.Fault.TheVariants.{Unexpected, Memory}
 use Rattle.mls_syntax.specs.declared.piece.Piece.{Piece}
 use Rattle.mls_syntax.specs.declared.piece.Event.{Event}
-use Rattle.mls_syntax.specs.declared.read.Part.{Part}
-use Rattle.mls_syntax.specs.declared.read.Part.TheVariants as part
-use Rattle.mls_syntax.specs.declared.read.Todo.{Todo as Kept}
+use Rattle.mls_syntax.specs.declared.todo.Todo.{Todo as Kept}
 use Rattle.mls_syntax.specs.declared.read.Reader.{Reader}
-use Rattle.mls_syntax.specs.Building.{Todo, tell, Act, acts, State, took, advance, last_told}
-use Rattle.mls_syntax.specs.Readings.{part_of, todo_of, stack_of, state_of, Did, may_be_empty, own, told_by, reached, mark, Tried, Refused, is_owed, is_too_deep, Went, Stopped, stuck, deep, Finished}
+use Rattle.mls_syntax.specs.Building.{Todo, tell, Act, acts, took, advance, last_told}
+use Rattle.mls_syntax.specs.Todos.{todo_of, stack_of, may_be_empty}
+use Rattle.mls_syntax.specs.Readings.{own, told_by, reached, mark, Refused, is_owed, is_too_deep, Stopped, stuck, deep}
 
 -- the next to do is the last that was put on the stack
 pub popped : (st rest : List Kept) (todo : Kept) → st ≡ rest ++ todo ∷ [] → stack_of st ≡ todo_of todo ∷ stack_of rest
@@ -38,38 +37,9 @@ pub record DoSame (text : List ℕ) (token : Token) (old new : Reader) : Type 0 
   pub marks : mark token.start (terminal text token) (stack_of old.stack.items) ≡ mark token.start (terminal text token) (stack_of new.stack.items)
   pub states : advance token.start (terminal text token) (stack_of old.stack.items) old.pieces.items old.events.items ≡ advance token.start (terminal text token) (stack_of new.stack.items) new.pieces.items new.events.items
 
-pub do_same : (text : List ℕ) (token : Token) (reader : Reader) → DoSame text token reader reader
-do_same text token reader = record { marks = refl; states = refl }
-
 module _ (text : List ℕ) (token : Token) (old here before : Reader) (todo : Kept) (same : DoSame text token old here) (pop : here.stack.items ≡ before.stack.items ++ todo ∷ []) where
   mark-popped : mark token.start (terminal text token) (stack_of old.stack.items) ≡ reached (acts (todo_of todo) token.start (terminal text token)) (may_be_empty (todo_of todo)) (own (todo_of todo)) (mark token.start (terminal text token) (stack_of before.stack.items))
   mark-popped = same.marks ∙ ap (mark token.start (terminal text token)) (popped here.stack.items before.stack.items todo pop)
-
-  state-popped : here.pieces.items ≡ before.pieces.items → here.events.items ≡ before.events.items
-      → advance token.start (terminal text token) (stack_of old.stack.items) old.pieces.items old.events.items ≡ advance token.start (terminal text token) (todo_of todo ∷ stack_of before.stack.items) before.pieces.items before.events.items
-  state-popped pieces events = same.states ∙ (λ i. advance token.start (terminal text token) (popped here.stack.items before.stack.items todo pop i) (pieces i) (events i))
-
-  module _ (pieces : here.pieces.items ≡ before.pieces.items) (events : here.events.items ≡ before.events.items) where
-    -- what begins with the token is read,
-    pub tried-went : (new : Reader) → Tried text token (todo_of todo) before new true → Went text token old new
-    tried-went new (it, is, did, shallow) = record {
-      nesting = own (todo_of todo);
-      there = mark-popped ∙ ap (λ o. reached o (may_be_empty (todo_of todo)) (own (todo_of todo)) (mark token.start (terminal text token) (stack_of before.stack.items))) is;
-      shallow = shallow;
-      state = (λ i. record { stack = did.stack i; told = did.pieces i; heard = did.events i })
-          ∙ (sym (advance-acts (todo_of todo) token.start (terminal text token) it (stack_of before.stack.items) before.pieces.items before.events.items is)
-          ∙ sym (state-popped pieces events));
-    }
-
-    -- and what is over is gone
-    pub tried-over : (new : Reader) → Tried text token (todo_of todo) before new false → DoSame text token old new
-    tried-over new (is, empty, stack, told, heard) = record {
-      marks = mark-popped ∙ ((λ i. reached (is i) (empty i) (own (todo_of todo)) (mark token.start (terminal text token) (stack_of before.stack.items)))
-          ∙ ap (λ st. mark token.start (terminal text token) (stack_of st)) (sym stack));
-      states = state-popped pieces events
-          ∙ (advance-over (todo_of todo) token.start (terminal text token) (stack_of before.stack.items) before.pieces.items before.events.items is
-          ∙ (λ i. advance token.start (terminal text token) (stack_of (sym stack i)) (sym told i) (sym heard i)));
-    }
 
   -- what is refused stops the reader
   pub refused-stopped : (fault : Fault) → Refused text token (todo_of todo) fault → Stopped text token old fault
@@ -84,13 +54,6 @@ pub record EndSame (old new : Reader) : Type 0 where
   pub owed : list_all may_be_empty (stack_of old.stack.items) ≡ list_all may_be_empty (stack_of new.stack.items)
   pub told : last_told (stack_of old.stack.items) old.pieces.items ≡ last_told (stack_of new.stack.items) new.pieces.items
   pub events : new.events.items ≡ old.events.items
-
-pub end_same : (reader : Reader) → EndSame reader reader
-end_same reader = record { owed = refl; told = refl; events = refl }
-
-last_told-part : (p : Part) (st : List Todo) (told : List Piece) → last_told (part_of p ∷ st) told ≡ last_told st told
-last_told-part part.Imports st told = refl
-last_told-part _ st told = refl
 
 -- the exit of a `?` after a fault that tells more
 pub fault-passed : {T : Type 0} (result : Result T Fault) (fault : Fault) (P Q : Fault → Type 0) → IsErrAnd result (λ e. e ≡ fault) → ((e : Fault) → P e → Q e) → (fault ≢ Memory → P fault) → IfErr result (λ e. e ≢ Memory → Q e)

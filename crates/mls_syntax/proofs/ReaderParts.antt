@@ -5,17 +5,16 @@ use Rattle.std.specs.List.{list_all}
 use Rattle.std.proofs.lemmas.List.{append_assoc}
 use Rattle.mls_lexer.specs.declared.token.Kind.TheVariants as kind
 use Rattle.mls_lexer.specs.Tokens.{Terminal, name, number, word}
-use Rattle.mls_lexer.proofs.Machine.{step, chosen, both, can_end}
+use Rattle.mls_lexer.proofs.Machine.{step, chosen, can_end}
 use Rattle.mls_syntax.specs.declared.piece.Piece.{Piece}
 use Rattle.mls_syntax.specs.declared.piece.Piece.TheVariants as piece
 use Rattle.mls_syntax.specs.declared.piece.Event.{Event}
 use Rattle.mls_syntax.specs.Phrases.{source, imports, bindings, bind_rest, expr, let_rest, compare_tail, sum, sum_tail, product, product_tail, apply, arguments, post, dots, atom, parts, more_parts}
 use Rattle.mls_syntax.specs.Building as build
 use Rattle.mls_syntax.specs.Building.{Todo, arguments_of, let_of, the_import, the_binding, the_fun, the_fix, the_local, the_label, the_part, tell, Act, acts, atom_acts, apply_row, product_row, sum_row, compare_row, State, advance}
-use Rattle.mls_syntax.specs.Readings.{may_be_empty, own, told_by, reached, mark}
-use Rattle.mls_syntax.proofs.GrammarMachine as grammar
+use Rattle.mls_syntax.specs.Todos.{may_be_empty}
+use Rattle.mls_syntax.specs.Readings.{own, told_by, reached, mark}
 use Rattle.mls_syntax.proofs.GrammarMachine.{Part, a, the_name, the_equals, the_arrow, the_then, the_else, the_in, the_paren, atom_opens, opens, may_end}
-use Rattle.mls_syntax.proofs.GrammarNesting as nesting
 use Rattle.mls_syntax.proofs.GrammarNesting.{picked, begun}
 use Rattle.mls_syntax.proofs.ReaderLoops.{advance-acts, advance-over}
 

@@ -1,5 +1,5 @@
 -- What the reader does with what it had to do next is what the machine does.
-use Rattle.std.proofs.Common.{◌≡◌, ◌≢◌, ℕ, suc, Bool, true, false, List, [], ◌∷◌, ◌++◌, refl, sym, ap, ◌∙◌, append-nil, arith, Some, None}
+use Rattle.std.proofs.Common.{◌≡◌, ◌≢◌, ℕ, suc, Bool, true, false, List, [], ◌++◌, refl, sym, ap, ◌∙◌, append-nil, arith, Some, None}
 use Rattle.std.specs.Prelude.{Option, ◌&&◌, ◌==◌}
 use Rattle.std.proofs.lemmas.Bool.Decides.{nat_tests}
 use Rattle.mls_lexer.specs.declared.token.Kind.{Kind}
@@ -7,12 +7,15 @@ use Rattle.mls_lexer.specs.declared.token.Kind.TheVariants as kind
 use Rattle.mls_lexer.specs.declared.token.Token.{Token}
 use Rattle.mls_lexer.specs.Tokens.{terminal, terminal_of}
 use Rattle.mls_syntax.specs.declared.parse.Fault.TheVariants.{Unexpected, TooDeep}
-use Rattle.mls_syntax.specs.declared.read.Part.{Part}
-use Rattle.mls_syntax.specs.declared.read.Part.TheVariants as part
+use Rattle.mls_syntax.specs.declared.todo.Part.{Part}
+use Rattle.mls_syntax.specs.declared.todo.Part.TheVariants as part
+use Rattle.mls_syntax.specs.declared.todo.Word.{Word}
+use Rattle.mls_syntax.specs.declared.todo.Word.TheVariants as word
 use Rattle.mls_syntax.specs.declared.read.Reader.{Reader}
 use Rattle.mls_syntax.specs.Phrases.{expr}
 use Rattle.mls_syntax.specs.Building.{Todo, a, Act, acts, expr_acts}
-use Rattle.mls_syntax.specs.Readings.{part_of, Acted, Did, begins_expr, is_deep, may_be_empty, own, told_by, Tried, Refused, is_owed, is_too_deep}
+use Rattle.mls_syntax.specs.Todos.{part_of, word_of, begins_expr, is_deep, may_be_empty}
+use Rattle.mls_syntax.specs.Readings.{Acted, own, told_by, Tried, Refused, is_owed, is_too_deep}
 
 -- an expression has an act exactly at the kinds with which one begins
 begins-some : (k : Kind) (m at : ℕ) (bytes : List ℕ) → begins_expr k ≡ true → (it : Act) × (expr_acts m at (terminal_of k bytes) ≡ Some it)
@@ -65,8 +68,12 @@ act-shallow (a n expr) at k bytes it e is same =
     cc
 act-shallow _ at k bytes it e is same = cc
 
+word-tells_nothing : (w : Word) → told_by (word_of w) ≡ []
+word-tells_nothing word.Equals = refl
+word-tells_nothing _ = refl
+
 part-tells_nothing : (p : Part) → told_by (part_of p) ≡ []
-part-tells_nothing part.Imports = refl
+part-tells_nothing (part.Word w) = word-tells_nothing w
 part-tells_nothing _ = refl
 
 module _ (text : List ℕ) (token : Token) (part : Part) where

@@ -20,6 +20,7 @@ pub mod Readings
 pub mod Resolution
 pub mod ResolutionLaws
 pub mod Terms
+pub mod Todos
 pub mod Told
 pub mod Trees
 pub mod TypingLaws

@@ -1,61 +1,18 @@
--- The stack of the reader of modules as the machine has it, what its functions answer, and what is read at last.
-use Rattle.std.specs.Prelude.{◌≡◌, ◌≢◌, ℕ, suc, ◌≤◌, Bool, true, false, ◌&&◌, ◌==◌, is_some, List, [], ◌∷◌, ◌++◌, map, reverse, Option, Some, None}
+-- What the functions of the reader of modules answer, and what is read at last.
+use Rattle.std.specs.Prelude.{◌≡◌, ◌≢◌, ℕ, suc, ◌≤◌, Bool, true, false, List, [], ◌∷◌, ◌++◌, map, Option, Some, None}
 use Rattle.std.specs.List.{list_all}
-use Rattle.mls_lexer.specs.declared.token.Kind.{Kind}
 use Rattle.mls_lexer.specs.declared.token.Token.{Token}
-use Rattle.mls_lexer.specs.Tokens.{Terminal, name, terminal, terminal_of, terminals}
+use Rattle.mls_lexer.specs.Tokens.{Terminal, name, terminal, terminals}
 use Rattle.mls_syntax.specs.declared.parse.Fault.{Fault}
 use Rattle.mls_syntax.specs.declared.parse.Fault.TheVariants.{Unexpected, TooDeep}
 use Rattle.mls_syntax.specs.declared.piece.Piece.{Piece}
 use Rattle.mls_syntax.specs.declared.piece.Piece.TheVariants as piece
 use Rattle.mls_syntax.specs.declared.piece.Event.{Event}
-use Rattle.mls_syntax.specs.declared.read.Part.{Part}
-use Rattle.mls_syntax.specs.declared.read.Part.TheVariants as part
-use Rattle.mls_syntax.specs.declared.read.Todo.{Todo as Kept}
-use Rattle.mls_syntax.specs.declared.read.Todo.TheVariants as kept
+use Rattle.mls_syntax.specs.declared.todo.Todo.{Todo as Kept}
 use Rattle.mls_syntax.specs.declared.read.Reader.{Reader}
-use Rattle.mls_syntax.specs.Phrases.{Phrase, source, imports, bindings, bind_rest, expr, compare_tail, sum, sum_tail, product, product_tail, apply, dots, parts, more_parts, yields, nesting}
-use Rattle.mls_syntax.specs.Building.{Todo, a, arguments_of, let_of, the_import, the_binding, the_fun, the_fix, the_local, the_label, the_part, the_equals, the_arrow, the_then, the_else, the_in, the_paren, tell, Act, acts, expr_acts, State, advance, build, last_told, beginning}
-
--- a part as the machine has it
-abbrev pub part_of : Part → Todo
-part_of part.Imports = a 0 imports
-part_of part.Import = the_import
-part_of part.Bindings = a 0 bindings
-part_of part.BindRest = a 0 bind_rest
-part_of (part.Binding rec_at) = the_binding 0 rec_at
-part_of (part.Expr n) = a n expr
-part_of (part.Fun n at) = the_fun n at
-part_of (part.Fix n at) = the_fix n at
-part_of (part.Let n at) = let_of n at
-part_of (part.Local n at rec_at) = the_local n at rec_at
-part_of (part.CompareTail n) = a n compare_tail
-part_of (part.Sum n) = a n sum
-part_of (part.SumTail n) = a n sum_tail
-part_of (part.Product n) = a n product
-part_of (part.ProductTail n) = a n product_tail
-part_of (part.Apply n) = a n apply
-part_of (part.Arguments n at) = arguments_of n at
-part_of (part.Dots n) = a n dots
-part_of part.Label = the_label
-part_of (part.Fields n) = a n parts
-part_of (part.MoreFields n) = a n more_parts
-part_of (part.Field n) = the_part n
-part_of part.Equals = the_equals
-part_of part.Arrow = the_arrow
-part_of part.Then = the_then
-part_of part.Else = the_else
-part_of part.In = the_in
-part_of part.ParenRight = the_paren
-
--- what is still to do as the machine has it
-abbrev pub todo_of : Kept → Todo
-todo_of (kept.Read part) = part_of part
-todo_of (kept.Tell piece) = tell piece
-
--- a stack, from its top down
-abbrev pub stack_of : List Kept → List Todo
-stack_of todos = map todo_of (reverse todos)
+use Rattle.mls_syntax.specs.Phrases.{Phrase, source, expr, yields, nesting}
+use Rattle.mls_syntax.specs.Todos.{stack_of, may_be_empty}
+use Rattle.mls_syntax.specs.Building.{Todo, a, the_then, the_else, tell, Act, acts, State, advance, build, last_told, beginning}
 
 -- a reader as the state of the machine
 abbrev pub state_of : Reader → State
@@ -110,27 +67,6 @@ Acted None old new begun = (begun ≡ false) × Stays old new
 abbrev pub name_in : Terminal → Option (List ℕ)
 name_in (name x) = Some x
 name_in _ = None
-
--- whether an expression begins with a token of this kind
-abbrev pub begins_expr : Kind → Bool
-begins_expr kind = is_some (expr_acts 0 0 (terminal_of kind []))
-
--- whether a part is an expression that begins with a token of this kind, and lies in 200 others
-abbrev pub is_deep : Todo → Kind → Bool
-is_deep (a n expr) kind = (n == 200) && begins_expr kind
-is_deep _ kind = false
-
--- whether a part may be empty; a piece has not to come
-abbrev pub may_be_empty : Todo → Bool
-may_be_empty (a n imports) = true
-may_be_empty (a n bindings) = true
-may_be_empty (a n compare_tail) = true
-may_be_empty (a n sum_tail) = true
-may_be_empty (a n product_tail) = true
-may_be_empty (a n dots) = true
-may_be_empty (arguments_of n at) = true
-may_be_empty (tell piece) = true
-may_be_empty _ = false
 
 -- the nesting of the expression that a part is, and 0 for any other part
 abbrev pub own : Todo → ℕ

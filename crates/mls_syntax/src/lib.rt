@@ -14,5 +14,6 @@ pub mod resolution_laws;
 pub mod resolve;
 mod resolver;
 pub mod term;
+mod todo;
 pub mod typing_laws;
 pub mod unbuilt;

@@ -1,103 +1,20 @@
 //! The tokens of a module, read from the front to the pieces that they tell.
-ghost use Rattle.std.specs.Prelude.{◌≡◌, ◌≢◌, ◌≤◌, ◌++◌, [], ◌∷◌, ℕ, List, false, IfOk, IfErr, OnOk, MatchOption, suc, slice_range};
+ghost use Rattle.std.specs.Prelude.{◌≡◌, ◌≢◌, ◌≤◌, ◌++◌, [], ◌∷◌, ℕ, List, false, IfOk, IfErr, OnOk, slice_range};
 ghost use Rattle.mls_lexer.specs.Tokens.{IsToken, IsTokens, terminal, terminal_of};
-ghost use Rattle.mls_syntax.specs.Building.{arguments_of, compare_row, sum_row, product_row, apply_row, acts, atom_acts, imports_acts, import_acts, bindings_acts, bind_rest_acts, binding_acts, expr_acts, fun_acts, fix_acts, let_acts, local_acts, compare_tail_acts, sum_tail_acts, product_tail_acts, dots_acts, label_acts, parts_acts, more_parts_acts, part_acts};
+ghost use Rattle.mls_syntax.specs.Building.{a, arguments_of, compare_row, sum_row, product_row, apply_row, acts, atom_acts, imports_acts, import_acts, bindings_acts, bind_rest_acts, binding_acts, expr_acts, fun_acts, fix_acts, let_acts, local_acts, compare_tail_acts, sum_tail_acts, product_tail_acts, dots_acts, label_acts, parts_acts, more_parts_acts, part_acts};
 ghost use Rattle.mls_syntax.specs.GrammarFaults.{HasGrammarFault};
-ghost use Rattle.mls_syntax.specs.Readings.{if_row, ReadsSource, part_of, stack_of, name_in, Acted, is_deep, may_be_empty, begins_expr, todo_of, Tried, Refused, Went, Stopped, Finished, IsNew, Puts, PutsRow, Tells};
+ghost use Rattle.mls_syntax.specs.Todos.{part_of, todo_of, stack_of, operand_sort, tail_sort, is_deep};
+ghost use Rattle.mls_syntax.specs.Readings.{if_row, ReadsSource, name_in, Acted, Tried, Refused, Went, Stopped, Finished, IsNew, Puts, PutsRow, Tells};
 
 use crate::module::Op;
 use crate::parse::Fault;
 use crate::piece::{Event, Piece};
+use crate::todo::{Depth, Operand, Part, Tail, Todo, Word};
 use mls_base::memory::Memory;
 use mls_book::name::Name;
 use mls_lexer::number::number_of;
 use mls_lexer::token::{Kind, Token};
 use std::alloc::Global;
-use std::marker::Model;
-
-// How deep expressions may be nested.
-const DEEPEST: usize = 200;
-
-// How many expressions lie around a part.
-#[derive(Clone, Copy)]
-struct Depth {
-    around: usize,
-}
-
-impl Model for Depth {
-    ghost use Rattle.std.specs.Prelude.{ℕ, ◌≤◌};
-
-    ghost Value = { ℕ };
-
-    ghost view = { λ d. d.around };
-
-    ghost invariant = { λ d. d.around ≤ 200 };
-
-    ghost inverse = { λ n. record { around = n } };
-}
-
-impl Depth {
-    // Outside all expressions.
-    fn outermost() -> Depth
-        ensures { result ≡ 0 }
-    {
-        Depth { around: 0 }
-    }
-
-    // With one expression more around, if there may be one more.
-    fn deeper(self) -> Option<Depth>
-        ensures { MatchOption result (self ≡ 200) (λ depth. depth ≡ suc self) }
-    {
-        if self.around == DEEPEST {
-            None
-        } else {
-            Some(Depth {
-                around: self.around + 1,
-            })
-        }
-    }
-}
-
-// A part of the grammar that is still to come, with what lies around it. Where a place is given, it is that of the word
-// with which the part began. A binding is the name behind `let rec`, a function the name behind `fun`, and so on.
-#[derive(Drop)]
-enum Part {
-    Imports,
-    Import,
-    Bindings,
-    BindRest,
-    Binding(usize),
-    Expr(Depth),
-    Fun(Depth, usize),
-    Fix(Depth, usize),
-    Let(Depth, usize),
-    Local(Depth, usize, usize),
-    CompareTail(Depth),
-    Sum(Depth),
-    SumTail(Depth),
-    Product(Depth),
-    ProductTail(Depth),
-    Apply(Depth),
-    Arguments(Depth, usize),
-    Dots(Depth),
-    Label,
-    Fields(Depth),
-    MoreFields(Depth),
-    Field(Depth),
-    Equals,
-    Arrow,
-    Then,
-    Else,
-    In,
-    ParenRight,
-}
-
-// What is still to do: a part has to come, or a piece is told once what stands before it is over.
-#[derive(Drop)]
-enum Todo {
-    Read(Part),
-    Tell(Piece),
-}
 
 // What is still to do, the next last, and what was told and given so far.
 #[derive(Drop)]
@@ -133,51 +50,6 @@ pub fn read(alloc: Global, text: &[u8], tokens: &[Token]) -> Result<Reading, Fau
         events,
     } = reader;
     Ok(Reading { pieces, events })
-}
-
-// Whether the part is an expression that begins with a token of this kind, and that is nested too deep.
-fn is_too_deep(part: &Part, kind: Kind) -> bool
-    ensures { result ≡ is_deep (part_of part.now) kind }
-{
-    match part {
-        Part::Expr(around) => around.deeper().is_none() && begins_expr(kind),
-        _ => false,
-    }
-}
-
-// Whether an expression begins with a token of this kind.
-fn begins_expr(kind: Kind) -> bool
-    ensures { result ≡ begins_expr kind }
-{
-    matches!(
-        kind,
-        Kind::Name
-            | Kind::Number
-            | Kind::WordTrue
-            | Kind::WordFalse
-            | Kind::WordFun
-            | Kind::WordRec
-            | Kind::WordLet
-            | Kind::WordIf
-            | Kind::ParenLeft
-            | Kind::BraceLeft
-    )
-}
-
-// Whether the part may be empty.
-fn may_be_empty(part: &Part) -> bool
-    ensures { result ≡ may_be_empty (part_of part.now) }
-{
-    matches!(
-        part,
-        Part::Imports
-            | Part::Bindings
-            | Part::CompareTail(_)
-            | Part::SumTail(_)
-            | Part::ProductTail(_)
-            | Part::Arguments(_, _)
-            | Part::Dots(_)
-    )
 }
 
 // The name that the token is, if it is one.
@@ -270,10 +142,10 @@ impl Reader {
         ensures tried { IfOk result (λ begun. Tried text.now token (part_of part) self.old self.new begun) }
         ensures refused { IfErr result (λ fault. fault ≢ Fault.Memory → Refused text.now token (part_of part) fault) }
     {
-        if is_too_deep(&part, token.kind) {
+        if part.is_too_deep(token.kind) {
             return Err(Fault::TooDeep(token.start));
         }
-        let empty = may_be_empty(&part);
+        let empty = part.may_be_empty();
         let begun = self.begin(alloc, text, token, part)?;
         if !begun && !empty {
             return Err(Fault::Unexpected(token.start, token.kind));
@@ -289,7 +161,7 @@ impl Reader {
             match todo {
                 Todo::Tell(piece) => self.pieces.push(piece)?,
                 Todo::Read(part) => {
-                    if !may_be_empty(&part) {
+                    if !part.may_be_empty() {
                         return Ok(false);
                     }
                 }
@@ -337,24 +209,16 @@ impl Reader {
             Part::Local(around, at, rec_at) => {
                 self.begin_local(alloc, text, token, around, at, rec_at)
             }
-            Part::CompareTail(around) => self.begin_compare_tail(token, around),
-            Part::Sum(around) => self.begin_sum(alloc, text, token, around),
-            Part::SumTail(around) => self.begin_sum_tail(token, around),
-            Part::Product(around) => self.begin_product(alloc, text, token, around),
-            Part::ProductTail(around) => self.begin_product_tail(token, around),
-            Part::Apply(around) => self.begin_apply(alloc, text, token, around),
+            Part::Operand(around, operand) => {
+                self.begin_operand(alloc, text, token, around, operand)
+            }
             Part::Arguments(around, at) => self.begin_argument(alloc, text, token, around, at),
-            Part::Dots(around) => self.begin_dots(token.kind, around),
+            Part::Tail(around, tail) => self.begin_tail(token, around, tail),
             Part::Label => self.begin_label(alloc, text, token),
             Part::Fields(around) => self.begin_fields(alloc, text, token, around),
             Part::MoreFields(around) => self.begin_more_fields(token.kind, around),
             Part::Field(around) => self.begin_field(alloc, text, token, around),
-            Part::Equals => Ok(token.kind == Kind::Equals),
-            Part::Arrow => Ok(token.kind == Kind::Arrow),
-            Part::Then => Ok(token.kind == Kind::WordThen),
-            Part::Else => Ok(token.kind == Kind::WordElse),
-            Part::In => Ok(token.kind == Kind::WordIn),
-            Part::ParenRight => Ok(token.kind == Kind::ParenRight),
+            Part::Word(word) => Ok(token.kind == word.kind()),
         }
     }
 
@@ -408,7 +272,7 @@ impl Reader {
                     Todo::Read(Part::Bindings),
                     Todo::Tell(Piece::Binding(token.start, name)),
                     Todo::Read(Part::Expr(Depth::outermost())),
-                    Todo::Read(Part::Equals),
+                    Todo::Read(Part::Word(Word::Equals)),
                 ])?;
                 Ok(true)
             }
@@ -441,7 +305,7 @@ impl Reader {
             Todo::Tell(Piece::Binding(token.start, copy_of(&name)?)),
             Todo::Tell(Piece::Rec(rec_at, name)),
             Todo::Read(Part::Expr(Depth::outermost())),
-            Todo::Read(Part::Equals),
+            Todo::Read(Part::Word(Word::Equals)),
         ])?;
         Ok(true)
     }
@@ -473,7 +337,7 @@ impl Reader {
             Kind::WordIf => {
                 self.put_if(token.start, depth)?;
                 Ok(true)
-            },
+            }
             _ => self.begin_compare(alloc, text, token, depth),
         }
     }
@@ -485,9 +349,9 @@ impl Reader {
         self.put([
             Todo::Tell(Piece::If(at)),
             Todo::Read(Part::Expr(depth)),
-            Todo::Read(Part::Else),
+            Todo::Read(Part::Word(Word::Else)),
             Todo::Read(Part::Expr(depth)),
-            Todo::Read(Part::Then),
+            Todo::Read(Part::Word(Word::Then)),
             Todo::Read(Part::Expr(depth)),
         ])
     }
@@ -510,7 +374,7 @@ impl Reader {
         self.put([
             Todo::Tell(Piece::Fun(at, name)),
             Todo::Read(Part::Expr(around)),
-            Todo::Read(Part::Arrow),
+            Todo::Read(Part::Word(Word::Arrow)),
         ])?;
         Ok(true)
     }
@@ -533,7 +397,7 @@ impl Reader {
         self.put([
             Todo::Tell(Piece::Rec(at, name)),
             Todo::Read(Part::Expr(around)),
-            Todo::Read(Part::Arrow),
+            Todo::Read(Part::Word(Word::Arrow)),
         ])?;
         Ok(true)
     }
@@ -556,9 +420,9 @@ impl Reader {
                 self.put([
                     Todo::Tell(Piece::Let(at, name)),
                     Todo::Read(Part::Expr(around)),
-                    Todo::Read(Part::In),
+                    Todo::Read(Part::Word(Word::In)),
                     Todo::Read(Part::Expr(around)),
-                    Todo::Read(Part::Equals),
+                    Todo::Read(Part::Word(Word::Equals)),
                 ])?;
                 Ok(true)
             }
@@ -589,12 +453,43 @@ impl Reader {
         self.put([
             Todo::Tell(Piece::Let(at, copy_of(&name)?)),
             Todo::Read(Part::Expr(around)),
-            Todo::Read(Part::In),
+            Todo::Read(Part::Word(Word::In)),
             Todo::Tell(Piece::Rec(rec_at, name)),
             Todo::Read(Part::Expr(around)),
-            Todo::Read(Part::Equals),
+            Todo::Read(Part::Word(Word::Equals)),
         ])?;
         Ok(true)
+    }
+
+    // The same for an operand of an operator.
+    fn begin_operand(
+        &mut self,
+        alloc: Global,
+        text: &[u8],
+        token: Token,
+        around: Depth,
+        operand: Operand,
+    ) -> Result<bool, Memory>
+        requires { IsToken text.now token }
+        ensures { IfOk result (λ begun. Acted (acts (a around (operand_sort operand)) token.start (terminal text.now token)) self.old self.new begun) }
+    {
+        match operand {
+            Operand::Sum => self.begin_sum(alloc, text, token, around),
+            Operand::Product => self.begin_product(alloc, text, token, around),
+            Operand::Apply => self.begin_apply(alloc, text, token, around),
+        }
+    }
+
+    // The same for what may follow an operand.
+    fn begin_tail(&mut self, token: Token, around: Depth, tail: Tail) -> Result<bool, Memory>
+        ensures { IfOk result (λ begun. (bytes : List ℕ) → Acted (acts (a around (tail_sort tail)) token.start (terminal_of token.kind bytes)) self.old self.new begun) }
+    {
+        match tail {
+            Tail::Compare => self.begin_compare_tail(token, around),
+            Tail::Sum => self.begin_sum_tail(token, around),
+            Tail::Product => self.begin_product_tail(token, around),
+            Tail::Dots => self.begin_dots(token.kind, around),
+        }
     }
 
     // The same for a comparison.
@@ -605,14 +500,14 @@ impl Reader {
             Kind::Less => {
                 self.put([
                     Todo::Tell(Piece::Binary(token.start, Op::Less)),
-                    Todo::Read(Part::Sum(around)),
+                    Todo::Read(Part::Operand(around, Operand::Sum)),
                 ])?;
                 Ok(true)
             }
             Kind::DoubleEquals => {
                 self.put([
                     Todo::Tell(Piece::Binary(token.start, Op::Equal)),
-                    Todo::Read(Part::Sum(around)),
+                    Todo::Read(Part::Operand(around, Operand::Sum)),
                 ])?;
                 Ok(true)
             }
@@ -627,17 +522,17 @@ impl Reader {
         match token.kind {
             Kind::Plus => {
                 self.put([
-                    Todo::Read(Part::SumTail(around)),
+                    Todo::Read(Part::Tail(around, Tail::Sum)),
                     Todo::Tell(Piece::Binary(token.start, Op::Plus)),
-                    Todo::Read(Part::Product(around)),
+                    Todo::Read(Part::Operand(around, Operand::Product)),
                 ])?;
                 Ok(true)
             }
             Kind::Minus => {
                 self.put([
-                    Todo::Read(Part::SumTail(around)),
+                    Todo::Read(Part::Tail(around, Tail::Sum)),
                     Todo::Tell(Piece::Binary(token.start, Op::Minus)),
-                    Todo::Read(Part::Product(around)),
+                    Todo::Read(Part::Operand(around, Operand::Product)),
                 ])?;
                 Ok(true)
             }
@@ -653,9 +548,9 @@ impl Reader {
             return Ok(false);
         }
         self.put([
-            Todo::Read(Part::ProductTail(around)),
+            Todo::Read(Part::Tail(around, Tail::Product)),
             Todo::Tell(Piece::Binary(token.start, Op::Times)),
-            Todo::Read(Part::Apply(around)),
+            Todo::Read(Part::Operand(around, Operand::Apply)),
         ])?;
         Ok(true)
     }
@@ -667,7 +562,10 @@ impl Reader {
         if kind != Kind::Dot {
             return Ok(false);
         }
-        self.put([Todo::Read(Part::Dots(around)), Todo::Read(Part::Label)])?;
+        self.put([
+            Todo::Read(Part::Tail(around, Tail::Dots)),
+            Todo::Read(Part::Label),
+        ])?;
         Ok(true)
     }
 
@@ -740,7 +638,7 @@ impl Reader {
             Todo::Tell(Piece::Field(name)),
             Todo::Read(Part::MoreFields(around)),
             Todo::Read(Part::Expr(around)),
-            Todo::Read(Part::Equals),
+            Todo::Read(Part::Word(Word::Equals)),
         ])?;
         Ok(true)
     }
@@ -757,11 +655,11 @@ impl Reader {
         ensures { IfOk result (λ begun. Acted (atom_acts around (compare_row around token.start) token.start (terminal text.now token)) self.old self.new begun) }
     {
         let row = [
-            Todo::Read(Part::CompareTail(around)),
-            Todo::Read(Part::SumTail(around)),
-            Todo::Read(Part::ProductTail(around)),
+            Todo::Read(Part::Tail(around, Tail::Compare)),
+            Todo::Read(Part::Tail(around, Tail::Sum)),
+            Todo::Read(Part::Tail(around, Tail::Product)),
             Todo::Read(Part::Arguments(around, token.start)),
-            Todo::Read(Part::Dots(around)),
+            Todo::Read(Part::Tail(around, Tail::Dots)),
         ];
         self.begin_atom(alloc, text, token, around, row)
     }
@@ -778,10 +676,10 @@ impl Reader {
         ensures { IfOk result (λ begun. Acted (atom_acts around (sum_row around token.start) token.start (terminal text.now token)) self.old self.new begun) }
     {
         let row = [
-            Todo::Read(Part::SumTail(around)),
-            Todo::Read(Part::ProductTail(around)),
+            Todo::Read(Part::Tail(around, Tail::Sum)),
+            Todo::Read(Part::Tail(around, Tail::Product)),
             Todo::Read(Part::Arguments(around, token.start)),
-            Todo::Read(Part::Dots(around)),
+            Todo::Read(Part::Tail(around, Tail::Dots)),
         ];
         self.begin_atom(alloc, text, token, around, row)
     }
@@ -798,9 +696,9 @@ impl Reader {
         ensures { IfOk result (λ begun. Acted (atom_acts around (product_row around token.start) token.start (terminal text.now token)) self.old self.new begun) }
     {
         let row = [
-            Todo::Read(Part::ProductTail(around)),
+            Todo::Read(Part::Tail(around, Tail::Product)),
             Todo::Read(Part::Arguments(around, token.start)),
-            Todo::Read(Part::Dots(around)),
+            Todo::Read(Part::Tail(around, Tail::Dots)),
         ];
         self.begin_atom(alloc, text, token, around, row)
     }
@@ -818,7 +716,7 @@ impl Reader {
     {
         let row = [
             Todo::Read(Part::Arguments(around, token.start)),
-            Todo::Read(Part::Dots(around)),
+            Todo::Read(Part::Tail(around, Tail::Dots)),
         ];
         self.begin_atom(alloc, text, token, around, row)
     }
@@ -838,7 +736,7 @@ impl Reader {
         let row = [
             Todo::Read(Part::Arguments(around, at)),
             Todo::Tell(Piece::Apply(at)),
-            Todo::Read(Part::Dots(around)),
+            Todo::Read(Part::Tail(around, Tail::Dots)),
         ];
         self.begin_atom(alloc, text, token, around, row)
     }
@@ -877,7 +775,10 @@ impl Reader {
             }
             Kind::ParenLeft => {
                 self.put(row)?;
-                self.put([Todo::Read(Part::ParenRight), Todo::Read(Part::Expr(around))])?;
+                self.put([
+                    Todo::Read(Part::Word(Word::ParenRight)),
+                    Todo::Read(Part::Expr(around)),
+                ])?;
                 Ok(true)
             }
             Kind::BraceLeft => {
@@ -903,3 +804,6 @@ impl Reader {
         Ok(())
     }
 }
+
+#[cfg(test)]
+mod tests;

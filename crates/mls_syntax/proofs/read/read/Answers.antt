@@ -1,4 +1,4 @@
-use Rattle.std.proofs.Common.{get_or, sym, subst}
+use Rattle.std.proofs.Common.{get_or, subst}
 use Rattle.std.proofs.lemmas.Option.{slice_get-get_or}
 use Rattle.mls_lexer.specs.declared.token.Kind.TheVariants.{Name}
 use Rattle.mls_lexer.proofs.Follows.{Follow-all}

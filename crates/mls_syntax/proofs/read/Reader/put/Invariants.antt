@@ -1,4 +1,3 @@
-use Rattle.std.proofs.Common.{◌≡◌, ◌++◌}
 use Rattle.mls_syntax.specs.Readings.{Puts}
 use Rattle.mls_syntax.proofs.read.Reader.put.Given as goal
 

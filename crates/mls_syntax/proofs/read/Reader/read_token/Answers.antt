@@ -1,6 +1,7 @@
 use Rattle.std.proofs.Common.{rules}
 use Rattle.std.proofs.lemmas.List.{nil_from_length}
-use Rattle.mls_syntax.specs.Readings.{todo_of, Refused, Stopped}
+use Rattle.mls_syntax.specs.Todos.{todo_of}
+use Rattle.mls_syntax.specs.Readings.{Refused, Stopped}
 use Rattle.mls_syntax.proofs.ReaderLoops.{refused-stopped, fault-passed, all-over}
 use Rattle.mls_syntax.proofs.read.Reader.read_token.Goals as goal
 
