@@ -191,12 +191,6 @@ mod tests {
                 "val t : bool\nval f : top -> bool\nval n : int\n",
                 0,
             ),
-            ("let a = b", "main.ml:1:1: fault 20: not built yet\n", 3),
-            (
-                "let a = 1\nlet a = 2",
-                "main.ml:1:1: fault 20: not built yet\n",
-                3,
-            ),
         ] {
             let mut sink = SureSink::new(alloc);
             let status = run(
@@ -207,6 +201,116 @@ mod tests {
             );
             assert_eq!(rt; status.code(), code, "{text}");
             assert_eq!(rt; sink.bytes(), printed.as_bytes(), "{text}");
+        }
+        Ok(())
+    }
+
+    // What is printed for a text, and the code.
+    fn inferred(alloc: Global, text: &[u8]) -> Result<(Vec<u8>, u8), Memory> {
+        let words = words_of(alloc, &["infer", "main"])?;
+        let mut sink = SureSink::new(alloc);
+        let status = run(alloc, &words, &mut store_of(alloc, text)?, &mut sink);
+        Ok((Vec::from_slice(alloc, sink.bytes())?, status.code()))
+    }
+
+    #[test]
+    fn answers_the_first_fault_with_its_line(rt: HostRuntime) -> Result<(), Fail> {
+        for (text, printed) in [
+            (
+                "let a = @",
+                "main.ml:1:9: fault 1: a byte that begins no token\n",
+            ),
+            (
+                "let n = 9223372036854775808",
+                "main.ml:1:9: fault 2: a number above 9223372036854775807\n",
+            ),
+            ("let a = )", "main.ml:1:9: fault 3: unexpected token\n"),
+            (
+                "let id = fun x ->",
+                "main.ml:1:18: fault 4: the text ends too early\n",
+            ),
+            ("let a = b", "main.ml:1:9: fault 6: unknown name\n"),
+            (
+                "let a = 1\nlet a = 2",
+                "main.ml:2:5: fault 7: name bound twice\n",
+            ),
+            (
+                "let r = {a = 1, a = 2}",
+                "main.ml:1:17: fault 8: label given twice\n",
+            ),
+            (
+                "import k\nimport k",
+                "main.ml:2:8: fault 9: module imported twice\n",
+            ),
+            ("let a = 1 2", "main.ml:1:9: fault 20: not built yet\n"),
+            ("import k", "main.ml:1:8: fault 20: not built yet\n"),
+            (
+                "import k let a = b",
+                "main.ml:1:8: fault 20: not built yet\n",
+            ),
+            (
+                "let a = 1\nlet b = a",
+                "main.ml:2:9: fault 20: not built yet\n",
+            ),
+            (
+                "let f = fun x -> x 1\nlet g = y",
+                "main.ml:2:9: fault 6: unknown name\n",
+            ),
+            (
+                "let f = fun x -> (x + 1) (x x)",
+                "main.ml:1:18: fault 20: not built yet\n",
+            ),
+        ] {
+            let (said, code) = inferred(rt.alloc(), text.as_bytes())?;
+            assert_eq!(rt; said.as_slice(), printed.as_bytes(), "{text}");
+            assert_eq!(rt; code, 3, "{text}");
+        }
+        Ok(())
+    }
+
+    #[test]
+    fn answers_each_front_of_a_text(rt: HostRuntime) -> Result<(), Fail> {
+        let alloc = rt.alloc();
+        let text = b"let id = fun x -> x";
+        for n in 0..=19 {
+            let want = match n {
+                0 => String::new(alloc),
+                1 | 2 => String::from_str(alloc, "main.ml:1:1: fault 3: unexpected token\n")?,
+                10 | 11 => String::from_str(alloc, "main.ml:1:10: fault 6: unknown name\n")?,
+                16 => String::from_str(alloc, "main.ml:1:16: fault 3: unexpected token\n")?,
+                19 => String::from_str(alloc, "val id : a -> a\n")?,
+                _ => {
+                    let mut line = String::new(alloc);
+                    let column = n + 1;
+                    write!(line, "main.ml:1:{column}: fault 4: the text ends too early\n")?;
+                    line
+                }
+            };
+            let (said, code) = inferred(alloc, &text[..n])?;
+            assert_eq!(rt; said.as_slice(), want.as_bytes(), "{n}");
+            assert_eq!(rt; code, if n == 0 || n == 19 { 0 } else { 3 }, "{n}");
+        }
+        Ok(())
+    }
+
+    #[test]
+    fn holds_the_nesting(rt: HostRuntime) -> Result<(), Fail> {
+        for (count, printed, code) in [
+            (199, "val d : int\n", 0),
+            (200, "main.ml:1:209: fault 5: nesting above 200\n", 3),
+        ] {
+            let mut text = String::new(rt.alloc());
+            text.push_str("let d = ")?;
+            for _ in 0..count {
+                text.push_str("(")?;
+            }
+            text.push_str("1")?;
+            for _ in 0..count {
+                text.push_str(")")?;
+            }
+            let (said, status) = inferred(rt.alloc(), text.as_bytes())?;
+            assert_eq!(rt; said.as_slice(), printed.as_bytes(), "{count}");
+            assert_eq!(rt; status, code, "{count}");
         }
         Ok(())
     }
