@@ -37,7 +37,7 @@ pub record PutsRow (row : List Todo) (old new : Reader) : Type 0 where
   pub events : new.events.items ≡ old.events.items
 
 -- the row was put on the stack, and a piece was told
-pub record Tells (row : List Kept) (piece : Piece) (old new : Reader) : Type 0 where
+pub record PutsAndTells (row : List Kept) (piece : Piece) (old new : Reader) : Type 0 where
   pub stack : stack_of new.stack.items ≡ stack_of row ++ stack_of old.stack.items
   pub pieces : new.pieces.items ≡ old.pieces.items ++ piece ∷ []
   pub events : new.events.items ≡ old.events.items

@@ -4,7 +4,7 @@ ghost use Rattle.mls_lexer.specs.Tokens.{IsToken, IsTokens, terminal, terminal_o
 ghost use Rattle.mls_syntax.specs.Building.{a, arguments_of, compare_row, sum_row, product_row, apply_row, acts, atom_acts, imports_acts, import_acts, bindings_acts, bind_rest_acts, binding_acts, expr_acts, fun_acts, fix_acts, let_acts, local_acts, compare_tail_acts, sum_tail_acts, product_tail_acts, dots_acts, label_acts, parts_acts, more_parts_acts, part_acts};
 ghost use Rattle.mls_syntax.specs.GrammarFaults.{HasGrammarFault};
 ghost use Rattle.mls_syntax.specs.Todos.{part_of, todo_of, stack_of, operand_sort, tail_sort, is_deep};
-ghost use Rattle.mls_syntax.specs.Readings.{if_row, ReadsSource, name_in, Acted, Tried, Refused, Went, Stopped, Finished, IsNew, Puts, PutsRow, Tells};
+ghost use Rattle.mls_syntax.specs.Readings.{if_row, ReadsSource, name_in, Acted, Tried, Refused, Went, Stopped, Finished, IsNew, Puts, PutsRow, PutsAndTells};
 
 use crate::module::Op;
 use crate::parse::Fault;
@@ -153,7 +153,7 @@ impl Reader {
         Ok(begun)
     }
 
-    // Tells what is left to tell behind the last token, and says whether nothing more has to come.
+    // PutsAndTells what is left to tell behind the last token, and says whether nothing more has to come.
     fn finish(&mut self) -> Result<bool, Memory>
         ensures { IfOk result (λ over. Finished self.old self.new over) }
     {
@@ -794,10 +794,10 @@ impl Reader {
         }
     }
 
-    // Tells a piece, and puts the row that follows it on the stack, the next one last.
+    // PutsAndTells a piece, and puts the row that follows it on the stack, the next one last.
     fn tell<const N: usize>(&mut self, row: [Todo; N], piece: Piece) -> Result<(), Memory>
         requires { N ≤ 6 }
-        ensures { OnOk result (Tells row.entry piece self.old self.new) }
+        ensures { OnOk result (PutsAndTells row.entry piece self.old self.new) }
     {
         self.put(row)?;
         self.pieces.push(piece)?;
