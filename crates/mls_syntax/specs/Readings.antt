@@ -1,8 +1,9 @@
 -- What the functions of the reader of modules answer, and what is read at last.
 use Rattle.std.specs.Prelude.{◌≡◌, ◌≢◌, ℕ, suc, ◌≤◌, Bool, true, false, List, [], ◌∷◌, ◌++◌, map, Option, Some, None}
 use Rattle.std.specs.List.{list_all}
+use Rattle.mls_lexer.specs.declared.token.Kind.TheVariants as kind
 use Rattle.mls_lexer.specs.declared.token.Token.{Token}
-use Rattle.mls_lexer.specs.Tokens.{Terminal, name, terminal, terminals}
+use Rattle.mls_lexer.specs.Tokens.{Terminal, name, number, word, terminal, terminals}
 use Rattle.mls_syntax.specs.declared.parse.Fault.{Fault}
 use Rattle.mls_syntax.specs.declared.parse.Fault.TheVariants.{Unexpected, TooDeep}
 use Rattle.mls_syntax.specs.declared.piece.Piece.{Piece}
@@ -37,7 +38,7 @@ pub record PutsRow (row : List Todo) (old new : Reader) : Type 0 where
   pub events : new.events.items ≡ old.events.items
 
 -- the row was put on the stack, and a piece was told
-pub record Tells (row : List Kept) (piece : Piece) (old new : Reader) : Type 0 where
+pub record PutsAndTells (row : List Kept) (piece : Piece) (old new : Reader) : Type 0 where
   pub stack : stack_of new.stack.items ≡ stack_of row ++ stack_of old.stack.items
   pub pieces : new.pieces.items ≡ old.pieces.items ++ piece ∷ []
   pub events : new.events.items ≡ old.events.items
@@ -67,6 +68,14 @@ Acted None old new begun = (begun ≡ false) × Stays old new
 abbrev pub name_in : Terminal → Option (List ℕ)
 name_in (name x) = Some x
 name_in _ = None
+
+-- what a name, a number or a truth value tells
+abbrev pub leaf : (at : ℕ) → Terminal → Option Piece
+leaf at (name x) = Some (piece.Name at x)
+leaf at (number value) = Some (piece.Number at value)
+leaf at (word kind.WordTrue) = Some (piece.Truth at true)
+leaf at (word kind.WordFalse) = Some (piece.Truth at false)
+leaf at _ = None
 
 -- the nesting of the expression that a part is, and 0 for any other part
 abbrev pub own : Todo → ℕ

@@ -4,7 +4,7 @@ ghost use Rattle.mls_lexer.specs.Tokens.{IsToken, IsTokens, terminal, terminal_o
 ghost use Rattle.mls_syntax.specs.Building.{a, arguments_of, compare_row, sum_row, product_row, apply_row, acts, atom_acts, imports_acts, import_acts, bindings_acts, bind_rest_acts, binding_acts, expr_acts, fun_acts, fix_acts, let_acts, local_acts, compare_tail_acts, sum_tail_acts, product_tail_acts, dots_acts, label_acts, parts_acts, more_parts_acts, part_acts};
 ghost use Rattle.mls_syntax.specs.GrammarFaults.{HasGrammarFault};
 ghost use Rattle.mls_syntax.specs.Todos.{part_of, todo_of, stack_of, operand_sort, tail_sort, is_deep};
-ghost use Rattle.mls_syntax.specs.Readings.{if_row, ReadsSource, name_in, Acted, Tried, Refused, Went, Stopped, Finished, IsNew, Puts, PutsRow, Tells};
+ghost use Rattle.mls_syntax.specs.Readings.{if_row, ReadsSource, name_in, leaf, Acted, Tried, Refused, Went, Stopped, Finished, IsNew, Puts, PutsRow, PutsAndTells};
 
 use crate::module::Op;
 use crate::parse::Fault;
@@ -71,6 +71,26 @@ fn name_of(alloc: Global, text: &[u8], token: Token) -> Result<Name, Memory>
     ensures { IfOk result (λ name. name ≡ slice_range text.now token.start token.end) }
 {
     Name::new(alloc, &text[token.start..token.end])
+}
+
+// The piece that the token tells as an atom alone, if it is one.
+fn leaf_at(alloc: Global, text: &[u8], token: Token) -> Result<Option<Piece>, Memory>
+    requires { IsToken text.now token }
+    ensures { IfOk result (λ found. found ≡ leaf token.start (terminal text.now token)) }
+{
+    match token.kind {
+        Kind::Name => {
+            let name = name_of(alloc, text, token)?;
+            Ok(Some(Piece::Name(token.start, name)))
+        }
+        Kind::Number => {
+            let value = number_of(text, &token);
+            Ok(Some(Piece::Number(token.start, value)))
+        }
+        Kind::WordTrue => Ok(Some(Piece::Truth(token.start, true))),
+        Kind::WordFalse => Ok(Some(Piece::Truth(token.start, false))),
+        _ => Ok(None),
+    }
 }
 
 // A copy of the name.
@@ -153,7 +173,7 @@ impl Reader {
         Ok(begun)
     }
 
-    // Tells what is left to tell behind the last token, and says whether nothing more has to come.
+    // PutsAndTells what is left to tell behind the last token, and says whether nothing more has to come.
     fn finish(&mut self) -> Result<bool, Memory>
         ensures { IfOk result (λ over. Finished self.old self.new over) }
     {
@@ -754,25 +774,11 @@ impl Reader {
         requires short { N ≤ 6 }
         ensures { IfOk result (λ begun. Acted (atom_acts around (stack_of row.entry) token.start (terminal text.now token)) self.old self.new begun) }
     {
+        if let Some(piece) = leaf_at(alloc, text, token)? {
+            self.tell(row, piece)?;
+            return Ok(true);
+        }
         match token.kind {
-            Kind::Name => {
-                let name = name_of(alloc, text, token)?;
-                self.tell(row, Piece::Name(token.start, name))?;
-                Ok(true)
-            }
-            Kind::Number => {
-                let value = number_of(text, &token);
-                self.tell(row, Piece::Number(token.start, value))?;
-                Ok(true)
-            }
-            Kind::WordTrue => {
-                self.tell(row, Piece::Truth(token.start, true))?;
-                Ok(true)
-            }
-            Kind::WordFalse => {
-                self.tell(row, Piece::Truth(token.start, false))?;
-                Ok(true)
-            }
             Kind::ParenLeft => {
                 self.put(row)?;
                 self.put([
@@ -794,10 +800,10 @@ impl Reader {
         }
     }
 
-    // Tells a piece, and puts the row that follows it on the stack, the next one last.
+    // PutsAndTells a piece, and puts the row that follows it on the stack, the next one last.
     fn tell<const N: usize>(&mut self, row: [Todo; N], piece: Piece) -> Result<(), Memory>
         requires { N ≤ 6 }
-        ensures { OnOk result (Tells row.entry piece self.old self.new) }
+        ensures { OnOk result (PutsAndTells row.entry piece self.old self.new) }
     {
         self.put(row)?;
         self.pieces.push(piece)?;
