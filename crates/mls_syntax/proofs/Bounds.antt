@@ -1,5 +1,5 @@
 -- While the nodes of a tree are read, the parts that wait have small numbers.
-use Rattle.std.proofs.Common.{◌≡◌, ℕ, suc, ◌+◌, ◌<◌, ◌≤◌, List, [], ◌∷◌, length, refl, sym, subst, arith, All}
+use Rattle.std.proofs.Common.{◌≡◌, ℕ, suc, ◌<◌, ◌≤◌, List, [], ◌∷◌, length, refl, sym, subst, arith, All}
 use Rattle.std.proofs.lemmas.List.Elements.{All-head, All-tail}
 use Rattle.mls_syntax.specs.declared.counts.Count.{Count}
 use Rattle.mls_syntax.specs.declared.module.ExprNode.{ExprNode}
@@ -8,7 +8,7 @@ use Rattle.mls_syntax.specs.declared.module.Form.TheVariants as form
 use Rattle.mls_syntax.specs.declared.module.Part.{Part}
 use Rattle.mls_syntax.specs.declared.resolver.Stretch.{Stretch}
 use Rattle.mls_syntax.specs.Resolution.{Scope}
-use Rattle.mls_syntax.specs.Reading.{Waiting, Walk, step, walk, fields_waiting, parts_waiting, after, next_numbers, HasPartsBelow, IsWithin, AreWithin}
+use Rattle.mls_syntax.specs.Reading.{Waiting, Walk, step, walk, fields_waiting, parts_waiting, after, next_numbers, HasPartsBelow, AreWithin}
 
 -- first nodes up to n, and at most k binders and lets around
 abbrev pub Bounded : (n k : ℕ) → List Waiting → Type 0

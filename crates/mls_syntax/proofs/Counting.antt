@@ -1,19 +1,17 @@
 -- How many binders and lets are among the nodes of a tree, and that the numbers of its parts are below those of its nodes.
 use Rattle.std.proofs.Common.{◌≡◌, ℕ, suc, ◌+◌, ◌<◌, ◌≤◌, Bool, cond, List, [], ◌∷◌, ◌++◌, length, get_or, take, refl, sym, ap, subst, ◌∙◌, arith, All, length-append, length-take}
-use Rattle.std.specs.List.{count_by, sum_by}
+use Rattle.std.specs.List.{count_by}
 use Rattle.std.proofs.lemmas.List.{append_assoc, take_at, get_or_default}
-use Rattle.std.proofs.lemmas.List.Elements.{All-nil, All-cons, All-append, All-head, All-tail}
+use Rattle.std.proofs.lemmas.List.Elements.{All-nil, All-cons, All-append}
 use Rattle.std.proofs.lemmas.List.Sums.{sum_by-append, count_by-le-length}
 use Rattle.mls_syntax.specs.declared.counts.Count.{Count}
 use Rattle.mls_syntax.specs.declared.module.ExprNode.{ExprNode}
-use Rattle.mls_syntax.specs.declared.module.Form.{Form}
 use Rattle.mls_syntax.specs.declared.module.Form.TheVariants as form
 use Rattle.mls_syntax.specs.declared.module.Part.{Part}
-use Rattle.mls_syntax.specs.declared.resolver.Stretch.{Stretch}
 use Rattle.mls_syntax.specs.Trees.{Tree, a_name, an_operator, a_number, a_truth, a_fun, a_fix, a_let, an_if, an_apply, a_make, a_project, Fields, no_field, a_field, before, field_nodes, field_roots, postorder, field_postorder}
-use Rattle.mls_syntax.specs.Resolution.{Scope, binders, lets, field_binders, field_lets}
+use Rattle.mls_syntax.specs.Resolution.{binders, lets, field_binders, field_lets}
 use Rattle.mls_syntax.specs.Counts.{is_binder_form, is_let_form, count_of, count_at, AreCounts}
-use Rattle.mls_syntax.specs.Reading.{Waiting, Walk, step, walk, fields_waiting, parts_waiting, after, next_numbers, HasPartsBelow, IsWithin, AreWithin, IsCountBelow}
+use Rattle.mls_syntax.specs.Reading.{HasPartsBelow, IsCountBelow}
 use Rattle.mls_syntax.proofs.Walking.{Grows, Counted, AreCounted, one_before, two_before, three_before}
 
 abbrev is_binder : ExprNode → Bool

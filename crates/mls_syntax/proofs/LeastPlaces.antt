@@ -1,7 +1,6 @@
 -- The least place of a node whose form is not built.
-use Rattle.std.proofs.Common.{◌≡◌, ℕ, suc, ◌+◌, ◌<◌, ◌≤◌, Bool, true, false, not, cond, List, [], ◌∷◌, ◌++◌, length, map, take, get_or, filter, All, Contains, refl, sym, ap, subst, ◌∙◌, arith, Some, None, min, ◌↔◌, ◌⊎◌, inl, inr}
+use Rattle.std.proofs.Common.{◌≡◌, ℕ, ◌+◌, ◌<◌, ◌≤◌, Bool, true, false, not, cond, List, [], ◌∷◌, ◌++◌, length, map, take, get_or, filter, All, Contains, refl, sym, ap, subst, ◌∙◌, arith, Some, None, min, ◌↔◌, ◌⊎◌, inl, inr}
 use Rattle.std.specs.Prelude.{Option, IfSome}
-use Rattle.std.specs.List.{flat_map}
 use Rattle.std.proofs.lemmas.List.{append_assoc, append-nil, take_more, take_all, map-append}
 use Rattle.std.proofs.lemmas.Bool.{cases_lt}
 use Rattle.std.proofs.lemmas.List.Elements.{All-nil, All-cons, All-push, All-weaker, Contains-push, Contains-append_left, filter_more, All-head, All-tail}

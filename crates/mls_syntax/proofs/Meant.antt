@@ -1,12 +1,12 @@
 -- A tree without unknown names means its term, and no other.
-use Rattle.std.proofs.Common.{◌≡◌, ℕ, suc, ◌+◌, Bool, true, false, if◌then◌else◌, List, [], ◌∷◌, ◌++◌, refl, sym, ap, ◌∙◌, Some, None, is_some}
+use Rattle.std.proofs.Common.{◌≡◌, ℕ, suc, ◌+◌, Bool, true, false, if◌then◌else◌, List, [], ◌∷◌, ◌++◌, refl, ap, ◌∙◌, Some, None, is_some}
 use Rattle.std.specs.Prelude.{Option}
 use Rattle.mls_syntax.specs.declared.term.ResolvedBinding.{ResolvedBinding}
 use Rattle.mls_syntax.specs.Trees.{Tree, a_name, an_operator, a_number, a_truth, a_fun, a_fix, a_let, an_if, an_apply, a_make, a_project, Fields, no_field, a_field, BindingTree}
 use Rattle.mls_syntax.specs.Terms.{TermTree, TermFields, fun, apply, make, project, choice, local, fix, postorder}
 use Rattle.mls_syntax.specs.Terms as term
 use Rattle.mls_syntax.specs.Resolution.{Meant, binder, let_number, Scope, meant_by, use_of, names_of, is_known, unknowns, field_unknowns, unknown_names, binders, lets, Means, MeanFields, scope_after, IsTermOf, AreTermsOf}
-use Rattle.mls_syntax.specs.Meanings.{use_or_truth, resolved, resolved_fields, term_of, binding_in, bindings_in}
+use Rattle.mls_syntax.specs.Meanings.{use_or_truth, resolved, resolved_fields, binding_in, bindings_in}
 use Rattle.mls_syntax.proofs.Named.{known}
 
 -- where two lists have no place, neither has one

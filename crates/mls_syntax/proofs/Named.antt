@@ -1,5 +1,5 @@
 -- The term that a tree makes, and the names of a scope.
-use Rattle.std.proofs.Common.{◌≡◌, ℕ, suc, ◌+◌, true, false, Bool, ◌||◌, cond, if◌then◌else◌, List, [], ◌∷◌, ◌++◌, refl, sym, ap, ◌∙◌, Some, None, is_some, bytes_eq}
+use Rattle.std.proofs.Common.{◌≡◌, ℕ, suc, ◌+◌, true, false, Bool, ◌||◌, cond, if◌then◌else◌, List, [], ◌∷◌, ◌++◌, refl, ap, ◌∙◌, Some, None, is_some, bytes_eq}
 use Rattle.std.specs.Prelude.{Option, option_map, unwrap_or, find}
 use Rattle.mls_syntax.specs.declared.term.TermNode.{TermNode}
 use Rattle.mls_syntax.specs.declared.term.TermForm.TheVariants as form

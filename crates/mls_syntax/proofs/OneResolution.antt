@@ -1,11 +1,9 @@
 -- A module has one resolution, or one first name without a meaning.
-use Rattle.std.proofs.Common.{◌≡◌, ℕ, List, [], ◌∷◌, ◌⊎◌, inl, inr, refl, sym, ap, subst, ◌∙◌}
-use Rattle.mls_syntax.specs.declared.module.Module.{Module}
+use Rattle.std.proofs.Common.{◌≡◌, ℕ, List, [], ◌∷◌, ◌⊎◌, inl, inr, refl, sym, ap, ◌∙◌}
 use Rattle.mls_syntax.specs.declared.parse.Fault.TheVariants.{UnknownName}
 use Rattle.mls_syntax.specs.declared.parse.Fault.{Fault}
 use Rattle.mls_syntax.specs.declared.term.Resolved.{Resolved}
 use Rattle.mls_syntax.specs.Trees.{SourceTree}
-use Rattle.mls_syntax.specs.Modules.{IsModule}
 use Rattle.mls_syntax.specs.Resolution.{unknown_names, Resolves, HasUnknownName}
 use Rattle.mls_syntax.specs.Meanings.{bindings_in}
 use Rattle.mls_syntax.specs.ResolutionLaws.{OneResolution, OneUnknownName, NoUnknownNameBesideAResolution, ResolutionOrUnknownName}

@@ -1,18 +1,16 @@
 -- Bindings are resolved one after another.
-use Rattle.std.proofs.Common.{◌≡◌, ℕ, zero, suc, ◌+◌, ◌<◌, ◌≤◌, List, [], ◌∷◌, ◌++◌, length, map, take, get_or, refl, sym, ap, subst, ◌∙◌, arith, add-one}
+use Rattle.std.proofs.Common.{◌≡◌, ℕ, zero, suc, ◌+◌, ◌<◌, ◌≤◌, List, [], ◌∷◌, ◌++◌, length, map, take, get_or, refl, sym, ap, subst, ◌∙◌, arith}
 use Rattle.std.proofs.lemmas.List.{append_assoc, append-nil, take_all, take-map, length-map}
 use Rattle.mls_syntax.specs.declared.module.Binding.{Binding}
 use Rattle.mls_syntax.specs.declared.module.Module.{Module}
 use Rattle.mls_syntax.specs.declared.parse.Fault.{Fault}
 use Rattle.mls_syntax.specs.declared.resolver.Resolver.{Resolver}
-use Rattle.mls_syntax.specs.declared.term.Resolved.{Resolved}
 use Rattle.mls_syntax.specs.declared.term.ResolvedBinding.{ResolvedBinding}
-use Rattle.mls_syntax.specs.declared.term.Term.{Term}
 use Rattle.mls_syntax.specs.Trees.{BindingTree}
 use Rattle.mls_syntax.specs.Trees as tree
-use Rattle.mls_syntax.specs.Modules.{binding_of, IsModule, AreDistinct}
+use Rattle.mls_syntax.specs.Modules.{binding_of, IsModule}
 use Rattle.mls_syntax.specs.Resolution.{Scope, scheme, names_of, unknowns, scope_after, schemes_from, declared_from, declared_count, unknown_names, AreTermsOf, Resolves, HasUnknownName}
-use Rattle.mls_syntax.specs.Meanings.{IsExpression, term_of, binding_in, bindings_in}
+use Rattle.mls_syntax.specs.Meanings.{IsExpression, binding_in, bindings_in}
 use Rattle.mls_syntax.specs.Reading.{IsReady, IsIdle, HasTerm, HasUnknown}
 use Rattle.mls_syntax.proofs.Meant.{are_terms}
 use Rattle.mls_syntax.proofs.Scopes.{ready_more}

@@ -1,5 +1,5 @@
 -- Reading the nodes of a tree from the last one to the first gives its term and its unknown names.
-use Rattle.std.proofs.Common.{◌≡◌, ℕ, suc, ◌+◌, List, [], ◌∷◌, ◌++◌, refl, sym, ap, ◌∙◌, arith, if◌then◌else◌}
+use Rattle.std.proofs.Common.{◌≡◌, ℕ, suc, ◌+◌, List, [], ◌∷◌, ◌++◌, refl, sym, ap, ◌∙◌, arith}
 use Rattle.std.proofs.lemmas.List.{append_assoc}
 use Rattle.mls_syntax.specs.declared.counts.Count.{Count}
 use Rattle.mls_syntax.specs.declared.module.ExprNode.{ExprNode}
@@ -7,13 +7,13 @@ use Rattle.mls_syntax.specs.declared.module.Part.{Part}
 use Rattle.mls_syntax.specs.declared.module.Form.TheVariants as form
 use Rattle.mls_syntax.specs.declared.term.TermNode.{TermNode}
 use Rattle.mls_syntax.specs.declared.term.TermForm.TheVariants as out
-use Rattle.mls_syntax.specs.Trees.{Tree, a_name, an_operator, a_number, a_truth, a_fun, a_fix, a_let, an_if, an_apply, a_make, a_project, Fields, no_field, a_field, before, field_nodes, field_roots, postorder, field_postorder}
+use Rattle.mls_syntax.specs.Trees.{Tree, a_name, an_operator, a_number, a_truth, a_fun, a_fix, a_let, an_if, an_apply, a_make, a_project, Fields, no_field, a_field, before, field_roots, postorder, field_postorder}
 use Rattle.mls_syntax.specs.Terms.{TermTree, TermFields}
 use Rattle.mls_syntax.specs.Terms as term
-use Rattle.mls_syntax.specs.Resolution.{Meant, binder, let_number, scheme, Scope, meant_by, operator_number, names_of, is_known, unknowns, field_unknowns, binders, lets}
+use Rattle.mls_syntax.specs.Resolution.{binder, let_number, Scope, meant_by, names_of, is_known, unknowns, field_unknowns, binders, lets}
 use Rattle.mls_syntax.specs.Counts.{count_at}
-use Rattle.mls_syntax.specs.Meanings.{use_or_truth, resolved, resolved_fields}
-use Rattle.mls_syntax.specs.Reading.{Waiting, Walk, step, walk, fields_waiting, parts_waiting}
+use Rattle.mls_syntax.specs.Meanings.{resolved, resolved_fields}
+use Rattle.mls_syntax.specs.Reading.{Waiting, Walk, step, walk, fields_waiting}
 use Rattle.mls_syntax.proofs.Named.{known, name_node, name_noted, before_is, field_roots_are}
 
 -- a part that waits, before and behind what waits, what the nodes became and the places of unknown names

@@ -1,21 +1,20 @@
 -- Reading all nodes of a tree.
-use Rattle.std.proofs.Common.{◌≡◌, ℕ, suc, ◌+◌, ◌<◌, ◌≤◌, List, [], ◌∷◌, ◌++◌, length, get_or, drop, refl, sym, ap, subst, ◌∙◌, arith, reverse, All, Some, None, length-drop}
+use Rattle.std.proofs.Common.{◌≡◌, ℕ, ◌+◌, ◌<◌, ◌≤◌, List, [], ◌∷◌, ◌++◌, length, get_or, drop, refl, sym, ap, subst, ◌∙◌, arith, reverse, All, Some, None, length-drop}
 use Rattle.std.specs.Prelude.{Option, slice_get}
 use Rattle.std.proofs.lemmas.List.{reverse-append, reverse-reverse, append-nil, take_all, get_or_default}
 use Rattle.std.proofs.lemmas.List.Elements.{All-drop}
 use Rattle.mls_syntax.specs.declared.counts.Count.{Count}
 use Rattle.mls_syntax.specs.declared.module.ExprNode.{ExprNode}
-use Rattle.mls_syntax.specs.declared.term.Term.{Term}
 use Rattle.mls_syntax.specs.declared.term.TermNode.{TermNode}
 use Rattle.mls_syntax.specs.declared.resolver.Stretch.{Stretch}
 use Rattle.mls_syntax.specs.declared.resolver.Resolver.{Resolver}
 use Rattle.mls_syntax.specs.declared.parse.Fault.TheVariants.{UnknownName}
 use Rattle.mls_syntax.specs.Trees.{Tree, before, postorder}
 use Rattle.mls_syntax.specs.Terms as term
-use Rattle.mls_syntax.specs.Resolution.{Scope, names_of, unknowns, binders, lets}
+use Rattle.mls_syntax.specs.Resolution.{Scope, names_of, unknowns}
 use Rattle.mls_syntax.specs.Counts.{AreCounts, count_of, count_at}
-use Rattle.mls_syntax.specs.Meanings.{resolved, term_of, IsFirstOf, IsExpression}
-use Rattle.mls_syntax.specs.Reading.{Waiting, Walk, walk, IsAt, IsIdle, IsReady, HasWaiting, HasWithin, AreWithin, HasPartsBelow, IsNext, Takes, ReadsNodes, HasTerm, HasUnknown}
+use Rattle.mls_syntax.specs.Meanings.{resolved, IsFirstOf, IsExpression}
+use Rattle.mls_syntax.specs.Reading.{Walk, walk, IsAt, IsReady, HasWithin, AreWithin, HasPartsBelow, IsNext, Takes, ReadsNodes, HasTerm, HasUnknown}
 use Rattle.mls_syntax.proofs.Walking.{reads}
 use Rattle.mls_syntax.proofs.Counting.{counted, parts_below, length_is, binders_are, lets_are}
 use Rattle.mls_syntax.proofs.Bounds.{Bounded, walk_bounded, are_within}

@@ -1,5 +1,5 @@
 -- How many binders and lets are among nodes.
-use Rattle.std.specs.Prelude.{◌≡◌, ℕ, suc, ◌≤◌, ◌<◌, Bool, true, false, List, length, get_or, take, All}
+use Rattle.std.specs.Prelude.{◌≡◌, ℕ, suc, ◌≤◌, Bool, true, false, List, length, get_or, take}
 use Rattle.std.specs.List.{count_by}
 use Rattle.mls_syntax.specs.declared.counts.Count.{Count}
 use Rattle.mls_syntax.specs.declared.module.ExprNode.{ExprNode}

@@ -1,5 +1,5 @@
 -- How the nodes of an expression are read from the last one to the first, so that a node comes before its parts, and a later part before an earlier one.
-use Rattle.std.specs.Prelude.{◌≡◌, ℕ, ◌+◌, suc, ◌<◌, ◌≤◌, ◌^◌, false, cond, List, [], ◌∷◌, ◌++◌, reverse, length, All, bytes_eq, Option, Some, None, option_map, unwrap_or, slice_get}
+use Rattle.std.specs.Prelude.{◌≡◌, ℕ, ◌+◌, ◌<◌, false, cond, List, [], ◌∷◌, ◌++◌, reverse, All, bytes_eq, Option, Some, None, option_map, unwrap_or, slice_get}
 use Rattle.indexmap.specs.IndexMap.{IndexMap, get}
 use Rattle.mls_syntax.specs.declared.counts.Count.{Count}
 use Rattle.mls_syntax.specs.declared.module.ExprNode.{ExprNode}

@@ -48,3 +48,20 @@ fn is_built(form: &TermForm) -> bool
         TermForm::Bound(_) | TermForm::Number(_) | TermForm::Truth(_) | TermForm::Fun(_, _)
     )
 }
+
+#[cfg(test)]
+mod tests {
+    use super::*;
+    use crate::parse::parse_module;
+    use crate::resolve::resolve;
+    use std::test::Fail;
+
+    #[test]
+    fn what_is_read_so_far_is_built(rt: HostRuntime) -> Result<(), Fail> {
+        let alloc = rt.alloc();
+        let module = parse_module(alloc, b"let k = fun x -> fun y -> x let t = true let n = 7")?;
+        let resolved = resolve(alloc, &module, &[])?;
+        assert_eq!(rt; first_unbuilt(&resolved), None);
+        Ok(())
+    }
+}

@@ -1,7 +1,7 @@
 use Rattle.std.proofs.Common.{sym, ◌∙◌, subst}
 use Rattle.std.proofs.lemmas.Result.{err_from_is_err_and}
 use Rattle.mls_syntax.specs.Resolution.{HasUnknownName}
-use Rattle.mls_syntax.proofs.Resolving.{so_far_first, is_expression, is_idle, has_unknown_name, so_far_more, resolves}
+use Rattle.mls_syntax.proofs.Resolving.{is_expression, is_idle, has_unknown_name, so_far_more, resolves}
 use Rattle.mls_syntax.proofs.resolve.resolve.Goals as goal
 
 pub binding-requires-clause-nodes : goal.binding-requires-clause-nodes

@@ -1,4 +1,3 @@
-use Rattle.std.proofs.Common.{◌≡◌}
 use Rattle.mls_syntax.specs.Modules.{IsModule}
 use Rattle.mls_syntax.proofs.Resolving.{IsSoFar}
 use Rattle.mls_syntax.proofs.resolve.resolve.Given as goal

@@ -1,4 +1,4 @@
-use Rattle.std.proofs.Common.{◌≡◌, sym, subst, ap, ◌∙◌, length, ◌≤◌, get_or, ◌<◌, arith}
+use Rattle.std.proofs.Common.{subst, ap, ◌∙◌, length, ◌≤◌, get_or, ◌<◌}
 use Rattle.mls_syntax.specs.Unbuilt.{AddsNodes}
 use Rattle.mls_syntax.proofs.LeastPlaces.{binding_added, none_exactly}
 use Rattle.mls_syntax.proofs.unbuilt.first_unbuilt.Goals as goal

@@ -1,6 +1,6 @@
-use Rattle.std.proofs.Common.{◌≡◌, ◌+◌, ◌∷◌, ◌++◌, take, subst, arith, ap}
+use Rattle.std.proofs.Common.{◌∷◌, ◌++◌, take, subst, arith}
 use Rattle.std.proofs.lemmas.List.{take_all}
-use Rattle.mls_syntax.specs.Resolution.{Scope, scheme, schemes_from}
+use Rattle.mls_syntax.specs.Resolution.{scheme, schemes_from}
 use Rattle.mls_syntax.specs.Reading.{IsReady}
 use Rattle.mls_syntax.proofs.Scopes.{ready_more}
 use Rattle.mls_syntax.proofs.resolver.Resolver.declare_all.Goals as goal

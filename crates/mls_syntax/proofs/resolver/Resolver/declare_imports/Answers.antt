@@ -1,4 +1,4 @@
-use Rattle.std.proofs.Common.{◌≡◌, ◌+◌, [], ◌∷◌, ◌++◌, take, get_or, length, sym, ap, subst, arith, ◌∙◌}
+use Rattle.std.proofs.Common.{◌≡◌, ◌+◌, [], ◌∷◌, ◌++◌, take, get_or, sym, ap, subst, arith, ◌∙◌}
 use Rattle.std.proofs.lemmas.List.{take_more}
 use Rattle.mls_syntax.specs.Resolution.{schemes_from, declared_from, declared_count}
 use Rattle.mls_syntax.specs.Reading.{IsReady}

@@ -1,4 +1,4 @@
-use Rattle.mls_syntax.specs.Reading.{Pushes, EntersBinder}
+use Rattle.mls_syntax.specs.Reading.{EntersBinder}
 use Rattle.mls_syntax.proofs.Tasks.{on_ok, enters_binder}
 use Rattle.mls_syntax.proofs.resolver.Resolver.enter_binder.Goals as goal
 

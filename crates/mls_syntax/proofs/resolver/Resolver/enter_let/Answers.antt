@@ -1,5 +1,5 @@
-use Rattle.std.proofs.Common.{◌+◌, subst}
-use Rattle.mls_syntax.specs.Reading.{Pushes, EntersLet, after}
+use Rattle.std.proofs.Common.{subst}
+use Rattle.mls_syntax.specs.Reading.{Pushes, EntersLet}
 use Rattle.mls_syntax.proofs.Tasks.{on_ok, enters_let}
 use Rattle.mls_syntax.proofs.resolver.Resolver.enter_let.Goals as goal
 
