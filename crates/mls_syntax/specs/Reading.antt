@@ -170,13 +170,15 @@ Knows r scope = Agrees (meant_now r.meanings) scope
 abbrev pub IsReady : Resolver → Scope → Type 0
 IsReady r scope = (r.tasks.items ≡ []) × Knows r scope
 
--- the scope of the next part, and the parts that wait below it
+-- a part is left to be read in the present scope
 abbrev pub Pushes : (old new : Resolver) → Stretch → Type 0
 Pushes old new s = (outside scope : Scope) (ws : List Waiting) → HasWaiting outside old ws → Knows old scope → HasWaiting outside new (record { scope = scope; stretch = s } ∷ ws) × Knows new scope
 
+-- a name has this meaning from now on, until what is left to do above it is done
 abbrev pub Binds : (old new : Resolver) → List ℕ → Meaning → Type 0
 Binds old new x m = (outside scope : Scope) (ws : List Waiting) → HasWaiting outside old ws → Knows old scope → HasWaiting outside new ws × Knows new ((x, meant_of m) ∷ scope)
 
+-- the parts of a node are left to be read: of any node, of a function or a recursion, of a let, and of a record
 abbrev pub Enters : (old new : Resolver) → Stretch → Count → Form → Type 0
 Enters old new s next f = (outside scope : Scope) (ws : List Waiting) → HasWaiting outside old ws → Knows old scope → HasWaiting outside new (parts_waiting scope s next f ws)
 
