@@ -1,6 +1,5 @@
 -- A module as the list of its pieces, each told once the parts that it is made of are told, and the names and labels that it gives.
-use Rattle.std.specs.Prelude.{ℕ, ◌+◌, Bool, List, [], ◌∷◌, ◌++◌}
-use Rattle.mls_syntax.specs.declared.module.Op.{Op}
+use Rattle.std.specs.Prelude.{ℕ, ◌+◌, List, [], ◌∷◌, ◌++◌}
 use Rattle.mls_syntax.specs.declared.module.Op.TheVariants as op
 use Rattle.mls_syntax.specs.declared.piece.Piece.{Piece}
 use Rattle.mls_syntax.specs.declared.piece.Piece.TheVariants as piece

@@ -1,7 +1,7 @@
 -- Which lists of pieces tell a tree: each piece stands behind those that tell its parts, and an operator behind its operands.
 use Rattle.std.specs.Prelude.{◌≡◌, ℕ, Bool, List, [], ◌∷◌, ◌++◌, map}
 use Rattle.mls_syntax.specs.declared.module.Op.{Op}
-use Rattle.mls_syntax.specs.Trees.{Tree, a_name, an_operator, a_number, a_truth, a_fun, a_fix, a_let, an_if, an_apply, a_make, a_project, Fields, no_field, a_field, ImportTree, BindingTree, SourceTree, binary}
+use Rattle.mls_syntax.specs.Trees.{Tree, a_name, an_operator, a_number, a_truth, a_fun, a_fix, a_let, an_if, an_apply, a_make, a_project, Fields, no_field, a_field, BindingTree, SourceTree, binary}
 use Rattle.mls_syntax.specs.declared.piece.Piece.{Piece}
 use Rattle.mls_syntax.specs.declared.piece.Piece.TheVariants as piece
 
