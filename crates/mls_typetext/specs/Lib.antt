@@ -4,6 +4,8 @@ pub mod Pieces
 pub mod Building
 pub mod Items
 pub mod Members
+pub mod Measuring
+pub mod Laying
 pub mod Faults
 pub mod Books
 pub mod Schemes

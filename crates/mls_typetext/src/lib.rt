@@ -5,8 +5,11 @@
 #![tactic(auto)]
 
 mod bind;
+mod count;
 pub mod end;
+mod lay_out;
 pub mod laws;
+mod measure;
 mod piece;
 pub mod scheme;
 
