@@ -18,3 +18,5 @@ pub mod WholeTexts
 pub mod Builds
 pub mod Placed
 pub mod Pushed
+pub mod Laid
+pub mod SortedFields

@@ -7,8 +7,8 @@
 mod bind;
 mod count;
 pub mod end;
-mod lay_out;
 pub mod laws;
+mod lay_out;
 mod measure;
 mod piece;
 pub mod scheme;
