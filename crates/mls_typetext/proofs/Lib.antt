@@ -20,3 +20,5 @@ pub mod Placed
 pub mod Pushed
 pub mod Laid
 pub mod SortedFields
+pub mod NumberedNames
+pub mod MeasuredItems

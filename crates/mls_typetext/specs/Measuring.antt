@@ -36,11 +36,11 @@ size here under = record { here = here; under = under; again = None }
 abbrev pub again_size : ℕ → Size
 again_size k = record { here = 0; under = 0; again = Some k }
 
-abbrev pub all : Size → ℕ
-all a = a.here + a.under
+abbrev pub nodes_in : Size → ℕ
+nodes_in a = a.here + a.under
 
 abbrev pub arrow_size : Size → Size → Size
-arrow_size a b = size 1 (all a + all b)
+arrow_size a b = size 1 (nodes_in a + nodes_in b)
 
 abbrev pub join_size : Size → Size → Size
 join_size a b = size (suc (a.here + b.here)) (a.under + b.under)
@@ -105,7 +105,7 @@ measured item.Record s = add member.Record (size 1 (first_total s.totals)) (with
 measured item.Last s = add_total member.Last 0 s
 measured (item.Field label) s =
     let a = first_size s.sizes in
-    add_total (member.Field label a) (all a + first_total s.totals) (without_total (without_size s))
+    add_total (member.Field label a) (nodes_in a + first_total s.totals) (without_total (without_size s))
 
 unfoldable pub measure_all : State → List Item → State
 measure_all s [] = s
