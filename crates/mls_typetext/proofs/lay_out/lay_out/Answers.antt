@@ -1,8 +1,7 @@
-use Rattle.std.proofs.Common.{◌≡◌, arith, [], ◌∷◌, reverse, ap, sym, ◌∙◌}
+use Rattle.std.proofs.Common.{◌≡◌, arith, [], ◌∷◌, reverse, ◌∙◌}
 use Rattle.mls_typetext.specs.declared.lay_out.Place.TheVariants.{Block}
 use Rattle.mls_typetext.specs.declared.lay_out.Task.TheVariants.{At}
 use Rattle.mls_typetext.specs.Laying.{state_of, closed_by, lay_all}
-use Rattle.mls_typetext.specs.Members.{members, size_of}
 use Rattle.std.proofs.lemmas.Grind.{common_steps}
 use Rattle.mls_typetext.proofs.Laid.{lays-book, lay-step, lay-end}
 use Rattle.mls_typetext.proofs.lay_out.lay_out.Goals as goal

@@ -1,5 +1,4 @@
-use Rattle.std.proofs.Common.{◌≡◌, ◌++◌, [], List, rules, ap, sym, ◌∙◌}
-use Rattle.mls_book.specs.declared.book.Field.{Field}
+use Rattle.std.proofs.Common.{◌≡◌, ◌++◌, rules, ◌∙◌}
 use Rattle.mls_typetext.specs.Laying.{in_order}
 use Rattle.mls_typetext.proofs.SortedFields.{sort-by-labels}
 use Rattle.mls_typetext.proofs.lay_out.record_of.Goals as goal

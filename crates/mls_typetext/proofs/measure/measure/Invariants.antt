@@ -1,4 +1,4 @@
-use Rattle.std.proofs.Common.{◌≡◌, length, reverse, [], ◌∷◌}
+use Rattle.std.proofs.Common.{◌≡◌, length, reverse, []}
 use Rattle.mls_typetext.specs.Measuring.{measure_all, state_of}
 use Rattle.mls_typetext.proofs.measure.measure.Given as goal
 
