@@ -54,13 +54,13 @@ impl Layout {
         ensures { OnOk result (state_of self.new ≡ lay_next member (closed (state_of self.old))) }
     {
         match self.next()? {
-            Some(Place::Part(p, q, size)) => self.lay_part(member, p, q, size),
-            Some(Place::Block(p, size)) => {
-                let q = sum(p, size.here)?;
+            Some(Place::Part(layer, below, size)) => self.lay_part(member, layer, below, size),
+            Some(Place::Block(layer, size)) => {
+                let below = sum(layer, size.here)?;
                 self.tasks.push(Task::End(self.held.len()))?;
-                self.lay_part(member, p, q, size)
+                self.lay_part(member, layer, below, size)
             }
-            Some(Place::Fields(q)) => self.lay_field(alloc, member, q),
+            Some(Place::Fields(below)) => self.lay_field(alloc, member, below),
             None => Ok(()),
         }
     }
@@ -93,9 +93,15 @@ impl Layout {
         Ok(())
     }
 
-    // Takes a piece of the layer that is open, whose nodes begin at p and those below it at q.
-    fn lay_part(&mut self, member: Member, p: usize, q: usize, size: Size) -> Result<(), Memory>
-        ensures { OnOk result (state_of self.new ≡ lay_part member p q size (state_of self.old)) }
+    // Takes a piece of the layer that is open: the nodes of its part begin at `layer`, and those below it at `below`.
+    fn lay_part(
+        &mut self,
+        member: Member,
+        layer: usize,
+        below: usize,
+        size: Size,
+    ) -> Result<(), Memory>
+        ensures { OnOk result (state_of self.new ≡ lay_part member layer below size (state_of self.old)) }
     {
         match member {
             Member::Var(x) => self.hold(Node::Var(x)),
@@ -104,27 +110,33 @@ impl Layout {
             Member::Int => self.hold(Node::Int),
             Member::Top => self.hold(Node::Top),
             Member::Bot => self.hold(Node::Bot),
-            Member::Arrow(a, b) => {
-                let r = sum(q, sum(a.here, a.under)?)?;
-                let node = Node::Arrow(self.node_of(q, a)?, self.node_of(r, b)?);
-                self.todo(Place::Block(q, a), Place::Block(r, b))?;
+            Member::Arrow(domain, codomain) => {
+                let next = sum(below, sum(domain.here, domain.under)?)?;
+                let node = Node::Arrow(self.node_of(below, domain)?, self.node_of(next, codomain)?);
+                self.todo(Place::Block(below, domain), Place::Block(next, codomain))?;
                 self.hold(node)
             }
-            Member::Join(a, b) => {
-                let r = sum(p, a.here)?;
-                let node = Node::Join(self.node_of(p, a)?, self.node_of(r, b)?);
-                self.todo(Place::Part(p, q, a), Place::Part(r, sum(q, a.under)?, b))?;
+            Member::Join(left, right) => {
+                let (next, under) = (sum(layer, left.here)?, sum(below, left.under)?);
+                let node = Node::Join(self.node_of(layer, left)?, self.node_of(next, right)?);
+                self.todo(
+                    Place::Part(layer, below, left),
+                    Place::Part(next, under, right),
+                )?;
                 self.hold(node)
             }
-            Member::Meet(a, b) => {
-                let r = sum(p, a.here)?;
-                let node = Node::Meet(self.node_of(p, a)?, self.node_of(r, b)?);
-                self.todo(Place::Part(p, q, a), Place::Part(r, sum(q, a.under)?, b))?;
+            Member::Meet(left, right) => {
+                let (next, under) = (sum(layer, left.here)?, sum(below, left.under)?);
+                let node = Node::Meet(self.node_of(layer, left)?, self.node_of(next, right)?);
+                self.todo(
+                    Place::Part(layer, below, left),
+                    Place::Part(next, under, right),
+                )?;
                 self.hold(node)
             }
-            Member::Rec(a) => self.enter(p, q, size, a),
+            Member::Rec(body) => self.enter(layer, below, size, body),
             Member::Record => {
-                self.tasks.push(Task::At(Place::Fields(q)))?;
+                self.tasks.push(Task::At(Place::Fields(below)))?;
                 Ok(())
             }
             // These stand among the fields of a record.
@@ -132,16 +144,16 @@ impl Layout {
         }
     }
 
-    // Takes a piece of the record that is open, whose fields have layers that begin at q.
-    fn lay_field(&mut self, alloc: Global, member: Member, q: usize) -> Result<(), Memory>
-        ensures { OnOk result (state_of self.new ≡ lay_field member q (state_of self.old)) }
+    // Takes a piece of the record that is open, where the layers of the fields to come begin at `below`.
+    fn lay_field(&mut self, alloc: Global, member: Member, below: usize) -> Result<(), Memory>
+        ensures { OnOk result (state_of self.new ≡ lay_field member below (state_of self.old)) }
     {
         match member {
-            Member::Field(label, a) => {
-                let node = self.node_of(q, a)?;
-                let next = sum(q, sum(a.here, a.under)?)?;
+            Member::Field(label, size) => {
+                let node = self.node_of(below, size)?;
+                let next = sum(below, sum(size.here, size.under)?)?;
                 self.fields.push(Field { label, node })?;
-                self.todo(Place::Block(q, a), Place::Fields(next))
+                self.todo(Place::Block(below, size), Place::Fields(next))
             }
             Member::Last => {
                 let fields = mem::replace(&mut self.fields, Vec::new(alloc));
@@ -153,12 +165,12 @@ impl Layout {
     }
 
     // Goes into the body of a `rec` of this size.
-    fn enter(&mut self, p: usize, q: usize, size: Size, body: Size) -> Result<(), Memory>
-        ensures { OnOk result (state_of self.new ≡ enter (stand p (state_of self.old).recs size) (todo (Task.At (Place.Part p q body) ∷ Task.Leave ∷ []) (state_of self.old))) }
+    fn enter(&mut self, layer: usize, below: usize, size: Size, body: Size) -> Result<(), Memory>
+        ensures { OnOk result (state_of self.new ≡ enter (stand layer (state_of self.old).recs size) (todo (Task.At (Place.Part layer below body) ∷ Task.Leave ∷ []) (state_of self.old))) }
     {
-        let node = self.node_of(p, size)?;
+        let node = self.node_of(layer, size)?;
         self.tasks.push(Task::Leave)?;
-        self.tasks.push(Task::At(Place::Part(p, q, body)))?;
+        self.tasks.push(Task::At(Place::Part(layer, below, body)))?;
         self.recs.push(node.0)?;
         Ok(())
     }
@@ -180,14 +192,15 @@ impl Layout {
         Ok(())
     }
 
-    // The node that a part of this size stands for, where its layer begins at p.
-    fn node_of(&self, p: usize, size: Size) -> Result<NodeId, Memory>
-        ensures { IfOk result (λ node. node ≡ id (stand p (state_of self.now).recs size)) }
+    // The node that a part of this size stands for, where its layer begins at this number.
+    fn node_of(&self, layer: usize, size: Size) -> Result<NodeId, Memory>
+        ensures { IfOk result (λ node. node ≡ id (stand layer (state_of self.now).recs size)) }
     {
         match size.again {
             Some(k) => Ok(NodeId(self.rec_node(k))),
+            // It is a `rec` that stands for itself alone.
             None if size.here == 0 => Ok(NodeId(0)),
-            None => Ok(NodeId(sum(p, size.here - 1)?)),
+            None => Ok(NodeId(sum(layer, size.here - 1)?)),
         }
     }
 

@@ -46,20 +46,23 @@ impl Measuring {
             Item::Top => self.add(Member::Top, LEAF),
             Item::Bot => self.add(Member::Bot, LEAF),
             Item::Arrow => {
-                let (a, b) = self.two_sizes();
-                self.add(Member::Arrow(a, b), arrow_size(a, b)?)
+                let (domain, codomain) = self.two_sizes();
+                self.add(
+                    Member::Arrow(domain, codomain),
+                    arrow_size(domain, codomain)?,
+                )
             }
             Item::Join => {
-                let (a, b) = self.two_sizes();
-                self.add(Member::Join(a, b), join_size(a, b)?)
+                let (left, right) = self.two_sizes();
+                self.add(Member::Join(left, right), join_size(left, right)?)
             }
             Item::Meet => {
-                let (a, b) = self.two_sizes();
-                self.add(Member::Meet(a, b), join_size(a, b)?)
+                let (left, right) = self.two_sizes();
+                self.add(Member::Meet(left, right), join_size(left, right)?)
             }
             Item::Rec => {
-                let a = self.last_size();
-                self.add(Member::Rec(a), rec_size(a))
+                let body = self.last_size();
+                self.add(Member::Rec(body), rec_size(body))
             }
             Item::Record => {
                 let total = self.last_total();
@@ -67,9 +70,9 @@ impl Measuring {
             }
             Item::Last => self.add_total(Member::Last, 0),
             Item::Field(label) => {
-                let a = self.last_size();
+                let size = self.last_size();
                 let total = self.last_total();
-                self.add_total(Member::Field(label, a), sum(nodes(a)?, total)?)
+                self.add_total(Member::Field(label, size), sum(nodes(size)?, total)?)
             }
         }
     }
@@ -150,10 +153,10 @@ const NOTHING: Size = Size {
 };
 
 // How many nodes a part of this size has in all.
-fn nodes(a: Size) -> Result<usize, Memory>
-    ensures { IfOk result (λ n. n ≡ nodes_in a) }
+fn nodes(part: Size) -> Result<usize, Memory>
+    ensures { IfOk result (λ count. count ≡ nodes_in part) }
 {
-    sum(a.here, a.under)
+    sum(part.here, part.under)
 }
 
 // The size of a name of a `rec` around it.
@@ -168,10 +171,10 @@ fn again_size(k: usize) -> Size
 }
 
 // The size of a function.
-fn arrow_size(a: Size, b: Size) -> Result<Size, Memory>
-    ensures { IfOk result (λ size. size ≡ arrow_size a b) }
+fn arrow_size(domain: Size, codomain: Size) -> Result<Size, Memory>
+    ensures { IfOk result (λ size. size ≡ arrow_size domain codomain) }
 {
-    let under = sum(nodes(a)?, nodes(b)?)?;
+    let under = sum(nodes(domain)?, nodes(codomain)?)?;
     Ok(Size {
         here: 1,
         under,
@@ -180,11 +183,11 @@ fn arrow_size(a: Size, b: Size) -> Result<Size, Memory>
 }
 
 // The size of a join or a meet.
-fn join_size(a: Size, b: Size) -> Result<Size, Memory>
-    ensures { IfOk result (λ size. size ≡ join_size a b) }
+fn join_size(left: Size, right: Size) -> Result<Size, Memory>
+    ensures { IfOk result (λ size. size ≡ join_size left right) }
 {
-    let here = sum(sum(a.here, b.here)?, 1)?;
-    let under = sum(a.under, b.under)?;
+    let here = sum(sum(left.here, right.here)?, 1)?;
+    let under = sum(left.under, right.under)?;
     Ok(Size {
         here,
         under,
@@ -193,16 +196,16 @@ fn join_size(a: Size, b: Size) -> Result<Size, Memory>
 }
 
 // The size of a `rec` with this body.
-fn rec_size(a: Size) -> Size
-    ensures { result ≡ rec_size a }
+fn rec_size(body: Size) -> Size
+    ensures { result ≡ rec_size body }
 {
-    let again = match a.again {
+    let again = match body.again {
         Some(k) if k > 0 => Some(k - 1),
         _ => None,
     };
     Size {
-        here: a.here,
-        under: a.under,
+        here: body.here,
+        under: body.under,
         again,
     }
 }
