@@ -22,3 +22,5 @@ pub mod Laid
 pub mod SortedFields
 pub mod NumberedNames
 pub mod MeasuredItems
+pub mod ReadTokens
+pub mod ReadPieces

@@ -15,3 +15,4 @@ pub mod Stops
 pub mod Parts
 pub mod Stacks
 pub mod Laws
+pub mod Readings

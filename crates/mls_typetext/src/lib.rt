@@ -11,6 +11,7 @@ pub mod laws;
 mod lay_out;
 mod measure;
 mod piece;
+mod read;
 pub mod scheme;
 
 pub use end::type_end;
