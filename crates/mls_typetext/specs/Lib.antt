@@ -12,4 +12,6 @@ pub mod Texts
 pub mod Stops
 pub mod Parts
 pub mod Stacks
+pub mod Resolving
+pub mod Readers
 pub mod Laws

@@ -8,6 +8,7 @@ mod bind;
 pub mod end;
 pub mod laws;
 mod piece;
+mod resolve;
 pub mod scheme;
 
 pub use end::type_end;
