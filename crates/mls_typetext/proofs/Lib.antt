@@ -18,3 +18,6 @@ pub mod WholeTexts
 pub mod Builds
 pub mod Placed
 pub mod Pushed
+pub mod Labels
+pub mod Resolves
+pub mod Resolved

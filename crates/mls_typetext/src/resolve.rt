@@ -1,8 +1,8 @@
 //! The recursive names and the faults of the tree of a type.
-ghost use Rattle.std.specs.Prelude.{◌≡◌, ◌≢◌, ◌^◌, ◌<◌, [], ◌∷◌, ◌++◌, IfOk, IfErr, OnOk};
+ghost use Rattle.std.specs.Prelude.{◌≡◌, ◌≢◌, ◌^◌, ◌<◌, [], ◌∷◌, ◌++◌, Some, IfOk, IfErr, OnOk};
 ghost use Rattle.mls_typetext.specs.declared.piece.Piece.TheVariants as piece;
 ghost use Rattle.mls_typetext.specs.declared.resolve.Task.TheVariants as task;
-ghost use Rattle.mls_typetext.specs.Resolving.{whole_place, inside, domain, body, nothing_known, told, noted, naming, fault_if, name_fault, name_item, notes, opened};
+ghost use Rattle.mls_typetext.specs.Resolving.{whole_place, inside, domain, body, nothing_known, told, noted, naming, without_labels, with_label, fault_if, name_fault, name_item, notes, opened};
 ghost use Rattle.mls_typetext.specs.Readers.{tasks_of, known_of, GivesItems, GivesFault};
 
 use crate::piece::{Item, Piece};
@@ -246,7 +246,7 @@ impl Reader {
         ensures known { OnOk result (known_of self.new ≡ (opened (piece.Rec name) place (tasks_of self.old) (known_of self.old)).known) }
     {
         let body = place.body();
-        let outer = self.recs.insert(name.clone()?, body)?;
+        let outer = self.bind(name.clone()?, body)?;
         self.plan(Task::Leave(name, outer))?;
         self.plan(Task::Part(body))?;
         self.tell(Item::Rec)
@@ -258,7 +258,7 @@ impl Reader {
         ensures tasks { OnOk result (tasks_of self.new ≡ task.Part (inside place) ∷ tasks_of self.old) }
         ensures known { OnOk result (known_of self.new ≡ (opened piece.Record place (tasks_of self.old) (known_of self.old)).known) }
     {
-        self.labels.clear();
+        self.forget_labels();
         self.plan(Task::Part(place.inside()))?;
         self.tell(Item::Record)
     }
@@ -268,8 +268,8 @@ impl Reader {
         ensures tasks { OnOk result (tasks_of self.new ≡ (opened (piece.Field at label) place (tasks_of self.old) (known_of self.old)).tasks) }
         ensures known { OnOk result (known_of self.new ≡ (opened (piece.Field at label) place (tasks_of self.old) (known_of self.old)).known) }
     {
-        let (_, is_new) = self.labels.insert_full(label.clone()?)?;
-        self.plan_note(fault_if(!is_new, TypeFault::DuplicateLabel(at)))?;
+        let is_double = self.add_label(label.clone()?)?;
+        self.plan_note(fault_if(is_double, TypeFault::DuplicateLabel(at)))?;
         self.plan(Task::Part(place))?;
         self.plan(Task::Part(place))?;
         self.tell(Item::Field(label))
@@ -282,13 +282,41 @@ impl Reader {
     {
         match outer {
             Some(body) => {
-                self.recs.insert(name, body)?;
+                self.bind(name, body)?;
             }
             None => {
                 self.recs.swap_remove(&name);
             }
         }
         Ok(())
+    }
+
+    // From here on the name means the `rec` whose body has this place; tells what it meant before.
+    fn bind(&mut self, name: Name, body: Place) -> Result<Option<Place>, Memory>
+        ensures outer { IfOk result (λ outer. outer ≡ (known_of self.old).recs name) }
+        ensures tasks { OnOk result (tasks_of self.new ≡ tasks_of self.old) }
+        ensures known { OnOk result (known_of self.new ≡ naming name (Some body) (known_of self.old)) }
+    {
+        let outer = self.recs.insert(name, body)?;
+        Ok(outer)
+    }
+
+    // From here on the record has no label.
+    fn forget_labels(&mut self)
+        ensures tasks { tasks_of self.new ≡ tasks_of self.old }
+        ensures known { known_of self.new ≡ without_labels (known_of self.old) }
+    {
+        self.labels.clear();
+    }
+
+    // Adds a label to those of the record, and says whether it was there.
+    fn add_label(&mut self, label: Name) -> Result<bool, Memory>
+        ensures double { IfOk result (λ double. double ≡ (known_of self.old).labels label) }
+        ensures tasks { OnOk result (tasks_of self.new ≡ tasks_of self.old) }
+        ensures known { OnOk result (known_of self.new ≡ with_label label (known_of self.old)) }
+    {
+        let (_, is_new) = self.labels.insert_full(label)?;
+        Ok(!is_new)
     }
 
     // Adds an item.
