@@ -122,8 +122,8 @@ module _ (pieces : List Piece) where
             omega (arith, few, more, many)
 
       -- or without one,
-      pub skips : left ≡ [] → IsGoing pieces left st known
-      skips none = record {
+      pub skips : (rest : List Piece) → left ≡ [] → rest ≡ [] → IsGoing pieces rest st known
+      skips rest none none' = subst (λ l. IsGoing pieces l st known) (none ∙ sym none') record {
         same =
             ap (λ l. known_after st known (reverse l)) none
             ∙ (sym (after_all p st known)

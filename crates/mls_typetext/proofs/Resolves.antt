@@ -237,7 +237,7 @@ module _ (left right : TypeTree) (h : Reads left) (h' : Reads right) (it : Item)
   reads-pair : (st : List Task) (labels : List ℕ → Bool) (fault : Option TypeFault) (out : List Item) (rest : List Piece)
       → known_after (Part (at_place p guards around) ∷ notes own ++ Part (at_place p guards around) ∷ st) (told it (under around labels fault out)) (reverse (postorder right) ++ (reverse (postorder left) ++ rest))
       ≡ known_after st (under around (labels_after (labels_after labels right) left)
-          (first_or (faults p around guards left ++ (own_faults ++ faults p around guards right)) fault)
+          (first_or ((faults p around guards left ++ own_faults) ++ faults p around guards right) fault)
           (out ++ reverse (items (names around) left ++ (items (names around) right ++ it ∷ [])))) rest
   reads-pair st labels fault out rest =
       let here = at_place p guards around in
@@ -249,8 +249,8 @@ module _ (left right : TypeTree) (h : Reads left) (h' : Reads right) (it : Item)
       ∙ (h p around guards st _ _ _ rest
       ∙ (λ i. known_after st (under around (labels_after (labels_after labels right) left)
           ((ap (λ fs. first_or left_faults (first_or fs (first_or right_faults fault))) e
-            ∙ (ap (first_or left_faults) (first_or-append own_faults right_faults fault)
-            ∙ first_or-append left_faults (own_faults ++ right_faults) fault)) i)
+            ∙ (first_or-append left_faults own_faults (first_or right_faults fault)
+            ∙ first_or-append (left_faults ++ own_faults) right_faults fault)) i)
           (tells_two out (items (names around) left) (items (names around) right) it i)) rest))))
 
 reads-join : (left right : TypeTree) (at : ℕ) → Reads left → Reads right → Reads (a_join left at right)
@@ -316,8 +316,8 @@ reads-field at label t more h h' p around guards st labels fault out rest =
     ∙ (ap (λ k. known_after st k rest) (noted-under own around _ _ _)
     ∙ (λ i. known_after st (under around (labels_after (field_labels_after (in_list (label ∷ labels)) more) t)
         ((ap (λ fs. first_or fs (first_or first_faults (first_or more_faults fault))) (one_if (in_list labels label) (DuplicateLabel at))
-          ∙ (ap (first_or own_faults) (first_or-append first_faults more_faults fault)
-          ∙ first_or-append own_faults (first_faults ++ more_faults) fault)) i)
+          ∙ (first_or-append own_faults first_faults (first_or more_faults fault)
+          ∙ first_or-append (own_faults ++ first_faults) more_faults fault)) i)
         (tells_two out (items (names around) t) (field_items (names around) more) (item.Field label) i)) rest))))))
 
 mutual

@@ -1,4 +1,5 @@
-use Rattle.std.proofs.Common.{[], ◌∷◌, refl, sym, ap, ◌∙◌, reverse, Some}
+use Rattle.std.proofs.Common.{[], ◌∷◌, refl, sym, ap, ◌∙◌, reverse, rules}
+use Rattle.std.proofs.lemmas.List.{nil_from_length}
 use Rattle.mls_typetext.specs.declared.resolve.Task.TheVariants.{Part, Leave, Note}
 use Rattle.mls_typetext.specs.Readers.{tasks_of, known_of}
 use Rattle.mls_typetext.proofs.Resolved.{last-first, reads, skips, leaves, marks, gives-fault, gives-items}
@@ -14,7 +15,12 @@ loop-task-preserved-in-Continue-branch-2 c =
     c.in_ok-read-in-Part.ensures.tasks c.in_ok-read-in-Part.ensures.known
 
 pub loop-task-preserved-in_default-pop : goal.loop-task-preserved-in_default-pop
-loop-task-preserved-in_default-pop c = ?
+loop-task-preserved-in_default-pop c =
+    skips c.args.pieces.items c.loop-task.left.items (tasks_of c.loop-task.reader) (reverse c.pop.new.self.items) (known_of c.loop-task.reader) c.loop-task.invariant
+    c.in-Part.place
+    (last-first c.loop-task.reader.tasks.items c.pop.new.self.items c.in-Some.task c.in-Some.ensures.items ∙ ap (λ t. t ∷ reverse c.pop.new.self.items) c.in-Part.is)
+    c.pop-in-Part.new.self.items
+    (nil_from_length c.loop-task.left.items (search rules)) (nil_from_length c.pop-in-Part.new.self.items (search rules))
 
 pub loop-task-preserved-in-Continue-branch-3 : goal.loop-task-preserved-in-Continue-branch-3
 loop-task-preserved-in-Continue-branch-3 c =
@@ -30,7 +36,13 @@ loop-task-preserved c =
     (last-first c.loop-task.reader.tasks.items c.pop.new.self.items c.in-Some.task c.in-Some.ensures.items ∙ ap (λ t. t ∷ reverse c.pop.new.self.items) c.in-Note.is)
 
 pub returns-in-Some-fault-clause-fault : goal.returns-in-Some-fault-clause-fault
-returns-in-Some-fault-clause-fault c = λ other. ?
+returns-in-Some-fault-clause-fault c = λ other.
+    gives-fault c.args.pieces.items c.loop-task.left.items (tasks_of c.loop-task.reader) (known_of c.loop-task.reader) c.loop-task.invariant
+    (ap reverse (nil_from_length c.loop-task.reader.tasks.items (search rules)))
+    c.in-Some-fault.fault c.in-Some-fault.is
 
 pub returns-clause-items : goal.returns-clause-items
-returns-clause-items c = ?
+returns-clause-items c =
+    gives-items c.args.pieces.items c.loop-task.left.items (tasks_of c.loop-task.reader) (known_of c.loop-task.reader) c.loop-task.invariant
+    (ap reverse (nil_from_length c.loop-task.reader.tasks.items (search rules)))
+    c.in-None.is
