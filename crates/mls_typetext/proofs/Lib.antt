@@ -18,6 +18,5 @@ pub mod WholeTexts
 pub mod Builds
 pub mod Placed
 pub mod Pushed
-pub mod Labels
 pub mod Resolves
 pub mod Resolved

@@ -56,25 +56,6 @@ below-opened limit left (piece.Field at label) p st k h =
     let rest : IsBelow limit left (Part p ∷ st) = below-fewer limit left (Part p ∷ st) h in
     (rest.0, rest.1, (rest.0, rest.1, below-notes limit left (fault_if (k.labels label) (DuplicateLabel at)) st rest.2))
 
--- a piece makes at most three tasks more of one
-few-notes : (fault : Option TypeFault) (st : List Task) → length (notes fault ++ st) ≤ suc (length st)
-few-notes None st = omega arith
-few-notes (Some fault) st = omega arith
-
-pub few-opened : (piece : Piece) (p : Place) (st : List Task) (k : Known) → length (opened piece p st k).tasks ≤ 3 + length st
-few-opened (piece.Name at x) p st k = omega arith
-few-opened piece.Bool p st k = omega arith
-few-opened piece.Int p st k = omega arith
-few-opened (piece.Top at) p st k = omega arith
-few-opened (piece.Bot at) p st k = omega arith
-few-opened piece.Arrow p st k = omega arith
-few-opened (piece.Join at) p st k = let few = few-notes (fault_if (not p.is_positive) (NotPolar at)) (Part p ∷ st) in omega (arith, few)
-few-opened (piece.Meet at) p st k = let few = few-notes (fault_if p.is_positive (NotPolar at)) (Part p ∷ st) in omega (arith, few)
-few-opened (piece.Rec x) p st k = omega arith
-few-opened piece.Record p st k = omega arith
-few-opened piece.Last p st k = omega arith
-few-opened (piece.Field at label) p st k = let few = few-notes (fault_if (k.labels label) (DuplicateLabel at)) st in omega (arith, few)
-
 -- the end of a list is what is read first
 pub last-first : {A : Type 0} (xs ys : List A) (z : A) → xs ≡ ys ++ z ∷ [] → reverse xs ≡ z ∷ reverse ys
 last-first xs ys z e = ap reverse e ∙ reverse-append ys (z ∷ [])
@@ -88,21 +69,12 @@ pub record IsGoing (pieces left : List Piece) (tasks : List Task) (known : Known
   pub below : IsBelow (length pieces) (length left) tasks
 
 module _ (pieces : List Piece) where
-  pub begins : (tasks : List Task) (known : Known) → tasks ≡ Part whole_place ∷ [] → known ≡ nothing_known → IsGoing pieces pieces tasks known
-  begins tasks known e e' = record {
-    same = λ i. known_after (e i) (e' i) (reverse pieces);
-    below = subst (IsBelow (length pieces) (length pieces)) (sym e) (omega arith, omega arith, tt);
-  }
-
   module _ (left : List Piece) (tasks st : List Task) (known : Known) (going : IsGoing pieces left tasks known) where
     module _ (p : Place) (is : tasks ≡ Part p ∷ st) where
       -- a part with a piece,
       module _ (rest : List Piece) (piece : Piece) (last : left ≡ rest ++ piece ∷ []) where
         here : IsBelow (length pieces) (suc (length rest)) (Part p ∷ st)
         here = subst (λ n. IsBelow (length pieces) n (Part p ∷ st)) (one-less left rest piece last) (subst (IsBelow (length pieces) (length left)) is going.below)
-
-        pub room : (p.guards < length pieces) × (p.depth < length pieces)
-        room = (omega (arith, here.0), omega (arith, here.1))
 
         pub reads : (next : List Task) (known' : Known) → next ≡ (opened piece p st known).tasks → known' ≡ (opened piece p st known).known → IsGoing pieces rest next known'
         reads next known' e e' = record {
@@ -113,13 +85,6 @@ module _ (pieces : List Piece) where
               ∙ going.same));
           below = subst (IsBelow (length pieces) (length rest)) (sym e) (below-opened (length pieces) (length rest) piece p st known here);
         }
-
-        pub shrinks : (next : List Task) → next ≡ (opened piece p st known).tasks → 4 * length rest + length next < 4 * length left + length tasks
-        shrinks next e =
-            let few : length next ≤ 3 + length st = subst (λ l. length l ≤ 3 + length st) (sym e) (few-opened piece p st known) in
-            let more : length left ≡ suc (length rest) = one-less left rest piece last in
-            let many : length tasks ≡ suc (length st) = ap length is in
-            omega (arith, few, more, many)
 
       -- or without one,
       pub skips : (rest : List Piece) → left ≡ [] → rest ≡ [] → IsGoing pieces rest st known
@@ -153,11 +118,6 @@ module _ (pieces : List Piece) where
       below = subst (IsBelow (length pieces) (length left)) is going.below;
     }
 
-    pub fewer : (task : Task) (next : List Task) → tasks ≡ task ∷ st → next ≡ st → 4 * length left + length next < 4 * length left + length tasks
-    fewer task next is e =
-        let many : length tasks ≡ suc (length st) = ap length is in
-        let same : length next ≡ length st = ap length e in
-        omega (arith, many, same)
 
 -- what the reader gives in the end
 module _ (pieces : List Piece) (left : List Piece) (tasks : List Task) (known : Known) (going : IsGoing pieces left tasks known) (none : tasks ≡ []) where
