@@ -118,7 +118,6 @@ module _ (pieces : List Piece) where
       below = subst (IsBelow (length pieces) (length left)) is going.below;
     }
 
-
 -- what the reader gives in the end
 module _ (pieces : List Piece) (left : List Piece) (tasks : List Task) (known : Known) (going : IsGoing pieces left tasks known) (none : tasks ≡ []) where
   known-last : (t : TypeTree) → pieces ≡ postorder t → known ≡ known_after (Part whole_place ∷ []) nothing_known (reverse (postorder t))

@@ -229,16 +229,16 @@ reads-arrow from to h h' p around guards st labels fault out rest =
     ∙ (h' p around (suc guards) (Part (domain here) ∷ st) labels fault (out ++ item.Arrow ∷ []) (reverse (postorder from) ++ rest)
     ∙ (h (not p) around (suc guards) st _ _ _ rest
     ∙ (λ i. known_after st (under around (labels_after (labels_after labels to) from)
-        (first_or-append (faults (not p) around (suc guards) from) (faults p around (suc guards) to) fault i)
-        (tells_two out (items (names around) from) (items (names around) to) item.Arrow i)) rest))))
+    (first_or-append (faults (not p) around (suc guards) from) (faults p around (suc guards) to) fault i)
+    (tells_two out (items (names around) from) (items (names around) to) item.Arrow i)) rest))))
 
 -- a join or a meet, whose own fault stands between its parts
 module _ (left right : TypeTree) (h : Reads left) (h' : Reads right) (it : Item) (p : Bool) (around : List Around) (guards : ℕ) (own : Option TypeFault) (own_faults : List TypeFault) (e : one_of own ≡ own_faults) where
   reads-pair : (st : List Task) (labels : List ℕ → Bool) (fault : Option TypeFault) (out : List Item) (rest : List Piece)
       → known_after (Part (at_place p guards around) ∷ notes own ++ Part (at_place p guards around) ∷ st) (told it (under around labels fault out)) (reverse (postorder right) ++ (reverse (postorder left) ++ rest))
       ≡ known_after st (under around (labels_after (labels_after labels right) left)
-          (first_or ((faults p around guards left ++ own_faults) ++ faults p around guards right) fault)
-          (out ++ reverse (items (names around) left ++ (items (names around) right ++ it ∷ [])))) rest
+      (first_or ((faults p around guards left ++ own_faults) ++ faults p around guards right) fault)
+      (out ++ reverse (items (names around) left ++ (items (names around) right ++ it ∷ [])))) rest
   reads-pair st labels fault out rest =
       let here = at_place p guards around in
       let left_faults = faults p around guards left in
@@ -248,10 +248,10 @@ module _ (left right : TypeTree) (h : Reads left) (h' : Reads right) (it : Item)
       ∙ (ap (λ k. known_after (Part here ∷ st) k (reverse (postorder left) ++ rest)) (noted-under own around (labels_after labels right) (first_or right_faults fault) ((out ++ it ∷ []) ++ reverse (items (names around) right)))
       ∙ (h p around guards st _ _ _ rest
       ∙ (λ i. known_after st (under around (labels_after (labels_after labels right) left)
-          ((ap (λ fs. first_or left_faults (first_or fs (first_or right_faults fault))) e
-            ∙ (first_or-append left_faults own_faults (first_or right_faults fault)
-            ∙ first_or-append (left_faults ++ own_faults) right_faults fault)) i)
-          (tells_two out (items (names around) left) (items (names around) right) it i)) rest))))
+      ((ap (λ fs. first_or left_faults (first_or fs (first_or right_faults fault))) e
+      ∙ (first_or-append left_faults own_faults (first_or right_faults fault)
+      ∙ first_or-append (left_faults ++ own_faults) right_faults fault)) i)
+      (tells_two out (items (names around) left) (items (names around) right) it i)) rest))))
 
 reads-join : (left right : TypeTree) (at : ℕ) → Reads left → Reads right → Reads (a_join left at right)
 reads-join left right at h h' p around guards st labels fault out rest =
@@ -286,11 +286,11 @@ reads-rec x t h p around guards st labels fault out rest =
     ∙ (h p (r ∷ around) guards (Leave x (found around x) ∷ st) labels fault (out ++ item.Rec ∷ []) rest
     ∙ (after_leave x (found around x) st _ rest
     ∙ (λ i. known_after st (record {
-        recs = λ y. put_back-at x r around y refl i;
-        labels = labels_after labels t;
-        fault = first_or (faults p (r ∷ around) guards t) fault;
-        items = tells_one out (items (x ∷ names around) t) item.Rec i;
-      }) rest))))
+      recs = λ y. put_back-at x r around y refl i;
+      labels = labels_after labels t;
+      fault = first_or (faults p (r ∷ around) guards t) fault;
+      items = tells_one out (items (x ∷ names around) t) item.Rec i;
+    }) rest))))
 
 reads-record : (all : TypeFields) → ReadsFields all → Reads (a_record all)
 reads-record all h p around guards st labels fault out rest =
@@ -299,7 +299,7 @@ reads-record all h p around guards st labels fault out rest =
     ∙ (after_piece piece.Record here st (under around labels fault out) (reverse (field_postorder all) ++ rest)
     ∙ (h p around (suc guards) st [] fault (out ++ item.Record ∷ []) rest
     ∙ (λ i. known_after st (under around (field_labels_after (λ x. false) all) (first_or (field_faults p around (suc guards) [] all) fault)
-        (tells_one out (field_items (names around) all) item.Record i)) rest)))
+    (tells_one out (field_items (names around) all) item.Record i)) rest)))
 
 reads-field : (at : ℕ) (label : List ℕ) (t : TypeTree) (more : TypeFields) → Reads t → ReadsFields more → ReadsFields (a_field at label t more)
 reads-field at label t more h h' p around guards st labels fault out rest =
@@ -315,10 +315,10 @@ reads-field at label t more h h' p around guards st labels fault out rest =
     ∙ (after_notes own st _ rest
     ∙ (ap (λ k. known_after st k rest) (noted-under own around _ _ _)
     ∙ (λ i. known_after st (under around (labels_after (field_labels_after (in_list (label ∷ labels)) more) t)
-        ((ap (λ fs. first_or fs (first_or first_faults (first_or more_faults fault))) (one_if (in_list labels label) (DuplicateLabel at))
-          ∙ (first_or-append own_faults first_faults (first_or more_faults fault)
-          ∙ first_or-append (own_faults ++ first_faults) more_faults fault)) i)
-        (tells_two out (items (names around) t) (field_items (names around) more) (item.Field label) i)) rest))))))
+    ((ap (λ fs. first_or fs (first_or first_faults (first_or more_faults fault))) (one_if (in_list labels label) (DuplicateLabel at))
+    ∙ (first_or-append own_faults first_faults (first_or more_faults fault)
+    ∙ first_or-append (own_faults ++ first_faults) more_faults fault)) i)
+    (tells_two out (items (names around) t) (field_items (names around) more) (item.Field label) i)) rest))))))
 
 mutual
   pub reads : (t : TypeTree) → Reads t

@@ -358,3 +358,180 @@ impl Reader {
         }
     }
 }
+
+#[cfg(test)]
+mod tests {
+    use super::*;
+    use mls_base::spelling::is_name;
+    use std::test::Fail;
+
+    // A name of these letters.
+    fn named(alloc: Global, letters: &str) -> Result<Name, Memory> {
+        if is_name(letters.as_bytes()) {
+            Name::new(alloc, letters.as_bytes())
+        } else {
+            Err(Memory)
+        }
+    }
+
+    // The piece that a word stands for, at a place.
+    fn piece_of(alloc: Global, at: usize, word: &str) -> Result<Piece, Memory> {
+        if let Some(name) = word.strip_prefix("rec.") {
+            return Ok(Piece::Rec(named(alloc, name)?));
+        }
+        if let Some(label) = word.strip_suffix(":") {
+            return Ok(Piece::Field(at, named(alloc, label)?));
+        }
+        match word {
+            "bool" => Ok(Piece::Bool),
+            "int" => Ok(Piece::Int),
+            "top" => Ok(Piece::Top(at)),
+            "bot" => Ok(Piece::Bot(at)),
+            "->" => Ok(Piece::Arrow),
+            "|" => Ok(Piece::Join(at)),
+            "&" => Ok(Piece::Meet(at)),
+            "{}" => Ok(Piece::Record),
+            "." => Ok(Piece::Last),
+            _ => Ok(Piece::Name(at, named(alloc, word)?)),
+        }
+    }
+
+    // Writes the word for an item.
+    fn write_item(line: &mut String, item: &Item) -> Result<(), Memory> {
+        match item {
+            Item::Variable(name) => write!(line, " {}", name.as_str())?,
+            Item::Again(k) => write!(line, " #{k}")?,
+            Item::Bool => line.push_str(" bool")?,
+            Item::Int => line.push_str(" int")?,
+            Item::Top => line.push_str(" top")?,
+            Item::Bot => line.push_str(" bot")?,
+            Item::Arrow => line.push_str(" ->")?,
+            Item::Join => line.push_str(" |")?,
+            Item::Meet => line.push_str(" &")?,
+            Item::Rec => line.push_str(" rec")?,
+            Item::Record => line.push_str(" {}")?,
+            Item::Last => line.push_str(" .")?,
+            Item::Field(label) => write!(line, " {}:", label.as_str())?,
+        }
+        Ok(())
+    }
+
+    // The items of the pieces that the words stand for, or their fault. The place of a piece is the number of its word.
+    fn shown(alloc: Global, words: &str) -> Result<String, Memory> {
+        let mut pieces = Vec::new(alloc);
+        for (at, word) in words.split_whitespace().enumerate() {
+            pieces.push(piece_of(alloc, at, word)?)?;
+        }
+        let mut line = String::new(alloc);
+        match resolve(alloc, pieces) {
+            Ok(items) => {
+                for item in &items {
+                    write_item(&mut line, item)?;
+                }
+            }
+            Err(fault) => write!(line, "{fault:?}")?,
+        }
+        Ok(line)
+    }
+
+    #[test]
+    fn tells_what_names_mean(rt: HostRuntime) -> Result<(), Fail> {
+        let cases = [
+            ("a", " a"),
+            ("top bot ->", " -> bot top"),
+            ("int a -> rec.a", " rec -> #0 int"),
+            // (rec a. (a -> int) -> int)
+            ("a int -> int -> rec.a", " rec -> int -> int #0"),
+            // a -> rec a. {l: a}
+            ("a a . l: {} rec.a ->", " -> rec {} l: . #0 a"),
+            // rec a. rec b. {l: a, m: b}
+            ("a b . m: l: {} rec.b rec.a", " rec rec {} l: m: . #0 #1"),
+            // rec a. {n: a, l: rec b. rec a. {m: a, k: b}}
+            (
+                "a a b . k: m: {} rec.a rec.b . l: n: {} rec.a",
+                " rec {} n: l: . rec rec {} m: k: . #1 #0 #0",
+            ),
+            // rec l. {l: l}
+            ("l . l: {} rec.l", " rec {} l: . #0"),
+            // rec a. (rec a. {l: a}) -> int
+            ("a . l: {} rec.a int -> rec.a", " rec -> int rec {} l: . #0"),
+            // {l: {l: int}, m: {l: bool}}
+            (
+                "int . l: {} bool . l: {} . m: l: {}",
+                " {} l: m: . {} l: . bool {} l: . int",
+            ),
+        ];
+        for (words, want) in cases {
+            let line = shown(rt.alloc(), words)?;
+            assert_eq!(rt; line.as_str(), want);
+        }
+        Ok(())
+    }
+
+    #[test]
+    fn tells_the_first_fault(rt: HostRuntime) -> Result<(), Fail> {
+        let cases = [
+            ("top", "NotPolar(0)"),
+            ("bot int ->", "NotPolar(0)"),
+            ("int bool &", "NotPolar(2)"),
+            // int | bool -> int
+            ("int bool | int ->", "NotPolar(2)"),
+            ("int bool & top ->", "NotPolar(3)"),
+            ("a rec.a", "Unguarded(0)"),
+            ("int a | rec.a", "Unguarded(1)"),
+            ("int a rec.a ->", "Unguarded(1)"),
+            // rec a. {l: rec b. b}
+            ("b rec.b . l: {} rec.a", "Unguarded(0)"),
+            ("a int -> rec.a", "Contravariant(0)"),
+            // {l: int, m: int, l: bool}
+            ("int int bool . l: m: l: {}", "DuplicateLabel(4)"),
+            ("int int int . l: l: l: {}", "DuplicateLabel(5)"),
+            // {l: top, l: top}, {l: int, l: top}
+            ("top top . l: l: {}", "NotPolar(0)"),
+            ("int top . l: l: {}", "DuplicateLabel(3)"),
+            // top & bot, int & top
+            ("top bot &", "NotPolar(0)"),
+            ("int top &", "NotPolar(2)"),
+            // rec a. a | (a -> int), rec a. (a -> int) | a
+            ("a a int -> | rec.a", "Unguarded(0)"),
+            ("a int -> a | rec.a", "Contravariant(0)"),
+        ];
+        for (words, want) in cases {
+            let line = shown(rt.alloc(), words)?;
+            assert_eq!(rt; line.as_str(), want);
+        }
+        Ok(())
+    }
+
+    #[test]
+    fn goes_as_deep_as_memory_allows(rt: HostRuntime) -> Result<(), Fail> {
+        let alloc = rt.alloc();
+        let mut pieces = Vec::new(alloc);
+        pieces.push(Piece::Name(0, named(alloc, "b")?))?;
+        for _ in 0..100_000 {
+            pieces.push(Piece::Last)?;
+            pieces.push(Piece::Field(0, named(alloc, "l")?))?;
+            pieces.push(Piece::Record)?;
+        }
+        for _ in 0..100_000 {
+            pieces.push(Piece::Rec(named(alloc, "a")?))?;
+        }
+        pieces.push(Piece::Rec(named(alloc, "b")?))?;
+        for _ in 0..100_000 {
+            pieces.push(Piece::Int)?;
+            pieces.push(Piece::Arrow)?;
+        }
+        let mut line = String::new(alloc);
+        match resolve(alloc, pieces) {
+            Ok(items) => {
+                write!(line, "{}", items.len())?;
+                if let Some(item) = items.last() {
+                    write_item(&mut line, item)?;
+                }
+            }
+            Err(fault) => write!(line, "{fault:?}")?,
+        }
+        assert_eq!(rt; line.as_str(), "600002 #100000");
+        Ok(())
+    }
+}
