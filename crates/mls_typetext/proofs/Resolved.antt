@@ -1,20 +1,18 @@
 -- How the loop over the tasks of a reader of pieces goes on and ends.
-use Rattle.std.proofs.Common.{◌≡◌, ℕ, zero, suc, ◌+◌, ◌*◌, ◌<◌, ◌≤◌, Bool, true, false, not, List, [], ◌∷◌, ◌++◌, length, reverse, refl, sym, ap, ◌∙◌, subst, arith, Some, None, length-append, add-one}
+use Rattle.std.proofs.Common.{◌≡◌, ℕ, suc, ◌+◌, ◌≤◌, true, not, List, [], ◌∷◌, ◌++◌, length, reverse, refl, sym, ap, ◌∙◌, subst, arith, Some, None, length-append, add-one}
 use Rattle.std.specs.Prelude.{Option}
 use Rattle.std.proofs.lemmas.List.{reverse-append}
 use Rattle.mls_typetext.specs.declared.scheme.TypeFault.{TypeFault}
 use Rattle.mls_typetext.specs.declared.scheme.TypeFault.TheVariants.{NotPolar, DuplicateLabel}
 use Rattle.mls_typetext.specs.declared.piece.Piece.{Piece}
 use Rattle.mls_typetext.specs.declared.piece.Piece.TheVariants as piece
-use Rattle.mls_typetext.specs.declared.piece.Item.{Item}
 use Rattle.mls_typetext.specs.declared.resolve.Place.{Place}
 use Rattle.mls_typetext.specs.declared.resolve.Task.{Task}
 use Rattle.mls_typetext.specs.declared.resolve.Task.TheVariants.{Part, Leave, Note}
 use Rattle.mls_typetext.specs.Trees.{TypeTree}
 use Rattle.mls_typetext.specs.Faults.{faults}
 use Rattle.mls_typetext.specs.Pieces.{postorder}
-use Rattle.mls_typetext.specs.Items.{items}
-use Rattle.mls_typetext.specs.Resolving.{Known, State, whole_place, inside, nothing_known, noted, naming, fault_if, notes, opened, known_after}
+use Rattle.mls_typetext.specs.Resolving.{Known, whole_place, nothing_known, noted, naming, fault_if, notes, opened, known_after}
 use Rattle.mls_typetext.specs.Readers.{GivesItems, GivesFault}
 use Rattle.mls_typetext.proofs.Resolves.{after_leave, after_note, after_piece, after_all, after_none, first_or, reads-whole}
 

@@ -1,5 +1,5 @@
 -- The machine that reads pieces from their end reads the pieces of a tree as its items and its first fault.
-use Rattle.std.proofs.Common.{◌≡◌, ℕ, zero, suc, ◌+◌, ◌-◌, Bool, true, false, not, if◌then◌else◌, List, [], ◌∷◌, ◌++◌, length, map, reverse, refl, sym, ap, ◌∙◌, arith, append_assoc, Some, None}
+use Rattle.std.proofs.Common.{◌≡◌, ℕ, suc, ◌+◌, ◌-◌, Bool, true, false, not, if◌then◌else◌, List, [], ◌∷◌, ◌++◌, length, map, reverse, refl, sym, ap, ◌∙◌, arith, append_assoc, Some, None}
 use Rattle.std.specs.Prelude.{Option, ◌||◌, ◌==◌, bytes_eq}
 use Rattle.std.specs.List.{list_any}
 use Rattle.std.proofs.lemmas.List.{reverse-append, append-nil}
@@ -18,7 +18,7 @@ use Rattle.mls_typetext.specs.Books.{is_in, place_in}
 use Rattle.mls_typetext.specs.Faults.{Around, nearest, same, name_faults, faults, field_faults}
 use Rattle.mls_typetext.specs.Pieces.{postorder, field_postorder}
 use Rattle.mls_typetext.specs.Items.{items, field_items}
-use Rattle.mls_typetext.specs.Resolving.{Known, State, whole_place, inside, domain, body, nothing_known, told, noted, naming, without_labels, with_label, fault_if, name_fault, name_item, notes, opened, taken, ended, known_after}
+use Rattle.mls_typetext.specs.Resolving.{Known, whole_place, domain, nothing_known, told, noted, naming, fault_if, name_fault, name_item, notes, opened, taken, ended, known_after}
 
 -- what is to do before the next piece is done at it, or at the end
 pub after_leave : (x : List ℕ) (outer : Option Place) (st : List Task) (k : Known) (ps : List Piece) → known_after (Leave x outer ∷ st) k ps ≡ known_after st (naming x outer k) ps

@@ -1,5 +1,5 @@
 -- What the reader of pieces holds, as the machine has it, and what it gives.
-use Rattle.std.specs.Prelude.{◌≡◌, ℕ, ◌+◌, ◌≤◌, true, List, [], ◌∷◌, reverse, bytes_eq}
+use Rattle.std.specs.Prelude.{◌≡◌, true, List, [], ◌∷◌, reverse, bytes_eq}
 use Rattle.indexmap.specs.IndexMap.{get}
 use Rattle.indexmap.specs.IndexSet.{contains}
 use Rattle.mls_typetext.specs.declared.scheme.TypeFault.{TypeFault}
