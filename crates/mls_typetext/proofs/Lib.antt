@@ -24,3 +24,5 @@ pub mod NumberedNames
 pub mod MeasuredItems
 pub mod ReadTokens
 pub mod ReadPieces
+pub mod Resolves
+pub mod Resolved

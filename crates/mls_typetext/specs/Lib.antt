@@ -14,5 +14,7 @@ pub mod Texts
 pub mod Stops
 pub mod Parts
 pub mod Stacks
+pub mod Resolving
+pub mod Readers
 pub mod Laws
 pub mod Readings

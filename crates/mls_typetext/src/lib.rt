@@ -12,6 +12,7 @@ mod lay_out;
 mod measure;
 mod piece;
 mod read;
+mod resolve;
 pub mod scheme;
 
 pub use end::type_end;
