@@ -26,3 +26,4 @@ pub mod ReadTokens
 pub mod ReadPieces
 pub mod Resolves
 pub mod Resolved
+pub mod SchemesRead

@@ -18,3 +18,5 @@ pub mod Resolving
 pub mod Readers
 pub mod Laws
 pub mod Readings
+pub mod Reads
+pub mod TextsFrom
