@@ -16,7 +16,8 @@ use Rattle.mls_typetext.specs.Resolving.{Known, whole_place, nothing_known, note
 use Rattle.mls_typetext.specs.Readers.{GivesItems, GivesFault}
 use Rattle.mls_typetext.proofs.Resolves.{after_leave, after_note, after_piece, after_all, after_none, first_or, reads-whole}
 
--- around no part that is still to come there are so many functions, records or `rec`s that they and the pieces left are more than the limit
+-- around each part that is still to come there are so few functions and records, and so few `rec`s, that with the pieces that are left they
+-- are at most the limit
 abbrev pub IsBelow : (limit left : ℕ) → List Task → Type 0
 IsBelow limit left [] = Unit {0}
 IsBelow limit left (Part p ∷ st) = (p.guards + left ≤ limit) × (p.depth + left ≤ limit) × IsBelow limit left st
