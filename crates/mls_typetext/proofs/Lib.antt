@@ -27,3 +27,4 @@ pub mod ReadPieces
 pub mod Resolves
 pub mod Resolved
 pub mod SchemesRead
+pub mod TextsRead
