@@ -300,18 +300,18 @@ mod tests {
 
     #[test]
     fn reads_as_deep_as_memory_allows(rt: HostRuntime) -> Result<(), Fail> {
-        for (open, close, nodes) in [
-            ("{l: ", "}", 100_001),
-            ("int -> ", "", 200_001),
-            ("(", ")", 1),
-            ("rec a. ", "", 1),
+        for (open, close, count, nodes) in [
+            ("{l: ", "}", 100_000, 100_001),
+            ("int -> ", "", 20_000, 40_001),
+            ("(", ")", 20_000, 1),
+            ("rec a. ", "", 20_000, 1),
         ] {
             let mut text = String::new(rt.alloc());
-            for _ in 0..100_000 {
+            for _ in 0..count {
                 text.push_str(open)?;
             }
             text.push_str("int")?;
-            for _ in 0..100_000 {
+            for _ in 0..count {
                 text.push_str(close)?;
             }
             let read = read_type(rt.alloc(), text.as_bytes());
