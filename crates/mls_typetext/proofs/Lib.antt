@@ -18,3 +18,13 @@ pub mod WholeTexts
 pub mod Builds
 pub mod Placed
 pub mod Pushed
+pub mod Laid
+pub mod SortedFields
+pub mod NumberedNames
+pub mod MeasuredItems
+pub mod ReadTokens
+pub mod ReadPieces
+pub mod Resolves
+pub mod Resolved
+pub mod SchemesRead
+pub mod TextsRead

@@ -4,6 +4,8 @@ pub mod Pieces
 pub mod Building
 pub mod Items
 pub mod Members
+pub mod Measuring
+pub mod Laying
 pub mod Faults
 pub mod Books
 pub mod Schemes
@@ -12,4 +14,9 @@ pub mod Texts
 pub mod Stops
 pub mod Parts
 pub mod Stacks
+pub mod Resolving
+pub mod Readers
 pub mod Laws
+pub mod Readings
+pub mod Reads
+pub mod TextsFrom

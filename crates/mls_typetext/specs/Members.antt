@@ -5,10 +5,11 @@ use Rattle.mls_typetext.specs.declared.piece.Member.{Member}
 use Rattle.mls_typetext.specs.declared.piece.Member.TheVariants as member
 use Rattle.mls_typetext.specs.Books.{Ty, var, again, boolean, integer, top, bot, arrow, join, meet, fields, rec, TyFields, none, one, here, under}
 
--- the `rec` around a type for whose node it stands, where it has none of its own, counted from the nearest
+-- the `rec` around a type for whose node it stands, where it has none of its own, counted from the nearest; a `rec` that stands for its
+-- own node alone has none
 abbrev pub outer : Option ℕ → Option ℕ
 outer None = None
-outer (Some zero) = Some zero
+outer (Some zero) = None
 outer (Some (suc k)) = Some k
 
 abbrev pub stands_for : Ty → Option ℕ

@@ -1,14 +1,20 @@
 //! The texts of types: their grammar, their trees, their books and their faults.
 //!
-//! The crate says what the text of a type is read as and which fault it has, and has the laws of both. It tells where a
-//! type ends among tokens; it has no function yet that reads one.
+//! The crate says what the text of a type is read as and which fault it has, reads it, and has the laws of both.
 #![tactic(auto)]
 
 mod bind;
+mod count;
 pub mod end;
+pub mod from_text;
 pub mod laws;
+mod lay_out;
+mod measure;
 mod piece;
+mod read;
+mod resolve;
 pub mod scheme;
 
 pub use end::type_end;
+pub use from_text::{read_type, read_type_from};
 pub use scheme::{ReadScheme, TypeFault};

@@ -3,7 +3,7 @@ ghost use Rattle.std.specs.Prelude.{◌≡◌};
 
 use mls_base::memory::Memory;
 use mls_book::book::{Book, NodeId};
-use mls_lexer::token::Kind;
+use mls_lexer::token::{Kind, LexFault};
 use std::alloc::AllocFailed;
 use thiserror::Error;
 
@@ -65,5 +65,19 @@ impl<T: Drop> From<AllocFailed<T>> for TypeFault {
 
     fn from(_e: AllocFailed<T>) -> TypeFault {
         TypeFault::Memory
+    }
+}
+
+impl From<LexFault> for TypeFault {
+    ghost use Rattle.mls_typetext.specs.Stops.{of_tokens};
+
+    ghost from_gives = { λ e fault. fault ≡ of_tokens e };
+
+    fn from(e: LexFault) -> TypeFault {
+        match e {
+            LexFault::BadByte(at) => TypeFault::BadByte(at),
+            LexFault::BigNumber(at) => TypeFault::BigNumber(at),
+            LexFault::Memory => TypeFault::Memory,
+        }
     }
 }

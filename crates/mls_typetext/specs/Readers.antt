@@ -1,0 +1,28 @@
+-- What the reader of pieces holds, as the machine has it, and what it gives.
+use Rattle.std.specs.Prelude.{◌≡◌, true, List, [], ◌∷◌, reverse, bytes_eq}
+use Rattle.indexmap.specs.IndexMap.{get}
+use Rattle.indexmap.specs.IndexSet.{contains}
+use Rattle.mls_typetext.specs.declared.scheme.TypeFault.{TypeFault}
+use Rattle.mls_typetext.specs.declared.piece.Piece.{Piece}
+use Rattle.mls_typetext.specs.declared.piece.Item.{Item}
+use Rattle.mls_typetext.specs.declared.resolve.Task.{Task}
+use Rattle.mls_typetext.specs.declared.resolve.Reader.{Reader}
+use Rattle.mls_typetext.specs.Trees.{TypeTree}
+use Rattle.mls_typetext.specs.Faults.{faults}
+use Rattle.mls_typetext.specs.Pieces.{postorder}
+use Rattle.mls_typetext.specs.Items.{items}
+use Rattle.mls_typetext.specs.Resolving.{Known}
+
+abbrev pub tasks_of : Reader → List Task
+tasks_of r = reverse r.tasks.items
+
+abbrev pub known_of : Reader → Known
+known_of r = record { recs = get bytes_eq r.recs; labels = contains bytes_eq r.labels; fault = r.fault; items = r.items.items }
+
+-- the pieces are those of no tree with a fault, and these are its items from the last to the first
+abbrev pub GivesItems : List Piece → List Item → Type 0
+GivesItems pieces found = (t : TypeTree) → pieces ≡ postorder t → (faults true [] 0 t ≡ []) × (found ≡ reverse (items [] t))
+
+-- the pieces are those of no tree with another first fault
+abbrev pub GivesFault : List Piece → TypeFault → Type 0
+GivesFault pieces fault = (t : TypeTree) → pieces ≡ postorder t → (later : List TypeFault) × (faults true [] 0 t ≡ fault ∷ later)

@@ -1,0 +1,388 @@
+//! The nodes of the book of a type.
+ghost use Rattle.std.specs.Prelude.{◌≡◌, [], ◌∷◌, reverse, None, IfOk, OnOk};
+ghost use Rattle.mls_book.specs.declared.book.Node.TheVariants.{Rcd};
+ghost use Rattle.mls_typetext.specs.Books.{id, node_in};
+ghost use Rattle.mls_typetext.specs.Laying.{AreNodesOf, at_place, closed, end_at, enter, hold, in_order, lay_field, lay_next, lay_part, stand, state_of, todo};
+
+use crate::count::sum;
+use crate::piece::{Member, Size};
+use mls_base::memory::Memory;
+use mls_book::book::{Field, Fields, Node, NodeId};
+use std::alloc::Global;
+use std::mem;
+
+// Where the nodes of a part go.
+#[derive(Clone, Copy)]
+enum Place {
+    // The part belongs to the layer that is open: its nodes begin at the first number, and those below it at the second.
+    Part(usize, usize, Size),
+    // It is a layer of its own, which begins at this number, with all that lies below it.
+    Block(usize, Size),
+    // It is the fields of a record that are still to come: their layers begin at this number.
+    Fields(usize),
+}
+
+// What is still to do.
+#[derive(Clone, Copy)]
+enum Task {
+    // A part is to come.
+    At(Place),
+    // The body of a `rec` is over.
+    Leave,
+    // A layer is over: its nodes are held from this place on.
+    End(usize),
+}
+
+// The nodes so far, and what is still to do.
+#[derive(Drop)]
+struct Layout {
+    // The next thing to do is the last.
+    tasks: Vec<Task>,
+    // The nodes for which the `rec`s around stand, the nearest last.
+    recs: Vec<usize>,
+    // The nodes of the layers that are open, each layer from its last node.
+    held: Vec<Node>,
+    // The fields of the record that is open, until all are there.
+    fields: Vec<Field>,
+    // The nodes of the layers that are over, from the last of the book.
+    nodes: Vec<Node>,
+}
+
+impl Layout {
+    // Takes one piece of the type.
+    fn take(&mut self, alloc: Global, member: Member) -> Result<(), Memory>
+        ensures { OnOk result (state_of self.new ≡ lay_next member (closed (state_of self.old))) }
+    {
+        match self.next()? {
+            Some(Place::Part(layer, below, size)) => self.lay_part(member, layer, below, size),
+            Some(Place::Block(layer, size)) => {
+                let below = sum(layer, size.here)?;
+                self.tasks.push(Task::End(self.held.len()))?;
+                self.lay_part(member, layer, below, size)
+            }
+            Some(Place::Fields(below)) => self.lay_field(alloc, member, below),
+            None => Ok(()),
+        }
+    }
+
+    // The place of the next piece. What is over before it is closed.
+    fn next(&mut self) -> Result<Option<Place>, Memory>
+        ensures closed { IfOk result (λ place. closed (state_of self.old) ≡ at_place place (state_of self.new)) }
+        ensures none { IfOk result (λ place. place ≡ None → self.new.tasks.items ≡ []) }
+    {
+        while let Some(task) = self.tasks.pop() {
+            match task {
+                Task::At(place) => return Ok(Some(place)),
+                Task::Leave => {
+                    self.recs.pop();
+                }
+                Task::End(start) => self.end(start)?,
+            }
+        }
+        Ok(None)
+    }
+
+    // Closes a layer whose nodes are held from this place on.
+    fn end(&mut self, start: usize) -> Result<(), Memory>
+        ensures { OnOk result (state_of self.new ≡ end_at start (state_of self.old)) }
+    {
+        if start < self.held.len() {
+            let mut layer = self.held.split_off(start)?;
+            self.nodes.append(&mut layer)?;
+        }
+        Ok(())
+    }
+
+    // Takes a piece of the layer that is open: the nodes of its part begin at `layer`, and those below it at `below`.
+    fn lay_part(
+        &mut self,
+        member: Member,
+        layer: usize,
+        below: usize,
+        size: Size,
+    ) -> Result<(), Memory>
+        ensures { OnOk result (state_of self.new ≡ lay_part member layer below size (state_of self.old)) }
+    {
+        match member {
+            Member::Var(x) => self.hold(Node::Var(x)),
+            Member::Again(_) => Ok(()),
+            Member::Bool => self.hold(Node::Bool),
+            Member::Int => self.hold(Node::Int),
+            Member::Top => self.hold(Node::Top),
+            Member::Bot => self.hold(Node::Bot),
+            Member::Arrow(domain, codomain) => {
+                let next = sum(below, sum(domain.here, domain.under)?)?;
+                let node = Node::Arrow(self.node_of(below, domain)?, self.node_of(next, codomain)?);
+                self.todo(Place::Block(below, domain), Place::Block(next, codomain))?;
+                self.hold(node)
+            }
+            Member::Join(left, right) => {
+                let (next, under) = (sum(layer, left.here)?, sum(below, left.under)?);
+                let node = Node::Join(self.node_of(layer, left)?, self.node_of(next, right)?);
+                self.todo(
+                    Place::Part(layer, below, left),
+                    Place::Part(next, under, right),
+                )?;
+                self.hold(node)
+            }
+            Member::Meet(left, right) => {
+                let (next, under) = (sum(layer, left.here)?, sum(below, left.under)?);
+                let node = Node::Meet(self.node_of(layer, left)?, self.node_of(next, right)?);
+                self.todo(
+                    Place::Part(layer, below, left),
+                    Place::Part(next, under, right),
+                )?;
+                self.hold(node)
+            }
+            Member::Rec(body) => self.enter(layer, below, size, body),
+            Member::Record => {
+                self.tasks.push(Task::At(Place::Fields(below)))?;
+                Ok(())
+            }
+            // These stand among the fields of a record.
+            Member::Last | Member::Field(_, _) => Ok(()),
+        }
+    }
+
+    // Takes a piece of the record that is open, where the layers of the fields to come begin at `below`.
+    fn lay_field(&mut self, alloc: Global, member: Member, below: usize) -> Result<(), Memory>
+        ensures { OnOk result (state_of self.new ≡ lay_field member below (state_of self.old)) }
+    {
+        match member {
+            Member::Field(label, size) => {
+                let node = self.node_of(below, size)?;
+                let next = sum(below, sum(size.here, size.under)?)?;
+                self.fields.push(Field { label, node })?;
+                self.todo(Place::Block(below, size), Place::Fields(next))
+            }
+            Member::Last => {
+                let fields = mem::replace(&mut self.fields, Vec::new(alloc));
+                self.hold(record_of(alloc, fields)?)
+            }
+            // Nothing else stands among fields.
+            _ => Ok(()),
+        }
+    }
+
+    // Goes into the body of a `rec` of this size.
+    fn enter(&mut self, layer: usize, below: usize, size: Size, body: Size) -> Result<(), Memory>
+        ensures { OnOk result (state_of self.new ≡ enter (stand layer (state_of self.old).recs size) (todo (Task.At (Place.Part layer below body) ∷ Task.Leave ∷ []) (state_of self.old))) }
+    {
+        let node = self.node_of(layer, size)?;
+        self.tasks.push(Task::Leave)?;
+        self.tasks.push(Task::At(Place::Part(layer, below, body)))?;
+        self.recs.push(node.0)?;
+        Ok(())
+    }
+
+    // Adds a node to the layer that is open.
+    fn hold(&mut self, node: Node) -> Result<(), Memory>
+        ensures { OnOk result (state_of self.new ≡ hold node (state_of self.old)) }
+    {
+        self.held.push(node)?;
+        Ok(())
+    }
+
+    // Two places are still to come: the last of them first.
+    fn todo(&mut self, second: Place, first: Place) -> Result<(), Memory>
+        ensures { OnOk result (state_of self.new ≡ todo (Task.At first ∷ Task.At second ∷ []) (state_of self.old)) }
+    {
+        self.tasks.push(Task::At(second))?;
+        self.tasks.push(Task::At(first))?;
+        Ok(())
+    }
+
+    // The node that a part of this size stands for, where its layer begins at this number.
+    fn node_of(&self, layer: usize, size: Size) -> Result<NodeId, Memory>
+        ensures { IfOk result (λ node. node ≡ id (stand layer (state_of self.now).recs size)) }
+    {
+        match size.again {
+            Some(k) => Ok(NodeId(self.rec_node(k))),
+            // It is a `rec` that stands for itself alone.
+            None if size.here == 0 => Ok(NodeId(0)),
+            None => Ok(NodeId(sum(layer, size.here - 1)?)),
+        }
+    }
+
+    // The node for which the k-th `rec` around stands, counted from the nearest.
+    fn rec_node(&self, k: usize) -> usize
+        ensures { result ≡ node_in (reverse self.now.recs.items) k }
+    {
+        let count = self.recs.len();
+        if k < count {
+            self.recs[count - 1 - k]
+        } else {
+            0
+        }
+    }
+}
+
+// The record of these fields, in the order of their labels.
+fn record_of(alloc: Global, fields: Vec<Field>) -> Result<Node, Memory>
+    ensures { IfOk result (λ node. node ≡ Rcd (in_order fields.items)) }
+{
+    let mut left = fields;
+    left.sort_by(|first, second| first.label.cmp(&second.label))?;
+    let mut all = Fields::new(alloc);
+    for field in left {
+        all.push(field)?;
+    }
+    Ok(Node::Rcd(all))
+}
+
+/// The nodes of the book of the type of these pieces, which has this size, from the last node to the first.
+pub fn lay_out(alloc: Global, members: Vec<Member>, size: Size) -> Result<Vec<Node>, Memory>
+    ensures { IfOk result (λ nodes. AreNodesOf members.items size nodes.items) }
+{
+    let mut layout = Layout {
+        tasks: vec![in alloc; Task::At(Place::Block(0, size))]?,
+        recs: Vec::new(alloc),
+        held: Vec::new(alloc),
+        fields: Vec::new(alloc),
+        nodes: Vec::new(alloc),
+    };
+    let mut left = members;
+    while let Some(member) = left.pop() {
+        layout.take(alloc, member)?;
+    }
+    layout.next()?;
+    Ok(layout.nodes)
+}
+
+#[cfg(test)]
+mod tests {
+    use super::*;
+    use crate::measure::measure;
+    use crate::piece::Item;
+    use mls_book::name::Name;
+    use std::test::Fail;
+
+    // A name of these bytes.
+    fn named(alloc: Global, bytes: &[u8]) -> Result<Name, Memory> {
+        if mls_base::spelling::is_name(bytes) {
+            Name::new(alloc, bytes)
+        } else {
+            Err(Memory)
+        }
+    }
+
+    // The piece of a field with this label.
+    fn field(alloc: Global, label: &[u8]) -> Result<Item, Memory> {
+        Ok(Item::Field(named(alloc, label)?))
+    }
+
+    // A record with these labels at these nodes.
+    fn record(alloc: Global, fields: &[(&[u8], usize)]) -> Result<Node, Memory> {
+        let mut all = Fields::new(alloc);
+        for (label, node) in fields {
+            all.push(Field {
+                label: named(alloc, label)?,
+                node: NodeId(*node),
+            })?;
+        }
+        Ok(Node::Rcd(all))
+    }
+
+    // The nodes of the book of a type, from the first to the last, where its pieces are given in this order too.
+    fn book(alloc: Global, items: Vec<Item>) -> Result<Vec<Node>, Memory> {
+        let mut backward = items;
+        backward.reverse();
+        let measured = measure(alloc, backward)?;
+        let mut nodes = lay_out(alloc, measured.members, measured.size)?;
+        nodes.reverse();
+        Ok(nodes)
+    }
+
+    #[test]
+    fn parts_of_a_function_have_nodes_of_their_own(rt: HostRuntime) -> Result<(), Fail> {
+        let alloc = rt.alloc();
+        let items = vec![in alloc;
+            Item::Variable(named(alloc, b"a")?),
+            Item::Variable(named(alloc, b"a")?),
+            Item::Arrow,
+        ]?;
+        let want = vec![in alloc;
+            Node::Arrow(NodeId(1), NodeId(2)),
+            Node::Var(0),
+            Node::Var(0),
+        ]?;
+        assert_eq!(rt; book(alloc, items)?, want);
+        Ok(())
+    }
+
+    #[test]
+    fn recursive_names_stand_for_nodes_around_them(rt: HostRuntime) -> Result<(), Fail> {
+        let alloc = rt.alloc();
+        let items = vec![in alloc;
+            Item::Again(0),
+            Item::Int,
+            Item::Join,
+            Item::Last,
+            field(alloc, b"l")?,
+            Item::Record,
+            Item::Rec,
+        ]?;
+        let want = vec![in alloc;
+            record(alloc, &[(b"l", 2)])?,
+            Node::Int,
+            Node::Join(NodeId(0), NodeId(1)),
+        ]?;
+        assert_eq!(rt; book(alloc, items)?, want);
+        let items = vec![in alloc;
+            Item::Again(1),
+            Item::Rec,
+            Item::Last,
+            field(alloc, b"l")?,
+            Item::Record,
+            Item::Rec,
+        ]?;
+        let want = vec![in alloc; record(alloc, &[(b"l", 0)])?]?;
+        assert_eq!(rt; book(alloc, items)?, want);
+        Ok(())
+    }
+
+    #[test]
+    fn fields_stand_by_their_labels_and_their_nodes_by_the_text(
+        rt: HostRuntime,
+    ) -> Result<(), Fail> {
+        let alloc = rt.alloc();
+        let items = vec![in alloc;
+            Item::Int,
+            Item::Last,
+            field(alloc, b"m")?,
+            Item::Record,
+            Item::Bool,
+            Item::Top,
+            Item::Last,
+            field(alloc, b"a")?,
+            field(alloc, b"n")?,
+            field(alloc, b"l")?,
+            Item::Record,
+        ]?;
+        let want = vec![in alloc;
+            record(alloc, &[(b"a", 4), (b"l", 1), (b"n", 3)])?,
+            record(alloc, &[(b"m", 2)])?,
+            Node::Int,
+            Node::Bool,
+            Node::Top,
+        ]?;
+        assert_eq!(rt; book(alloc, items)?, want);
+        Ok(())
+    }
+
+    #[test]
+    fn goes_as_deep_as_memory_allows(rt: HostRuntime) -> Result<(), Fail> {
+        let alloc = rt.alloc();
+        let mut items = vec![in alloc; Item::Int]?;
+        for _ in 0..100_000 {
+            items.push(Item::Last)?;
+            items.push(field(alloc, b"l")?)?;
+            items.push(Item::Record)?;
+        }
+        let nodes = book(alloc, items)?;
+        assert_eq!(rt; nodes.len(), 100_001);
+        assert_eq!(rt; nodes[0], record(alloc, &[(b"l", 1)])?);
+        assert_eq!(rt; nodes[100_000], Node::Int);
+        Ok(())
+    }
+}

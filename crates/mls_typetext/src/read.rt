@@ -1,0 +1,394 @@
+//! The tokens of a type, read from the front to the pieces that they tell.
+ghost use Rattle.std.specs.Prelude.{◌≡◌, ◌≤◌, ℕ, true, List, All, IfOk, OnOk, slice_range};
+ghost use Rattle.mls_lexer.specs.Tokens.{IsToken, terminal, terminal_of};
+ghost use Rattle.mls_typetext.specs.Building.{a, the_field, the_rec, acts, atom_acts, advance, last_told, told_of, placed};
+ghost use Rattle.mls_typetext.specs.Phrases.{whole, codomain, join, join_tail, meet, meet_tail, fields, more_fields};
+ghost use Rattle.mls_typetext.specs.Readings.{part_of, stack_of, Acted, Puts, Tells, IsNew, state_of};
+
+use crate::piece::Piece;
+use mls_base::memory::Memory;
+use mls_book::name::Name;
+use mls_lexer::token::{Kind, Token};
+use std::alloc::Global;
+
+// A part of a type that is still to come. A binder is the name behind `rec`, and a label the one behind a comma.
+#[derive(Clone, Copy)]
+enum Part {
+    Whole,
+    Codomain,
+    Join,
+    JoinTail,
+    Meet,
+    MeetTail,
+    Atom,
+    Fields,
+    MoreFields,
+    Binder,
+    Label,
+    Dot,
+    Colon,
+    ParenRight,
+}
+
+// What is still to do: a part has to come, or a piece is told once what stands before it is over.
+#[derive(Drop)]
+enum Todo {
+    Read(Part),
+    Tell(Piece),
+}
+
+// What is still to do, the next last, and what was told so far.
+#[derive(Drop)]
+struct Reader {
+    stack: Vec<Todo>,
+    pieces: Vec<Piece>,
+}
+
+/// The pieces of the tree of the type that these tokens are, each behind its parts. It takes no recursion. Of tokens
+/// that are no type it tells something.
+pub fn read_pieces(alloc: Global, text: &[u8], tokens: &[Token]) -> Result<Vec<Piece>, Memory>
+    requires { All (IsToken text.now) tokens.now }
+    ensures { IfOk result (λ pieces. pieces.items ≡ told_of (placed text.now tokens.now)) }
+{
+    let mut reader = Reader::new(alloc)?;
+    for token in tokens {
+        reader.read_token(alloc, text, *token)?;
+    }
+    reader.finish()
+}
+
+// The name that the token is.
+fn name_of(alloc: Global, text: &[u8], token: Token) -> Result<Name, Memory>
+    requires of_text { IsToken text.now token }
+    requires is_name { token.kind ≡ Kind.Name }
+    ensures { IfOk result (λ name. name ≡ slice_range text.now token.start token.end) }
+{
+    Name::new(alloc, &text[token.start..token.end])
+}
+
+impl Reader {
+    // A reader before the first token.
+    fn new(alloc: Global) -> Result<Reader, Memory>
+        ensures { IfOk result IsNew }
+    {
+        let mut stack = Vec::new(alloc);
+        stack.push(Todo::Read(Part::Whole))?;
+        Ok(Reader {
+            stack,
+            pieces: Vec::new(alloc),
+        })
+    }
+
+    // Reads one token: tells what is over before it, and puts what is left to come behind it on the stack.
+    fn read_token(&mut self, alloc: Global, text: &[u8], token: Token) -> Result<(), Memory>
+        requires { IsToken text.now token }
+        ensures { OnOk result (state_of self.new ≡ advance token.start (terminal text.now token) (stack_of self.old.stack.items) self.old.pieces.items) }
+    {
+        while let Some(todo) = self.stack.pop() {
+            match todo {
+                Todo::Tell(piece) => self.pieces.push(piece)?,
+                Todo::Read(part) => {
+                    if self.begin(alloc, text, token, part)? {
+                        return Ok(());
+                    }
+                }
+            }
+        }
+        Ok(())
+    }
+
+    // Tells what is left to tell behind the last token.
+    fn finish(self) -> Result<Vec<Piece>, Memory>
+        ensures { IfOk result (λ pieces. pieces.items ≡ last_told (stack_of self.stack.items) self.pieces.items) }
+    {
+        let Reader {
+            mut stack,
+            mut pieces,
+        } = self;
+        while let Some(todo) = stack.pop() {
+            if let Todo::Tell(piece) = todo {
+                pieces.push(piece)?;
+            }
+        }
+        Ok(pieces)
+    }
+
+    // Puts a row on the stack, the next one last.
+    fn put<const N: usize>(&mut self, row: [Todo; N]) -> Result<(), Memory>
+        requires { N ≤ 5 }
+        ensures { OnOk result (Puts row.entry self.old self.new) }
+    {
+        for todo in row {
+            self.stack.push(todo)?;
+        }
+        Ok(())
+    }
+
+    // Reads the token as the first of the part, if it is one.
+    fn begin(
+        &mut self,
+        alloc: Global,
+        text: &[u8],
+        token: Token,
+        part: Part,
+    ) -> Result<bool, Memory>
+        requires { IsToken text.now token }
+        ensures { IfOk result (λ begun. Acted (acts (part_of part) token.start (terminal text.now token)) self.old self.new begun) }
+    {
+        match part {
+            Part::Whole => self.begin_whole(alloc, text, token),
+            Part::Codomain => self.begin_codomain(token),
+            Part::Join => self.begin_join(alloc, text, token),
+            Part::JoinTail => self.begin_join_tail(token),
+            Part::Meet => self.begin_meet(alloc, text, token),
+            Part::MeetTail => self.begin_meet_tail(token),
+            Part::Atom => self.begin_atom(alloc, text, token, []),
+            Part::Fields => self.begin_fields(alloc, text, token),
+            Part::MoreFields => self.begin_more_fields(token),
+            Part::Binder => self.begin_binder(alloc, text, token),
+            Part::Label => self.begin_label(alloc, text, token),
+            Part::Dot => Ok(token.kind == Kind::Dot),
+            Part::Colon => Ok(token.kind == Kind::Colon),
+            Part::ParenRight => Ok(token.kind == Kind::ParenRight),
+        }
+    }
+
+    // The same for a whole type.
+    fn begin_whole(&mut self, alloc: Global, text: &[u8], token: Token) -> Result<bool, Memory>
+        requires { IsToken text.now token }
+        ensures { IfOk result (λ begun. Acted (acts (a whole) token.start (terminal text.now token)) self.old self.new begun) }
+    {
+        if token.kind == Kind::WordRec {
+            self.put([Todo::Read(Part::Binder)])?;
+            return Ok(true);
+        }
+        let row = [
+            Todo::Read(Part::Codomain),
+            Todo::Read(Part::JoinTail),
+            Todo::Read(Part::MeetTail),
+        ];
+        self.begin_atom(alloc, text, token, row)
+    }
+
+    // The same for the operands of `|`.
+    fn begin_join(&mut self, alloc: Global, text: &[u8], token: Token) -> Result<bool, Memory>
+        requires { IsToken text.now token }
+        ensures { IfOk result (λ begun. Acted (acts (a join) token.start (terminal text.now token)) self.old self.new begun) }
+    {
+        let row = [Todo::Read(Part::JoinTail), Todo::Read(Part::MeetTail)];
+        self.begin_atom(alloc, text, token, row)
+    }
+
+    // The same for the operands of `&`.
+    fn begin_meet(&mut self, alloc: Global, text: &[u8], token: Token) -> Result<bool, Memory>
+        requires { IsToken text.now token }
+        ensures { IfOk result (λ begun. Acted (acts (a meet) token.start (terminal text.now token)) self.old self.new begun) }
+    {
+        self.begin_atom(alloc, text, token, [Todo::Read(Part::MeetTail)])
+    }
+
+    // The same for an atom that this row follows, the next one last.
+    fn begin_atom<const N: usize>(
+        &mut self,
+        alloc: Global,
+        text: &[u8],
+        token: Token,
+        row: [Todo; N],
+    ) -> Result<bool, Memory>
+        requires of_text { IsToken text.now token }
+        requires short { N ≤ 5 }
+        ensures { IfOk result (λ begun. Acted (atom_acts (stack_of row.entry) token.start (terminal text.now token)) self.old self.new begun) }
+    {
+        match token.kind {
+            Kind::Name => {
+                let name = name_of(alloc, text, token)?;
+                self.tell(row, Piece::Name(token.start, name))
+            }
+            Kind::WordBool => self.tell(row, Piece::Bool),
+            Kind::WordInt => self.tell(row, Piece::Int),
+            Kind::WordTop => self.tell(row, Piece::Top(token.start)),
+            Kind::WordBot => self.tell(row, Piece::Bot(token.start)),
+            Kind::ParenLeft => {
+                self.put(row)?;
+                self.put([Todo::Read(Part::ParenRight), Todo::Read(Part::Whole)])?;
+                Ok(true)
+            }
+            Kind::BraceLeft => {
+                self.put(row)?;
+                self.put([Todo::Tell(Piece::Record), Todo::Read(Part::Fields)])?;
+                Ok(true)
+            }
+            _ => Ok(false),
+        }
+    }
+
+    // Tells a piece, and puts the row that follows it on the stack, the next one last.
+    fn tell<const N: usize>(&mut self, row: [Todo; N], piece: Piece) -> Result<bool, Memory>
+        requires { N ≤ 5 }
+        ensures { IfOk result (λ begun. (begun ≡ true) × Tells row.entry piece self.old self.new) }
+    {
+        self.put(row)?;
+        self.pieces.push(piece)?;
+        Ok(true)
+    }
+
+    // The same for the codomain of a function.
+    fn begin_codomain(&mut self, token: Token) -> Result<bool, Memory>
+        ensures { IfOk result (λ begun. (bytes : List ℕ) → Acted (acts (a codomain) token.start (terminal_of token.kind bytes)) self.old self.new begun) }
+    {
+        if token.kind != Kind::Arrow {
+            return Ok(false);
+        }
+        self.put([Todo::Tell(Piece::Arrow), Todo::Read(Part::Whole)])?;
+        Ok(true)
+    }
+
+    // The same for a further operand of `|`.
+    fn begin_join_tail(&mut self, token: Token) -> Result<bool, Memory>
+        ensures { IfOk result (λ begun. (bytes : List ℕ) → Acted (acts (a join_tail) token.start (terminal_of token.kind bytes)) self.old self.new begun) }
+    {
+        if token.kind != Kind::Bar {
+            return Ok(false);
+        }
+        self.put([
+            Todo::Read(Part::JoinTail),
+            Todo::Tell(Piece::Join(token.start)),
+            Todo::Read(Part::Meet),
+        ])?;
+        Ok(true)
+    }
+
+    // The same for a further operand of `&`.
+    fn begin_meet_tail(&mut self, token: Token) -> Result<bool, Memory>
+        ensures { IfOk result (λ begun. (bytes : List ℕ) → Acted (acts (a meet_tail) token.start (terminal_of token.kind bytes)) self.old self.new begun) }
+    {
+        if token.kind != Kind::Amp {
+            return Ok(false);
+        }
+        self.put([
+            Todo::Read(Part::MeetTail),
+            Todo::Tell(Piece::Meet(token.start)),
+            Todo::Read(Part::Atom),
+        ])?;
+        Ok(true)
+    }
+
+    // The same for what stands behind the opening brace of a record.
+    fn begin_fields(&mut self, alloc: Global, text: &[u8], token: Token) -> Result<bool, Memory>
+        requires { IsToken text.now token }
+        ensures { IfOk result (λ begun. Acted (acts (a fields) token.start (terminal text.now token)) self.old self.new begun) }
+    {
+        if token.kind == Kind::BraceRight {
+            self.pieces.push(Piece::Last)?;
+            return Ok(true);
+        }
+        self.begin_label(alloc, text, token)
+    }
+
+    // The same for what stands behind a field.
+    fn begin_more_fields(&mut self, token: Token) -> Result<bool, Memory>
+        ensures { IfOk result (λ begun. (bytes : List ℕ) → Acted (acts (a more_fields) token.start (terminal_of token.kind bytes)) self.old self.new begun) }
+    {
+        match token.kind {
+            Kind::BraceRight => {
+                self.pieces.push(Piece::Last)?;
+                Ok(true)
+            }
+            Kind::Comma => {
+                self.put([Todo::Read(Part::Label)])?;
+                Ok(true)
+            }
+            _ => Ok(false),
+        }
+    }
+
+    // The same for the name behind `rec`.
+    fn begin_binder(&mut self, alloc: Global, text: &[u8], token: Token) -> Result<bool, Memory>
+        requires { IsToken text.now token }
+        ensures { IfOk result (λ begun. Acted (acts the_rec token.start (terminal text.now token)) self.old self.new begun) }
+    {
+        if token.kind != Kind::Name {
+            return Ok(false);
+        }
+        let name = name_of(alloc, text, token)?;
+        self.put([
+            Todo::Tell(Piece::Rec(name)),
+            Todo::Read(Part::Whole),
+            Todo::Read(Part::Dot),
+        ])?;
+        Ok(true)
+    }
+
+    // The same for the label of a field.
+    fn begin_label(&mut self, alloc: Global, text: &[u8], token: Token) -> Result<bool, Memory>
+        requires { IsToken text.now token }
+        ensures { IfOk result (λ begun. Acted (acts the_field token.start (terminal text.now token)) self.old self.new begun) }
+    {
+        if token.kind != Kind::Name {
+            return Ok(false);
+        }
+        let name = name_of(alloc, text, token)?;
+        self.put([
+            Todo::Tell(Piece::Field(token.start, name)),
+            Todo::Read(Part::MoreFields),
+            Todo::Read(Part::Whole),
+            Todo::Read(Part::Colon),
+        ])?;
+        Ok(true)
+    }
+}
+
+#[cfg(test)]
+mod tests {
+    use super::*;
+    use mls_lexer::scan::tokens;
+    use std::test::Fail;
+
+    // The pieces of a type.
+    fn shown(alloc: Global, text: &[u8]) -> Result<String, Memory> {
+        let mut line = String::new(alloc);
+        if let Ok(found) = tokens(alloc, text) {
+            let pieces = read_pieces(alloc, text, &found)?;
+            for piece in pieces.iter() {
+                match piece {
+                    Piece::Name(at, name) => write!(line, "{}@{at} ", name.as_str())?,
+                    Piece::Rec(name) => write!(line, "rec {} ", name.as_str())?,
+                    Piece::Field(at, name) => write!(line, "field {}@{at} ", name.as_str())?,
+                    other => write!(line, "{other:?} ")?,
+                }
+            }
+        }
+        Ok(line)
+    }
+
+    #[test]
+    fn tells_each_piece_behind_its_parts(rt: HostRuntime) -> Result<(), Fail> {
+        let cases: [(&[u8], &str); 8] = [
+            (b"int", "Int "),
+            (b"a -> b -> c", "a@0 b@5 c@10 Arrow Arrow "),
+            (
+                b"a | b | c & d",
+                "a@0 b@4 Join(2) c@8 d@12 Meet(10) Join(6) ",
+            ),
+            (b"(a -> b) -> top", "a@1 b@6 Arrow Top(12) Arrow "),
+            (
+                b"rec a. {l: a | int}",
+                "a@11 Int Join(13) Last field l@8 Record rec a ",
+            ),
+            (b"{}", "Last Record "),
+            (
+                b"{x: bool, y: {z: bot}}",
+                "Bool Bot(17) Last field z@14 Record Last field y@10 field x@1 Record ",
+            ),
+            (
+                b"{x: int} & a -> b",
+                "Int Last field x@1 Record a@11 Meet(9) b@16 Arrow ",
+            ),
+        ];
+        for (text, want) in cases {
+            let line = shown(rt.alloc(), text)?;
+            assert_eq!(rt; line.as_str(), want);
+        }
+        Ok(())
+    }
+}

@@ -1,0 +1,537 @@
+//! The recursive names and the faults of the tree of a type.
+ghost use Rattle.std.specs.Prelude.{◌≡◌, ◌≢◌, ◌^◌, ◌<◌, [], ◌∷◌, ◌++◌, Some, IfOk, IfErr, OnOk};
+ghost use Rattle.mls_typetext.specs.declared.piece.Piece.TheVariants as piece;
+ghost use Rattle.mls_typetext.specs.declared.resolve.Task.TheVariants as task;
+ghost use Rattle.mls_typetext.specs.Resolving.{whole_place, inside, domain, body, nothing_known, told, noted, naming, without_labels, with_label, fault_if, name_fault, name_item, notes, opened};
+ghost use Rattle.mls_typetext.specs.Readers.{tasks_of, known_of, GivesItems, GivesFault};
+
+use crate::piece::{Item, Piece};
+use crate::scheme::TypeFault;
+use indexmap::{IndexMap, IndexSet};
+use mls_base::memory::Memory;
+use mls_book::name::Name;
+use std::alloc::Global;
+
+// Where a part of a type stands: the sign of its place, how many functions and records are around it, and how many
+// `rec`s.
+#[derive(Clone, Copy)]
+struct Place {
+    is_positive: bool,
+    guards: usize,
+    depth: usize,
+}
+
+// What is still to come, from the end of the text to its front.
+#[derive(Drop)]
+enum Task {
+    // The pieces of a part, or of the fields of a record, at this place.
+    Part(Place),
+    // The front of a `rec`: its name means again what it meant around it.
+    Leave(Name, Option<Place>),
+    // The place of a fault.
+    Note(TypeFault),
+}
+
+// A reader of pieces from the last to the first.
+#[derive(Drop)]
+struct Reader {
+    // The next task is the last.
+    tasks: Vec<Task>,
+    // The `rec`s around the place that is reached, with the places of their bodies.
+    recs: IndexMap<Name, Place>,
+    // The labels of the record whose fields are read, or were read last.
+    labels: IndexSet<Name>,
+    // The fault that stands first in what was read, since it was noted last.
+    fault: Option<TypeFault>,
+    // The items, from the last to the first.
+    items: Vec<Item>,
+}
+
+/// The items of the tree of these pieces, from the last to the first; or the first fault of the tree.
+pub fn resolve(alloc: Global, pieces: Vec<Piece>) -> Result<Vec<Item>, TypeFault>
+    ensures items { IfOk result (λ found. GivesItems pieces.items found.items) }
+    ensures fault { IfErr result (λ fault. fault ≢ TypeFault.Memory → GivesFault pieces.items fault) }
+{
+    let mut left = pieces;
+    let mut reader = Reader::new(alloc)?;
+    while let Some(task) = reader.tasks.pop() {
+        match task {
+            // There is a piece for each part.
+            Task::Part(place) => {
+                if let Some(piece) = left.pop() {
+                    reader.read(piece, place)?;
+                }
+            }
+            Task::Leave(name, outer) => reader.leave(name, outer)?,
+            Task::Note(fault) => reader.fault = Some(fault),
+        }
+    }
+    match reader.fault {
+        Some(fault) => Err(fault),
+        None => Ok(reader.items),
+    }
+}
+
+impl Place {
+    // The place of a whole type.
+    fn of_whole() -> Place
+        ensures { result ≡ whole_place }
+    {
+        Place {
+            is_positive: true,
+            guards: 0,
+            depth: 0,
+        }
+    }
+
+    // The place of what stands in a record, or in the codomain of a function, of this place.
+    fn inside(self) -> Place
+        requires { self.guards < 2 ^ 63 }
+        ensures { result ≡ inside self }
+    {
+        Place {
+            guards: self.guards + 1,
+            ..self
+        }
+    }
+
+    // The place of the domain of a function of this place.
+    fn domain(self) -> Place
+        requires { self.guards < 2 ^ 63 }
+        ensures { result ≡ domain self }
+    {
+        Place {
+            is_positive: !self.is_positive,
+            guards: self.guards + 1,
+            ..self
+        }
+    }
+
+    // The place of the body of a `rec` of this place.
+    fn body(self) -> Place
+        requires { self.depth < 2 ^ 63 }
+        ensures { result ≡ body self }
+    {
+        Place {
+            depth: self.depth + 1,
+            ..self
+        }
+    }
+
+    // The fault of a name at this place, where it means a `rec` whose body has that place.
+    fn name_fault(self, at: usize, meaning: Option<Place>) -> Option<TypeFault>
+        ensures { result ≡ name_fault self at meaning }
+    {
+        let body = meaning?;
+        if body.guards == self.guards {
+            Some(TypeFault::Unguarded(at))
+        } else {
+            fault_if(
+                body.is_positive != self.is_positive,
+                TypeFault::Contravariant(at),
+            )
+        }
+    }
+
+    // The item of a name at this place. There are no more `rec`s around a body than around what stands in it.
+    fn name_item(self, name: Name, meaning: Option<Place>) -> Item
+        ensures { result ≡ name_item self name meaning }
+    {
+        match meaning {
+            None => Item::Variable(name),
+            Some(body) => Item::Again(self.depth.saturating_sub(body.depth)),
+        }
+    }
+}
+
+// The fault, where there is one.
+fn fault_if(is_wrong: bool, fault: TypeFault) -> Option<TypeFault>
+    ensures { result ≡ fault_if is_wrong fault }
+{
+    if is_wrong { Some(fault) } else { None }
+}
+
+impl Reader {
+    // At the end of a whole type.
+    fn new(alloc: Global) -> Result<Reader, Memory>
+        ensures { IfOk result (λ reader. (tasks_of reader ≡ task.Part whole_place ∷ []) × (known_of reader ≡ nothing_known)) }
+    {
+        let mut tasks = Vec::new(alloc);
+        tasks.push(Task::Part(Place::of_whole()))?;
+        Ok(Reader {
+            tasks,
+            recs: IndexMap::new(alloc),
+            labels: IndexSet::new(alloc),
+            fault: None,
+            items: Vec::new(alloc),
+        })
+    }
+
+    // Reads the last piece of the part at this place.
+    fn read(&mut self, piece: Piece, place: Place) -> Result<(), Memory>
+        requires guards { place.guards < 2 ^ 63 }
+        requires depth { place.depth < 2 ^ 63 }
+        ensures tasks { OnOk result (tasks_of self.new ≡ (opened piece place (tasks_of self.old) (known_of self.old)).tasks) }
+        ensures known { OnOk result (known_of self.new ≡ (opened piece place (tasks_of self.old) (known_of self.old)).known) }
+    {
+        match piece {
+            Piece::Name(at, name) => self.read_name(at, name, place),
+            Piece::Bool => self.tell(Item::Bool),
+            Piece::Int => self.tell(Item::Int),
+            Piece::Top(at) => {
+                self.note(fault_if(place.is_positive, TypeFault::NotPolar(at)));
+                self.tell(Item::Top)
+            }
+            Piece::Bot(at) => {
+                self.note(fault_if(!place.is_positive, TypeFault::NotPolar(at)));
+                self.tell(Item::Bot)
+            }
+            Piece::Arrow => self.read_arrow(place),
+            Piece::Join(at) => {
+                let fault = fault_if(!place.is_positive, TypeFault::NotPolar(at));
+                self.read_pair(Item::Join, fault, place)
+            }
+            Piece::Meet(at) => {
+                let fault = fault_if(place.is_positive, TypeFault::NotPolar(at));
+                self.read_pair(Item::Meet, fault, place)
+            }
+            Piece::Rec(name) => self.read_rec(name, place),
+            Piece::Record => self.read_record(place),
+            Piece::Last => self.tell(Item::Last),
+            Piece::Field(at, label) => self.read_field(at, label, place),
+        }
+    }
+
+    // Reads a name.
+    fn read_name(&mut self, at: usize, name: Name, place: Place) -> Result<(), Memory>
+        ensures tasks { OnOk result (tasks_of self.new ≡ tasks_of self.old) }
+        ensures known { OnOk result (known_of self.new ≡ (opened (piece.Name at name) place (tasks_of self.old) (known_of self.old)).known) }
+    {
+        let meaning = self.recs.get(&name).copied();
+        self.note(place.name_fault(at, meaning));
+        self.tell(place.name_item(name, meaning))
+    }
+
+    // Reads a function: its codomain is behind its domain.
+    fn read_arrow(&mut self, place: Place) -> Result<(), Memory>
+        requires { place.guards < 2 ^ 63 }
+        ensures tasks { OnOk result (tasks_of self.new ≡ task.Part (inside place) ∷ task.Part (domain place) ∷ tasks_of self.old) }
+        ensures known { OnOk result (known_of self.new ≡ (opened piece.Arrow place (tasks_of self.old) (known_of self.old)).known) }
+    {
+        self.plan(Task::Part(place.domain()))?;
+        self.plan(Task::Part(place.inside()))?;
+        self.tell(Item::Arrow)
+    }
+
+    // Reads a join or a meet: its fault stands between its parts.
+    fn read_pair(
+        &mut self,
+        item: Item,
+        fault: Option<TypeFault>,
+        place: Place,
+    ) -> Result<(), Memory>
+        ensures tasks { OnOk result (tasks_of self.new ≡ task.Part place ∷ notes fault ++ task.Part place ∷ tasks_of self.old) }
+        ensures known { OnOk result (known_of self.new ≡ told item (known_of self.old)) }
+    {
+        self.plan(Task::Part(place))?;
+        self.plan_note(fault)?;
+        self.plan(Task::Part(place))?;
+        self.tell(item)
+    }
+
+    // Reads a `rec`: in its body the name means the body.
+    fn read_rec(&mut self, name: Name, place: Place) -> Result<(), Memory>
+        requires { place.depth < 2 ^ 63 }
+        ensures tasks { OnOk result (tasks_of self.new ≡ (opened (piece.Rec name) place (tasks_of self.old) (known_of self.old)).tasks) }
+        ensures known { OnOk result (known_of self.new ≡ (opened (piece.Rec name) place (tasks_of self.old) (known_of self.old)).known) }
+    {
+        let body = place.body();
+        let outer = self.bind(name.clone()?, body)?;
+        self.plan(Task::Leave(name, outer))?;
+        self.plan(Task::Part(body))?;
+        self.tell(Item::Rec)
+    }
+
+    // Reads the end of a record, which has no label yet.
+    fn read_record(&mut self, place: Place) -> Result<(), Memory>
+        requires { place.guards < 2 ^ 63 }
+        ensures tasks { OnOk result (tasks_of self.new ≡ task.Part (inside place) ∷ tasks_of self.old) }
+        ensures known { OnOk result (known_of self.new ≡ (opened piece.Record place (tasks_of self.old) (known_of self.old)).known) }
+    {
+        self.forget_labels();
+        self.plan(Task::Part(place.inside()))?;
+        self.tell(Item::Record)
+    }
+
+    // Reads a field: the fields behind it stand behind its type, and its own fault before its type.
+    fn read_field(&mut self, at: usize, label: Name, place: Place) -> Result<(), Memory>
+        ensures tasks { OnOk result (tasks_of self.new ≡ (opened (piece.Field at label) place (tasks_of self.old) (known_of self.old)).tasks) }
+        ensures known { OnOk result (known_of self.new ≡ (opened (piece.Field at label) place (tasks_of self.old) (known_of self.old)).known) }
+    {
+        let is_double = self.add_label(label.clone()?)?;
+        self.plan_note(fault_if(is_double, TypeFault::DuplicateLabel(at)))?;
+        self.plan(Task::Part(place))?;
+        self.plan(Task::Part(place))?;
+        self.tell(Item::Field(label))
+    }
+
+    // Leaves a `rec`: its name means again what it meant around it.
+    fn leave(&mut self, name: Name, outer: Option<Place>) -> Result<(), Memory>
+        ensures tasks { OnOk result (tasks_of self.new ≡ tasks_of self.old) }
+        ensures known { OnOk result (known_of self.new ≡ naming name outer (known_of self.old)) }
+    {
+        match outer {
+            Some(body) => {
+                self.bind(name, body)?;
+            }
+            None => {
+                self.recs.swap_remove(&name);
+            }
+        }
+        Ok(())
+    }
+
+    // From here on the name means the `rec` whose body has this place; tells what it meant before.
+    fn bind(&mut self, name: Name, body: Place) -> Result<Option<Place>, Memory>
+        ensures outer { IfOk result (λ outer. outer ≡ (known_of self.old).recs name) }
+        ensures tasks { OnOk result (tasks_of self.new ≡ tasks_of self.old) }
+        ensures known { OnOk result (known_of self.new ≡ naming name (Some body) (known_of self.old)) }
+    {
+        let outer = self.recs.insert(name, body)?;
+        Ok(outer)
+    }
+
+    // From here on the record has no label.
+    fn forget_labels(&mut self)
+        ensures tasks { tasks_of self.new ≡ tasks_of self.old }
+        ensures known { known_of self.new ≡ without_labels (known_of self.old) }
+    {
+        self.labels.clear();
+    }
+
+    // Adds a label to those of the record, and says whether it was there.
+    fn add_label(&mut self, label: Name) -> Result<bool, Memory>
+        ensures double { IfOk result (λ double. double ≡ (known_of self.old).labels label) }
+        ensures tasks { OnOk result (tasks_of self.new ≡ tasks_of self.old) }
+        ensures known { OnOk result (known_of self.new ≡ with_label label (known_of self.old)) }
+    {
+        let (_, is_new) = self.labels.insert_full(label)?;
+        Ok(!is_new)
+    }
+
+    // Adds an item.
+    fn tell(&mut self, item: Item) -> Result<(), Memory>
+        ensures tasks { OnOk result (tasks_of self.new ≡ tasks_of self.old) }
+        ensures known { OnOk result (known_of self.new ≡ told item (known_of self.old)) }
+    {
+        self.items.push(item)?;
+        Ok(())
+    }
+
+    // Notes a fault of the place that is reached, where there is one.
+    fn note(&mut self, fault: Option<TypeFault>)
+        ensures tasks { tasks_of self.new ≡ tasks_of self.old }
+        ensures known { known_of self.new ≡ noted fault (known_of self.old) }
+    {
+        if fault.is_some() {
+            self.fault = fault;
+        }
+    }
+
+    // Makes this the next task.
+    fn plan(&mut self, task: Task) -> Result<(), Memory>
+        ensures tasks { OnOk result (tasks_of self.new ≡ task ∷ tasks_of self.old) }
+        ensures known { OnOk result (known_of self.new ≡ known_of self.old) }
+    {
+        self.tasks.push(task)?;
+        Ok(())
+    }
+
+    // Makes it the next task to note this fault, where there is one.
+    fn plan_note(&mut self, fault: Option<TypeFault>) -> Result<(), Memory>
+        ensures tasks { OnOk result (tasks_of self.new ≡ notes fault ++ tasks_of self.old) }
+        ensures known { OnOk result (known_of self.new ≡ known_of self.old) }
+    {
+        match fault {
+            Some(fault) => self.plan(Task::Note(fault)),
+            None => Ok(()),
+        }
+    }
+}
+
+#[cfg(test)]
+mod tests {
+    use super::*;
+    use mls_base::spelling::is_name;
+    use std::test::Fail;
+
+    // A name of these letters.
+    fn named(alloc: Global, letters: &str) -> Result<Name, Memory> {
+        if is_name(letters.as_bytes()) {
+            Name::new(alloc, letters.as_bytes())
+        } else {
+            Err(Memory)
+        }
+    }
+
+    // The piece that a word stands for, at a place.
+    fn piece_of(alloc: Global, at: usize, word: &str) -> Result<Piece, Memory> {
+        if let Some(name) = word.strip_prefix("rec.") {
+            return Ok(Piece::Rec(named(alloc, name)?));
+        }
+        if let Some(label) = word.strip_suffix(":") {
+            return Ok(Piece::Field(at, named(alloc, label)?));
+        }
+        match word {
+            "bool" => Ok(Piece::Bool),
+            "int" => Ok(Piece::Int),
+            "top" => Ok(Piece::Top(at)),
+            "bot" => Ok(Piece::Bot(at)),
+            "->" => Ok(Piece::Arrow),
+            "|" => Ok(Piece::Join(at)),
+            "&" => Ok(Piece::Meet(at)),
+            "{}" => Ok(Piece::Record),
+            "." => Ok(Piece::Last),
+            _ => Ok(Piece::Name(at, named(alloc, word)?)),
+        }
+    }
+
+    // Writes the word for an item.
+    fn write_item(line: &mut String, item: &Item) -> Result<(), Memory> {
+        match item {
+            Item::Variable(name) => write!(line, " {}", name.as_str())?,
+            Item::Again(k) => write!(line, " #{k}")?,
+            Item::Bool => line.push_str(" bool")?,
+            Item::Int => line.push_str(" int")?,
+            Item::Top => line.push_str(" top")?,
+            Item::Bot => line.push_str(" bot")?,
+            Item::Arrow => line.push_str(" ->")?,
+            Item::Join => line.push_str(" |")?,
+            Item::Meet => line.push_str(" &")?,
+            Item::Rec => line.push_str(" rec")?,
+            Item::Record => line.push_str(" {}")?,
+            Item::Last => line.push_str(" .")?,
+            Item::Field(label) => write!(line, " {}:", label.as_str())?,
+        }
+        Ok(())
+    }
+
+    // The items of the pieces that the words stand for, or their fault. The place of a piece is the number of its word.
+    fn shown(alloc: Global, words: &str) -> Result<String, Memory> {
+        let mut pieces = Vec::new(alloc);
+        for (at, word) in words.split_whitespace().enumerate() {
+            pieces.push(piece_of(alloc, at, word)?)?;
+        }
+        let mut line = String::new(alloc);
+        match resolve(alloc, pieces) {
+            Ok(items) => {
+                for item in &items {
+                    write_item(&mut line, item)?;
+                }
+            }
+            Err(fault) => write!(line, "{fault:?}")?,
+        }
+        Ok(line)
+    }
+
+    #[test]
+    fn tells_what_names_mean(rt: HostRuntime) -> Result<(), Fail> {
+        let cases = [
+            ("a", " a"),
+            ("top bot ->", " -> bot top"),
+            ("int a -> rec.a", " rec -> #0 int"),
+            // (rec a. (a -> int) -> int)
+            ("a int -> int -> rec.a", " rec -> int -> int #0"),
+            // a -> rec a. {l: a}
+            ("a a . l: {} rec.a ->", " -> rec {} l: . #0 a"),
+            // rec a. rec b. {l: a, m: b}
+            ("a b . m: l: {} rec.b rec.a", " rec rec {} l: m: . #0 #1"),
+            // rec a. {n: a, l: rec b. rec a. {m: a, k: b}}
+            (
+                "a a b . k: m: {} rec.a rec.b . l: n: {} rec.a",
+                " rec {} n: l: . rec rec {} m: k: . #1 #0 #0",
+            ),
+            // rec l. {l: l}
+            ("l . l: {} rec.l", " rec {} l: . #0"),
+            // rec a. (rec a. {l: a}) -> int
+            ("a . l: {} rec.a int -> rec.a", " rec -> int rec {} l: . #0"),
+            // {l: {l: int}, m: {l: bool}}
+            (
+                "int . l: {} bool . l: {} . m: l: {}",
+                " {} l: m: . {} l: . bool {} l: . int",
+            ),
+        ];
+        for (words, want) in cases {
+            let line = shown(rt.alloc(), words)?;
+            assert_eq!(rt; line.as_str(), want);
+        }
+        Ok(())
+    }
+
+    #[test]
+    fn tells_the_first_fault(rt: HostRuntime) -> Result<(), Fail> {
+        let cases = [
+            ("top", "NotPolar(0)"),
+            ("bot int ->", "NotPolar(0)"),
+            ("int bool &", "NotPolar(2)"),
+            // int | bool -> int
+            ("int bool | int ->", "NotPolar(2)"),
+            ("int bool & top ->", "NotPolar(3)"),
+            ("a rec.a", "Unguarded(0)"),
+            ("int a | rec.a", "Unguarded(1)"),
+            ("int a rec.a ->", "Unguarded(1)"),
+            // rec a. {l: rec b. b}
+            ("b rec.b . l: {} rec.a", "Unguarded(0)"),
+            ("a int -> rec.a", "Contravariant(0)"),
+            // {l: int, m: int, l: bool}
+            ("int int bool . l: m: l: {}", "DuplicateLabel(4)"),
+            ("int int int . l: l: l: {}", "DuplicateLabel(5)"),
+            // {l: top, l: top}, {l: int, l: top}
+            ("top top . l: l: {}", "NotPolar(0)"),
+            ("int top . l: l: {}", "DuplicateLabel(3)"),
+            // top & bot, int & top
+            ("top bot &", "NotPolar(0)"),
+            ("int top &", "NotPolar(2)"),
+            // rec a. a | (a -> int), rec a. (a -> int) | a
+            ("a a int -> | rec.a", "Unguarded(0)"),
+            ("a int -> a | rec.a", "Contravariant(0)"),
+        ];
+        for (words, want) in cases {
+            let line = shown(rt.alloc(), words)?;
+            assert_eq!(rt; line.as_str(), want);
+        }
+        Ok(())
+    }
+
+    #[test]
+    fn goes_as_deep_as_memory_allows(rt: HostRuntime) -> Result<(), Fail> {
+        let alloc = rt.alloc();
+        let mut pieces = Vec::new(alloc);
+        pieces.push(Piece::Name(0, named(alloc, "b")?))?;
+        for _ in 0..100_000 {
+            pieces.push(Piece::Last)?;
+            pieces.push(Piece::Field(0, named(alloc, "l")?))?;
+            pieces.push(Piece::Record)?;
+        }
+        for _ in 0..100_000 {
+            pieces.push(Piece::Rec(named(alloc, "a")?))?;
+        }
+        pieces.push(Piece::Rec(named(alloc, "b")?))?;
+        for _ in 0..100_000 {
+            pieces.push(Piece::Int)?;
+            pieces.push(Piece::Arrow)?;
+        }
+        let mut line = String::new(alloc);
+        match resolve(alloc, pieces) {
+            Ok(items) => {
+                write!(line, "{}", items.len())?;
+                if let Some(item) = items.last() {
+                    write_item(&mut line, item)?;
+                }
+            }
+            Err(fault) => write!(line, "{fault:?}")?,
+        }
+        assert_eq!(rt; line.as_str(), "600002 #100000");
+        Ok(())
+    }
+}
