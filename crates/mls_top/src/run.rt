@@ -282,7 +282,10 @@ mod tests {
                 _ => {
                     let mut line = String::new(alloc);
                     let column = n + 1;
-                    write!(line, "main.ml:1:{column}: fault 4: the text ends too early\n")?;
+                    write!(
+                        line,
+                        "main.ml:1:{column}: fault 4: the text ends too early\n"
+                    )?;
                     line
                 }
             };
