@@ -209,8 +209,8 @@ mod tests {
     }
 
     #[test]
-    fn reads_every_form(rt: HostRuntime) -> Result<(), Fail> {
-        let cases: [(&[u8], &str); 44] = [
+    fn reads_names_and_operators(rt: HostRuntime) -> Result<(), Fail> {
+        let cases: [(&[u8], &str); 15] = [
             (b"", ""),
             (b"# nothing", ""),
             (b"import k", "import k@7; "),
@@ -247,6 +247,17 @@ mod tests {
                 b"let a = 1 + 2 - 3",
                 "a@4: -@14 +@10 1@8 apply 1 2@10 2@12 apply 3 4@10 apply 0 5@14 3@16 apply 6 7@14; ",
             ),
+        ];
+        for (text, want) in cases {
+            let line = shown(rt.alloc(), text)?;
+            assert_eq!(rt; line.as_str(), want);
+        }
+        Ok(())
+    }
+
+    #[test]
+    fn reads_applications_and_records(rt: HostRuntime) -> Result<(), Fail> {
+        let cases: [(&[u8], &str); 15] = [
             (
                 b"let a = 1 + 2 * 3",
                 "a@4: +@10 1@8 apply 0 1@10 *@14 2@12 apply 3 4@14 3@16 apply 5 6@14 apply 2 7@10; ",
@@ -292,6 +303,17 @@ mod tests {
                 b"let a = r.f x.y 1",
                 "a@4: r@8 0.f@10 x@12 2.y@14 apply 1 3@8 1@16 apply 4 5@8; ",
             ),
+        ];
+        for (text, want) in cases {
+            let line = shown(rt.alloc(), text)?;
+            assert_eq!(rt; line.as_str(), want);
+        }
+        Ok(())
+    }
+
+    #[test]
+    fn reads_choices_and_lets(rt: HostRuntime) -> Result<(), Fail> {
+        let cases: [(&[u8], &str); 14] = [
             (b"let a = {}", "a@4: { }@8; "),
             (
                 b"let a = {x = 1, y = {}}",
@@ -336,8 +358,8 @@ mod tests {
     }
 
     #[test]
-    fn answers_the_first_fault(rt: HostRuntime) -> Result<(), Fail> {
-        let cases: [(&[u8], &str); 62] = [
+    fn answers_what_ends_too_early(rt: HostRuntime) -> Result<(), Fail> {
+        let cases: [(&[u8], &str); 16] = [
             (b"$", "BadByte(0)"),
             (b"let a = @", "BadByte(8)"),
             (b"let n = 9223372036854775808", "BigNumber(8)"),
@@ -354,6 +376,17 @@ mod tests {
             (b"import", "Ended"),
             (b"let a = (", "Ended"),
             (b"let a = (1", "Ended"),
+        ];
+        for (text, want) in cases {
+            let line = shown(rt.alloc(), text)?;
+            assert_eq!(rt; line.as_str(), want);
+        }
+        Ok(())
+    }
+
+    #[test]
+    fn answers_what_is_unexpected(rt: HostRuntime) -> Result<(), Fail> {
+        let cases: [(&[u8], &str); 16] = [
             (b"let a = {", "Ended"),
             (b"let a = {x", "Ended"),
             (b"let a = {x =", "Ended"),
@@ -370,6 +403,17 @@ mod tests {
             (b"let a = )", "Unexpected(8, ParenRight)"),
             (b"let a = 1)", "Unexpected(9, ParenRight)"),
             (b"let let", "Unexpected(4, WordLet)"),
+        ];
+        for (text, want) in cases {
+            let line = shown(rt.alloc(), text)?;
+            assert_eq!(rt; line.as_str(), want);
+        }
+        Ok(())
+    }
+
+    #[test]
+    fn answers_where_no_module_goes_on(rt: HostRuntime) -> Result<(), Fail> {
+        let cases: [(&[u8], &str); 16] = [
             (b"let and = 1", "Unexpected(4, WordAnd)"),
             (b"let a a", "Unexpected(6, Name)"),
             (b"let a = =", "Unexpected(8, Equals)"),
@@ -386,6 +430,17 @@ mod tests {
             (b"let a = r.1", "Unexpected(10, Number)"),
             (b"let a = if 1 else 2", "Unexpected(13, WordElse)"),
             (b"let a = let x = 1 let b = 2", "Unexpected(18, WordLet)"),
+        ];
+        for (text, want) in cases {
+            let line = shown(rt.alloc(), text)?;
+            assert_eq!(rt; line.as_str(), want);
+        }
+        Ok(())
+    }
+
+    #[test]
+    fn answers_what_is_given_twice(rt: HostRuntime) -> Result<(), Fail> {
+        let cases: [(&[u8], &str); 14] = [
             (b"let a = 1 in 2", "Unexpected(10, WordIn)"),
             (b"val x : int", "Unexpected(0, WordVal)"),
             (b"let a = 1 | 2", "Unexpected(10, Bar)"),

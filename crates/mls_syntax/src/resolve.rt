@@ -106,6 +106,9 @@ mod tests {
     // The binders, lets and nodes of each term of a text.
     fn shown(alloc: Global, text: &[u8]) -> Result<String, Fault> {
         let module = parse_module(alloc, text)?;
+        if let Some(import) = module.imports.as_slice().first() {
+            return Err(Fault::NotBuilt(import.at));
+        }
         let resolved = resolve(alloc, &module, &[])?;
         let mut line = String::new(alloc);
         for binding in resolved.bindings.as_slice() {
@@ -124,8 +127,8 @@ mod tests {
     }
 
     #[test]
-    fn names_mean_what_is_around_them(rt: HostRuntime) -> Result<(), Fail> {
-        let cases: [(&[u8], &str); 19] = [
+    fn names_mean_the_innermost_binder(rt: HostRuntime) -> Result<(), Fail> {
+        let cases: [(&[u8], &str); 10] = [
             (b"", ""),
             (
                 b"let k = fun x -> fun y -> x",
@@ -160,6 +163,17 @@ mod tests {
                 b"let a = let x = 7 in fun x -> x",
                 "4: 1 1 Number(7)@16 Bound(0)@30 Fun(0, 1)@21 Let(0, 0, 2)@8; ",
             ),
+        ];
+        for (text, want) in cases {
+            let line = shown(rt.alloc(), text)?;
+            assert_eq!(rt; line.as_str(), want);
+        }
+        Ok(())
+    }
+
+    #[test]
+    fn binders_and_lets_are_numbered_by_the_text(rt: HostRuntime) -> Result<(), Fail> {
+        let cases: [(&[u8], &str); 9] = [
             (
                 b"let a = let x = fun y -> y in fun z -> x z",
                 "4: 2 1 Bound(0)@25 Fun(0, 0)@16 Inner(0)@39 Bound(1)@41 Apply(2, 3)@39 Fun(1, 4)@30 Let(0, 1, 5)@8; ",

@@ -52,16 +52,27 @@ fn is_built(form: &TermForm) -> bool
 #[cfg(test)]
 mod tests {
     use super::*;
-    use crate::parse::parse_module;
+    use crate::parse::{Fault, parse_module};
     use crate::resolve::resolve;
+    use std::alloc::Global;
     use std::test::Fail;
 
-    #[test]
-    fn what_is_read_so_far_is_built(rt: HostRuntime) -> Result<(), Fail> {
-        let alloc = rt.alloc();
-        let module = parse_module(alloc, b"let k = fun x -> fun y -> x let t = true let n = 7")?;
+    // The least place of a node of a text whose form is not built.
+    fn unbuilt_of(alloc: Global, text: &[u8]) -> Result<Option<usize>, Fault> {
+        let module = parse_module(alloc, text)?;
+        if let Some(import) = module.imports.as_slice().first() {
+            return Err(Fault::NotBuilt(import.at));
+        }
         let resolved = resolve(alloc, &module, &[])?;
-        assert_eq!(rt; first_unbuilt(&resolved), None);
+        Ok(first_unbuilt(&resolved))
+    }
+
+    #[test]
+    fn tells_the_least_place(rt: HostRuntime) -> Result<(), Fail> {
+        let built = b"let k = fun x -> fun y -> x let t = true let n = 7";
+        assert_eq!(rt; unbuilt_of(rt.alloc(), built)?, None);
+        let other = b"let f = fun x -> (x + 1) (x x)";
+        assert_eq!(rt; unbuilt_of(rt.alloc(), other)?, Some(17));
         Ok(())
     }
 }
