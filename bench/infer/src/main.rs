@@ -597,18 +597,9 @@ fn write_texts(folder: &str) -> std::io::Result<()> {
         label += 1;
     }
     fs::write(format!("{folder}/record.ml"), record + "}")?;
-    let nested = |open: &str, leaf: &str, close: &str| {
-        let mut text = String::new();
-        let mut number = 0;
-        while text.len() < 1_040_000 {
-            let _ = writeln!(text, "let d{number} = {}{leaf}{}", open.repeat(199), close.repeat(199));
-            number += 1;
-        }
-        text
-    };
-    fs::write(format!("{folder}/lets.ml"), nested("let x = 1 in ", "x", ""))?;
-    fs::write(format!("{folder}/records.ml"), nested("{l = ", "1", "}"))?;
-    fs::write(format!("{folder}/choices.ml"), nested("if true then 1 else ", "1", ""))?;
+    fs::write(format!("{folder}/lets.ml"), deep("let x = 1 in ", "x", ""))?;
+    fs::write(format!("{folder}/records.ml"), deep("{l = ", "1", "}"))?;
+    fs::write(format!("{folder}/choices.ml"), deep("if true then 1 else ", "1", ""))?;
     fs::write(format!("{folder}/imports.ml"), (0..70_000).fold(String::new(), |mut text, number| {
         let _ = writeln!(text, "import m{number}");
         text
