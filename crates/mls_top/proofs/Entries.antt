@@ -1,7 +1,7 @@
 -- The signature of some bindings, entry by entry.
 use Rattle.std.proofs.Common.{◌≡◌, ℕ, List, [], ◌∷◌, ◌++◌, reverse, refl, sym, ap, ◌∙◌, append_assoc, append-nil, codes}
-use Rattle.mls_syntax.specs.declared.term.ResolvedBinding.{ResolvedBinding}
-use Rattle.mls_syntax.specs.Resolution.{HasChain}
+use Rattle.mls_term.specs.declared.term.ResolvedBinding.{ResolvedBinding}
+use Rattle.mls_names.specs.Resolution.{HasChain}
 use Rattle.mls_top.specs.Chains.{leaf_use, type_text}
 use Rattle.mls_top.specs.Outcomes.{Entry, known_after, IsEntryOf, AreEntriesOf, entry_line, signature_text}
 use Rattle.mls_top.specs.Answering.{IsSignature, AddsEntry}

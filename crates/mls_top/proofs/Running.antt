@@ -4,16 +4,16 @@ use Rattle.std.specs.Prelude.{Option, Some, None, IfSome, IsFalse}
 use Rattle.mls_base.specs.Files.{Files}
 use Rattle.mls_io.specs.Counts.{Rose}
 use Rattle.mls_io.specs.Sinks.{Written}
-use Rattle.mls_syntax.specs.declared.module.Module.{Module}
-use Rattle.mls_syntax.specs.declared.module.Import.{Import}
-use Rattle.mls_syntax.specs.declared.term.Resolved.{Resolved}
-use Rattle.mls_syntax.specs.Modules.{IsModuleText}
-use Rattle.mls_syntax.specs.FirstFaults.{HasFirstFault}
-use Rattle.mls_syntax.specs.Resolution.{Resolves, HasUnknownName}
-use Rattle.mls_syntax.specs.Unbuilt.{IsBuilt, IsLeastUnbuilt}
-use Rattle.mls_syntax.proofs.ModuleLaws.{one_module, no_fault_beside_a_module}
-use Rattle.mls_syntax.proofs.OneResolution.{one_resolution, no_unknown_name_beside_a_resolution}
-use Rattle.mls_syntax.proofs.LeastPlaces.{none_unbuilt}
+use Rattle.mls_grammar.specs.declared.module.Module.{Module}
+use Rattle.mls_grammar.specs.declared.module.Import.{Import}
+use Rattle.mls_term.specs.declared.term.Resolved.{Resolved}
+use Rattle.mls_grammar.specs.Modules.{IsModuleText}
+use Rattle.mls_grammar.specs.FirstFaults.{HasFirstFault}
+use Rattle.mls_names.specs.Resolution.{Resolves, HasUnknownName}
+use Rattle.mls_names.specs.Unbuilt.{IsBuilt, IsLeastUnbuilt}
+use Rattle.mls_grammar.proofs.ModuleLaws.{one_module, no_fault_beside_a_module}
+use Rattle.mls_names.proofs.OneResolution.{one_resolution, no_unknown_name_beside_a_resolution}
+use Rattle.mls_names.proofs.LeastPlaces.{none_unbuilt}
 use Rattle.mls_top.specs.declared.status.Status.{Status}
 use Rattle.mls_top.specs.declared.status.Status.TheVariants.{Done, BadText, NoFile, ReadFault, WriteFault, Memory, Usage, TooLong}
 use Rattle.mls_top.specs.declared.command.Command.{Command}

@@ -3,18 +3,18 @@ use Rattle.std.specs.Prelude.{◌≡◌, ℕ, nat_lt, if◌then◌else◌, List,
 use Rattle.std.specs.FinMap as env
 use Rattle.mls_base.specs.Files.{Files, bytes_at}
 use Rattle.mls_lexer.specs.Tokens.{line_of, column_of}
-use Rattle.mls_syntax.specs.declared.module.Module.{Module}
-use Rattle.mls_syntax.specs.declared.term.Resolved.{Resolved}
-use Rattle.mls_syntax.specs.declared.term.ResolvedBinding.{ResolvedBinding}
-use Rattle.mls_syntax.specs.declared.parse.Fault.{Fault}
-use Rattle.mls_syntax.specs.declared.module.Import.{Import}
-use Rattle.mls_syntax.specs.declared.parse.Fault.TheVariants.{NotBuilt}
-use Rattle.mls_syntax.specs.Modules.{IsModuleText}
-use Rattle.mls_syntax.specs.FirstFaults.{HasFirstFault}
-use Rattle.mls_syntax.specs.Resolution.{Resolves, HasUnknownName}
-use Rattle.mls_syntax.specs.Unbuilt.{IsBuilt, IsLeastUnbuilt}
-use Rattle.mls_syntax.specs.Terms.{TermTree, postorder}
-use Rattle.mls_syntax.specs.Derivations.{Known, IsBest}
+use Rattle.mls_grammar.specs.declared.module.Module.{Module}
+use Rattle.mls_term.specs.declared.term.Resolved.{Resolved}
+use Rattle.mls_term.specs.declared.term.ResolvedBinding.{ResolvedBinding}
+use Rattle.mls_grammar.specs.declared.fault.Fault.{Fault}
+use Rattle.mls_grammar.specs.declared.module.Import.{Import}
+use Rattle.mls_grammar.specs.declared.fault.Fault.TheVariants.{NotBuilt}
+use Rattle.mls_grammar.specs.Modules.{IsModuleText}
+use Rattle.mls_grammar.specs.FirstFaults.{HasFirstFault}
+use Rattle.mls_names.specs.Resolution.{Resolves, HasUnknownName}
+use Rattle.mls_names.specs.Unbuilt.{IsBuilt, IsLeastUnbuilt}
+use Rattle.mls_term.specs.Terms.{TermTree, postorder}
+use Rattle.mls_term.specs.Derivations.{Known, IsBest}
 use Rattle.mls_typetext.specs.declared.scheme.ReadScheme.{ReadScheme}
 use Rattle.mls_typetext.specs.Schemes.{scheme_of, environment}
 use Rattle.mls_typetext.specs.Texts.{IsTypeText}

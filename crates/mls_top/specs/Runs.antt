@@ -2,11 +2,11 @@
 use Rattle.std.specs.Prelude.{◌≡◌, ◌⊎◌, ℕ, List, [], Ok, Some}
 use Rattle.mls_base.specs.Files.{Files}
 use Rattle.mls_io.specs.Sinks.{Written, Adds, TakesNone}
-use Rattle.mls_syntax.specs.declared.module.Module.{Module}
-use Rattle.mls_syntax.specs.declared.term.Resolved.{Resolved}
-use Rattle.mls_syntax.specs.Modules.{IsModuleText}
-use Rattle.mls_syntax.specs.Resolution.{Resolves}
-use Rattle.mls_syntax.specs.Unbuilt.{IsBuilt}
+use Rattle.mls_grammar.specs.declared.module.Module.{Module}
+use Rattle.mls_term.specs.declared.term.Resolved.{Resolved}
+use Rattle.mls_grammar.specs.Modules.{IsModuleText}
+use Rattle.mls_names.specs.Resolution.{Resolves}
+use Rattle.mls_names.specs.Unbuilt.{IsBuilt}
 use Rattle.mls_top.specs.declared.status.Status.{Status}
 use Rattle.mls_top.specs.declared.status.Status.TheVariants.{Memory, Usage}
 use Rattle.mls_top.specs.Answers.{IsAnswer, IsFrontOfAnswer}
