@@ -8,5 +8,6 @@ pub mod Readings
 pub mod Shapes
 pub mod Shifts
 pub mod Terminals
+pub mod Total
 pub mod Values
 pub mod Writings
