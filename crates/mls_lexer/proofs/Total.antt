@@ -127,11 +127,14 @@ module _ (text : List ℕ) (from : ℕ) (low : from ≤ length text) where
       by_byte (inr stop) further =
           let width : (from + i) - from ≡ i = omega arith in
           let here : get_or text (from + i) 0 ≡ byte = sym (get_or-drop from text i 0) in
-          inr (from + i, record {
-            inside = (omega arith, omega arith);
-            separated = ap (λ n. gap false (take n (drop from text))) width ∙ so_far;
-            stop = ap begins_gap here ∙ stop;
-          })
+          inr (
+            from + i,
+            record {
+              inside = (omega arith, omega arith);
+              separated = ap (λ n. gap false (take n (drop from text))) width ∙ so_far;
+              stop = ap begins_gap here ∙ stop;
+            },
+          )
 
 -- a text is read whole, or up to a fault
 abbrev IsReadOrFaulty : List ℕ → Type 0
