@@ -4,7 +4,7 @@ use Rattle.mls_lexer.specs.declared.token.Token.{Token}
 use Rattle.mls_lexer.specs.declared.token.LexFault.{LexFault}
 use Rattle.mls_lexer.specs.declared.token.LexFault.TheVariants.{BadByte, BigNumber, Memory}
 use Rattle.mls_lexer.specs.Tokens.{IsGap, IsLastGap, IsLongest, IsToken, Follow, IsTokens, HasTokenFault, bad_byte, big_number}
-use Rattle.mls_lexer.specs.Steps.{ComesNext, IsBigNumber, StandsAt}
+use Rattle.mls_lexer.specs.steps.Scanning.{ComesNext, IsBigNumber, StandsAt}
 
 -- what holds after the tokens may be weakened
 pub Follow-map : (text : List ℕ) (place : ℕ) (tokens : List Token) (R S : ℕ → Type 0) → ((q : ℕ) → R q → S q)

@@ -4,6 +4,7 @@ pub mod Gaps
 pub mod Longest
 pub mod Machine
 pub mod Pieces
+pub mod Places
 pub mod Readings
 pub mod Shapes
 pub mod Shifts

@@ -9,7 +9,7 @@ use Rattle.mls_base.specs.Spelling.{is_spelled, is_lower, is_name_byte}
 use Rattle.mls_lexer.specs.declared.token.Kind.{Kind}
 use Rattle.mls_lexer.specs.declared.token.Kind.TheVariants.{Number}
 use Rattle.mls_lexer.specs.Tokens.{is_digit, symbol_kind, word_kind, shape, digits_value, largest_number, IsLongest, IsToken}
-use Rattle.mls_lexer.specs.Steps.{IsBigNumber}
+use Rattle.mls_lexer.specs.steps.Scanning.{IsBigNumber}
 use Rattle.mls_lexer.proofs.Shapes.{no_symbol, no_shape, no_symbol_lower, no_symbol_digit, lower-digit, digit-lower, is_number_kind, word-number, is_number-from_shape, symbol_kind_tested, shape-word, shape-number, shape-symbol}
 use Rattle.mls_lexer.proofs.Longest.{is_short, IsLongest-by_next}
 

@@ -9,7 +9,7 @@ use Rattle.mls_lexer.specs.declared.token.Token.{Token}
 use Rattle.mls_lexer.specs.declared.token.LexFault.{LexFault}
 use Rattle.mls_lexer.specs.declared.token.LexFault.TheVariants.{BadByte, BigNumber, Memory}
 use Rattle.mls_lexer.specs.Tokens.{begins_gap, is_digit, is_number, gap, IsGap, IsLastGap, shape, digits_value, largest_number, IsLongest, IsToken, Follow, IsTokens, HasTokenFault, bad_byte, big_number, Terminal, terminals, HasTerminals}
-use Rattle.mls_lexer.specs.Steps.{ComesNext, StandsAt}
+use Rattle.mls_lexer.specs.steps.Scanning.{ComesNext, StandsAt}
 use Rattle.mls_lexer.proofs.Gaps.{gap-append, gap-stop}
 use Rattle.mls_lexer.proofs.Shapes.{IsShaped, a_word, a_number, a_symbol, IsShaped-from_shape, symbol_tested, shape-number}
 use Rattle.mls_lexer.proofs.Longest.{slice_front, drop_front}

@@ -1,9 +1,9 @@
 -- Lists in the order of the text: each member has the place of a token, and the tokens come one after another.
-use Rattle.std.proofs.Common.{◌≡◌, ℕ, zero, suc, ◌+◌, ◌<◌, ◌≤◌, Bool, true, false, if◌then◌else◌, List, [], ◌∷◌, ◌++◌, length, All, Some, sym, ap, ◌∙◌, subst, arith}
-use Rattle.std.specs.Prelude.{slice_get}
+use Rattle.std.proofs.Common.{◌≡◌, ℕ, zero, suc, ◌+◌, ◌<◌, ◌≤◌, Bool, true, false, if◌then◌else◌, List, [], ◌∷◌, ◌++◌, length, All, Some, refl, sym, ap, ◌∙◌, subst, arith}
+use Rattle.std.specs.Prelude.{slice_get, option_map, unwrap_or}
 use Rattle.std.proofs.lemmas.List.Elements.{All-cons}
 use Rattle.mls_lexer.specs.declared.token.Token.{Token}
-use Rattle.mls_lexer.specs.Tokens.{IsToken, IsTokens, Follow}
+use Rattle.mls_lexer.specs.Tokens.{IsToken, IsTokens, Follow, place_of}
 
 -- the tokens of a text have rising places
 follow_rises : (text : List ℕ) (place : ℕ) (tokens : List Token) (R : ℕ → Type 0) → Follow text place tokens R
@@ -31,6 +31,22 @@ tokens_rise_after text place (first ∷ tokens) R h (suc i) (suc j) s t less at 
 pub tokens_rise : (text : List ℕ) (tokens : List Token) → IsTokens text tokens
     → (i j : ℕ) (s t : Token) → i < j → slice_get tokens i ≡ Some s → slice_get tokens j ≡ Some t → s.start < t.start
 tokens_rise text tokens are = tokens_rise_after text 0 tokens _ are
+
+-- there is a token of each number below their count
+pub token_at : (tokens : List Token) (k : ℕ) → k < length tokens → (token : Token) × (slice_get tokens k ≡ Some token)
+token_at [] k low = absurd (omega arith)
+token_at (t ∷ tokens) zero low = (t, refl)
+token_at (t ∷ tokens) (suc k) low = token_at tokens k (omega arith)
+
+pub places_rise : (text : List ℕ) (tokens : List Token) → IsTokens text tokens → (i j : ℕ) → i < j → j < length tokens
+    → place_of tokens i < place_of tokens j
+places_rise text tokens are i j less low =
+    let s = token_at tokens i (omega arith) in
+    let t = token_at tokens j low in
+    let at : place_of tokens i ≡ s.0.start = ap (λ o. unwrap_or (option_map (λ (token : Token). token.start) o) 0) s.1 in
+    let at' : place_of tokens j ≡ t.0.start = ap (λ o. unwrap_or (option_map (λ (token : Token). token.start) o) 0) t.1 in
+    let rise = tokens_rise text tokens are i j s.0 t.0 less s.1 t.1 in
+    omega arith
 
 -- Lists whose members stand at places of tokens, one after another.
 module _ {X : Type 0} (at : X → ℕ) (place : ℕ → ℕ) where
@@ -74,7 +90,7 @@ module _ {X : Type 0} (at : X → ℕ) (place : ℕ → ℕ) where
       All-cons (λ y. bound ≤ at y) x xs here rest
 
   pub rises-least : (low high : ℕ) (x : X) (xs : List X) → Rises low high (x ∷ xs)
-      → ((i j : ℕ) → i < j → j < high → place i < place j) → All (λ other. at x ≤ at other) xs
+      → ((i j : ℕ) → low ≤ i → i < j → j < high → place i < place j) → All (λ other. at x ≤ at other) xs
   rises-least low high x xs h up =
       rises-later (suc h.0) high xs h.3 (at x)
-      (λ k le less. let rise = up h.0 k (omega arith) less in let is = h.2 in omega arith)
+      (λ k le less. let rise = up h.0 k h.1 (omega arith) less in let is = h.2 in omega arith)

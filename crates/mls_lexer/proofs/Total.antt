@@ -9,7 +9,7 @@ use Rattle.mls_lexer.specs.declared.token.Token.{Token}
 use Rattle.mls_lexer.specs.declared.token.LexFault.{LexFault}
 use Rattle.mls_lexer.specs.declared.token.LexFault.TheVariants.{BadByte, BigNumber}
 use Rattle.mls_lexer.specs.Tokens.{is_space, begins_gap, gap, IsLastGap, shape, is_number, digits_value, largest_number, IsLongest, IsToken, IsTokens, HasTokenFault}
-use Rattle.mls_lexer.specs.Steps.{ComesNext, StandsAt}
+use Rattle.mls_lexer.specs.steps.Scanning.{ComesNext, StandsAt}
 use Rattle.mls_lexer.proofs.Gaps.{more_comment, more_hash, more_space}
 use Rattle.mls_lexer.proofs.Shapes.{is_number-from_shape}
 use Rattle.mls_lexer.proofs.Follows.{EndAt, EndAt-push, IsTokens-end, HasTokenFault-at}

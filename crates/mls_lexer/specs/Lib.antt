@@ -1,4 +1,4 @@
 pub mod Laws
 pub mod Spellings
-pub mod Steps
 pub mod Tokens
+pub mod steps

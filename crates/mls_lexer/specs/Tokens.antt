@@ -1,5 +1,5 @@
 -- The tokens of a text, its first fault, and the places of its bytes.
-use Rattle.std.specs.Prelude.{◌≡◌, ℕ, ◌+◌, ◌-◌, ◌*◌, ◌<◌, ◌≤◌, Bool, true, false, not, ◌&&◌, ◌||◌, nat_le, ◌==◌, if◌then◌else◌, List, [], ◌∷◌, map, length, reverse, take, drop, slice_range, slice_index, fold, find, take_while, count_by, codes, bytes_eq, Option, Some, None, unwrap_or, option_map, IsSome, IsTrue, IsFalse}
+use Rattle.std.specs.Prelude.{◌≡◌, ℕ, ◌+◌, ◌-◌, ◌*◌, ◌<◌, ◌≤◌, Bool, true, false, not, ◌&&◌, ◌||◌, nat_le, ◌==◌, if◌then◌else◌, List, [], ◌∷◌, map, length, reverse, take, drop, slice_range, slice_index, slice_get, fold, find, take_while, count_by, codes, bytes_eq, Option, Some, None, unwrap_or, option_map, IsSome, IsTrue, IsFalse}
 use Rattle.std.specs.List.{list_all, zip}
 use Rattle.mls_base.specs.Spelling.{reserved_words, is_spelled}
 use Rattle.mls_lexer.specs.declared.token.Token.{Token}
@@ -135,6 +135,10 @@ terminal text token = terminal_of token.kind (slice_range text token.start token
 -- tokens of a text without their places
 abbrev pub terminals : List ℕ → List Token → List Terminal
 terminals text tokens = map (λ token. terminal text token) tokens
+
+-- the place of token k, and 0 past the last
+abbrev pub place_of : List Token → ℕ → ℕ
+place_of tokens k = unwrap_or (option_map (λ token. token.start) (slice_get tokens k)) 0
 
 -- the text has tokens, and without their places they are these
 abbrev pub HasTerminals : List ℕ → List Terminal → Type 0

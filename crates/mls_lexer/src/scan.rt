@@ -2,7 +2,7 @@
 ghost use Rattle.std.specs.Prelude.{◌≡◌, ◌≢◌, ◌<◌, ◌≤◌, ◌+◌, length, drop, slice_range, slice_index, take_while, All, IfOk, IfErr, MatchOption, IsTrue, IsFalse};
 ghost use Rattle.mls_base.specs.Spelling.{is_lower, is_name_byte};
 ghost use Rattle.mls_lexer.specs.Tokens.{is_space, is_digit, word_kind, symbol_kind, shape, digits_value, largest_number, IsLongest, IsLastGap, IsTokens, IsToken, HasTokenFault};
-ghost use Rattle.mls_lexer.specs.Steps.{ComesNext, StandsAt};
+ghost use Rattle.mls_lexer.specs.steps.Scanning.{ComesNext, StandsAt};
 
 use crate::kinds::{one_byte_symbol, two_byte_symbol, word_kind};
 use crate::number::value_of;

@@ -6,7 +6,8 @@ use Rattle.mls_syntax.specs.declared.piece.Event.{Event}
 use Rattle.mls_syntax.specs.Phrases.{Sort, source, imports, bindings, expr, let_rest, compare_tail, sum, sum_tail, product, product_tail, apply, arguments, post, dots, atom, Phrase, whole, no_import, importing, no_binding, binding, simple, recursive, fun, fix, local, choice, plain, simple_in, recursive_in, no_compare, less, equal, summed, no_sum, plus, minus, multiplied, no_product, times, applied, no_argument, argument, posted, no_dot, dot, variable, literal, truth, parens, braces, no_part, first_part, last_part, next_part, width}
 use Rattle.mls_syntax.specs.Building.{Todo, a, arguments_of, let_of, tell, build, last_told, beginning}
 use Rattle.mls_syntax.specs.Pieces.{emitted, given}
-use Rattle.mls_syntax.proofs.Spelled.{Placed, spells}
+use Rattle.mls_lexer.specs.steps.Placed.{Placed}
+use Rattle.mls_syntax.proofs.Spelled.{spells}
 use Rattle.mls_syntax.proofs.Closing.{Closes, First, weaker, no_tail, closed_then, closed_else, closed_in, closed_paren, before_bindings, behind_imports, before_compare, before_sum, before_product, before_arguments, before_parts}
 use Rattle.mls_syntax.proofs.Reading.{told_all, Goes, first_then, tells, then_tells, then_closes, alike, over, no_more_arguments, stays, takes}
 

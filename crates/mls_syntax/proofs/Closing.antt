@@ -4,7 +4,8 @@ use Rattle.mls_lexer.specs.declared.token.Kind.TheVariants as kind
 use Rattle.mls_lexer.specs.Tokens.{Terminal, word}
 use Rattle.mls_syntax.specs.Phrases.{Sort, source, imports, bindings, bind_rest, expr, let_rest, compare_tail, sum, sum_tail, product, product_tail, apply, arguments, post, dots, atom, parts, more_parts, Phrase, no_binding, binding, no_compare, less, equal, no_sum, plus, minus, no_product, times, no_argument, argument, posted, variable, literal, truth, parens, braces, last_part, next_part}
 use Rattle.mls_syntax.specs.Building.{Todo, atom_acts, imports_acts, bindings_acts, compare_tail_acts, sum_tail_acts, product_tail_acts, dots_acts}
-use Rattle.mls_syntax.proofs.Spelled.{Placed, spells}
+use Rattle.mls_lexer.specs.steps.Placed.{Placed}
+use Rattle.mls_syntax.proofs.Spelled.{spells}
 
 -- no tail of this kind goes on with the terminal
 abbrev pub ClosesPost : Terminal → Type 0

@@ -3,15 +3,15 @@ use Rattle.std.proofs.Common.{◌≡◌, ℕ, suc, ◌+◌, ◌<◌, ◌≤◌, 
 use Rattle.std.specs.Prelude.{bytes_eq}
 use Rattle.std.specs.List.{list_any}
 use Rattle.mls_lexer.specs.Tokens.{IsTokens, terminals}
-use Rattle.mls_lexer.proofs.TextOrder.{Rises, rises-low, rises-append, rises-if, rises-least}
+use Rattle.mls_lexer.proofs.TextOrder.{places_rise, Rises, rises-low, rises-append, rises-if, rises-least}
 use Rattle.mls_syntax.specs.declared.parse.Fault.{Fault}
 use Rattle.mls_syntax.specs.declared.parse.Fault.TheVariants.{DuplicateBinding, DuplicateLabel, DuplicateImport}
 use Rattle.mls_syntax.specs.Phrases.{Sort, source, Phrase, whole, no_import, importing, no_binding, binding, simple, recursive, fun, fix, local, choice, plain, simple_in, recursive_in, no_compare, less, equal, summed, no_sum, plus, minus, multiplied, no_product, times, applied, no_argument, argument, posted, no_dot, dot, variable, literal, truth, parens, braces, no_part, first_part, last_part, next_part, width}
-use Rattle.mls_syntax.specs.Modules.{place_of}
+use Rattle.mls_lexer.specs.Tokens.{place_of}
 use Rattle.mls_syntax.specs.Doubles.{if_seen, doubles}
 use Rattle.mls_syntax.specs.Faults.{fault_place}
 use Rattle.mls_syntax.specs.GrammarLaws.{FirstDoubleIsLeast}
-use Rattle.mls_syntax.proofs.PlacesRise.{places_rise, width-terminals}
+use Rattle.mls_syntax.proofs.Widths.{width-terminals}
 
 module _ (n : ℕ) (place : ℕ → ℕ) where
   abbrev Up : ℕ → ℕ → List Fault → Type 0
@@ -114,4 +114,4 @@ first_double_is_least text tokens p fault later are spelled first =
     rises-least (fault_place (length text)) (place_of tokens) 0 (width p) fault later
     (subst (Rises (fault_place (length text)) (place_of tokens) 0 (width p)) first
     (doubles-rise (length text) (place_of tokens) [] 0 (width p) p (omega arith)))
-    (λ i j below low. places_rise text tokens are i j below (let all = width-terminals text tokens p spelled in omega arith))
+    (λ i j first_low below low. places_rise text tokens are i j below (let all = width-terminals text tokens p spelled in omega arith))

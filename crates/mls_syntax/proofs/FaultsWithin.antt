@@ -4,10 +4,10 @@ use Rattle.std.specs.Prelude.{slice_get, option_map, unwrap_or}
 use Rattle.mls_lexer.specs.declared.token.LexFault.{LexFault}
 use Rattle.mls_lexer.specs.declared.token.LexFault.TheVariants.{BadByte, BigNumber}
 use Rattle.mls_lexer.specs.declared.token.Token.{Token}
-use Rattle.mls_lexer.specs.Tokens.{Follow, Reaches, IsTokens, HasTokenFault, bad_byte, big_number}
+use Rattle.mls_lexer.specs.Tokens.{Follow, Reaches, IsTokens, HasTokenFault, bad_byte, big_number, place_of}
 use Rattle.mls_syntax.specs.declared.parse.Fault.{Fault}
 use Rattle.mls_syntax.specs.Trees.{Tree, SourceTree}
-use Rattle.mls_syntax.specs.Modules.{place_of, IsTextOf}
+use Rattle.mls_syntax.specs.Modules.{IsTextOf}
 use Rattle.mls_syntax.specs.Doubles.{doubles}
 use Rattle.mls_syntax.specs.Faults.{fault_place}
 use Rattle.mls_syntax.specs.GrammarFaults.{HasGrammarFault, unexpected, ended, too_deep}

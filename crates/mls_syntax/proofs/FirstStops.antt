@@ -2,13 +2,13 @@
 use Rattle.std.proofs.Common.{◌≡◌, ◌⊎◌, inl, inr, ℕ, ◌≤◌, List, [], ◌∷◌, refl, sym, ap, ◌∙◌, subst}
 use Rattle.mls_lexer.specs.declared.token.LexFault.{LexFault}
 use Rattle.mls_lexer.specs.declared.token.Token.{Token}
-use Rattle.mls_lexer.specs.Tokens.{IsTokens, HasTokenFault, terminals}
+use Rattle.mls_lexer.specs.Tokens.{IsTokens, HasTokenFault, terminals, place_of}
 use Rattle.mls_lexer.proofs.Readings as lexer
 use Rattle.mls_lexer.proofs.Total.{tokens_or_fault}
 use Rattle.mls_syntax.specs.declared.parse.Fault.{Fault}
 use Rattle.mls_syntax.specs.Phrases.{Phrase, source, yields, nesting}
 use Rattle.mls_syntax.specs.Trees.{SourceTree, meaning}
-use Rattle.mls_syntax.specs.Modules.{place_of, HasNoDoubles, IsTextOf}
+use Rattle.mls_syntax.specs.Modules.{HasNoDoubles, IsTextOf}
 use Rattle.mls_syntax.specs.GrammarFaults.{HasGrammarFault}
 use Rattle.mls_syntax.specs.Doubles.{doubles}
 use Rattle.mls_syntax.specs.FirstFaults.{of_tokens, HasFirstFault, in_tokens, in_grammar, in_doubles}

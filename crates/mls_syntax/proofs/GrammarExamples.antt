@@ -2,7 +2,7 @@
 use Rattle.std.proofs.Common.{◌≡◌, ℕ, List, [], ◌∷◌, refl}
 use Rattle.mls_lexer.specs.declared.token.Kind.TheVariants as kind
 use Rattle.mls_lexer.specs.Tokens.{Terminal, name, number, word}
-use Rattle.mls_lexer.proofs.Machine.{run}
+use Rattle.mls_lexer.specs.steps.Machine.{run}
 use Rattle.mls_syntax.specs.declared.parse.Fault.TheVariants.{DuplicateBinding, DuplicateLabel, DuplicateImport}
 use Rattle.mls_syntax.specs.Phrases.{source, expr, atom, Phrase, whole, no_import, importing, no_binding, binding, simple, plain, summed, multiplied, applied, posted, no_compare, no_sum, no_product, no_argument, no_dot, literal, parens, braces, first_part, last_part, next_part, width}
 use Rattle.mls_syntax.specs.GrammarFaults.{CanGoOn, nestings}

@@ -3,7 +3,8 @@ use Rattle.std.proofs.Common.{◌≡◌, ℕ, suc, true, false, List, [], ◌∷
 use Rattle.std.specs.Prelude.{Option}
 use Rattle.mls_lexer.specs.declared.token.Kind.TheVariants as kind
 use Rattle.mls_lexer.specs.Tokens.{Terminal, name, number, word}
-use Rattle.mls_lexer.proofs.Machine.{run, can_end, onward, run-append, Phrases, spell, some_phrases, OpensSoundly, ReadsSoundly, IsSound, run-sound, empty_phrases}
+use Rattle.mls_lexer.specs.steps.Machine.{run, can_end, onward}
+use Rattle.mls_lexer.proofs.Machine.{run-append, Phrases, spell, some_phrases, OpensSoundly, ReadsSoundly, IsSound, run-sound, empty_phrases}
 use Rattle.mls_syntax.specs.Phrases.{source, imports, bindings, bind_rest, expr, let_rest, compare_tail, sum, sum_tail, product, product_tail, apply, arguments, post, dots, atom, parts, more_parts, Phrase, whole, no_import, importing, no_binding, binding, simple, recursive, fun, fix, local, choice, plain, simple_in, recursive_in, no_compare, less, equal, summed, no_sum, plus, minus, multiplied, no_product, times, applied, no_argument, argument, posted, no_dot, dot, variable, literal, truth, parens, braces, no_part, first_part, last_part, next_part, yields}
 use Rattle.mls_syntax.specs.GrammarFaults.{IsSource, CanGoOn}
 use Rattle.mls_syntax.proofs.GrammarMachine.{Part, a, the_name, the_equals, the_arrow, the_then, the_else, the_in, the_paren, dots_row, arguments_row, product_row, sum_row, compare_row, atom_opens, opens, may_end, read, start, End, behind_imports, may_compare, compared, tails, end_of, left, reads}

@@ -5,7 +5,7 @@ use Rattle.std.proofs.Math.Nat.{le-max_left, le-max_right}
 use Rattle.std.proofs.lemmas.List.{take-append-drop, length-take-le}
 use Rattle.mls_lexer.specs.declared.token.Kind.TheVariants as kind
 use Rattle.mls_lexer.specs.Tokens.{Terminal, word}
-use Rattle.mls_lexer.proofs.Machine.{step}
+use Rattle.mls_lexer.specs.steps.Machine.{step}
 use Rattle.mls_syntax.specs.Phrases.{Sort, source, imports, bindings, bind_rest, expr, compare_tail, sum, sum_tail, product, product_tail, apply, arguments, post, dots, atom, more_parts, Phrase, whole, no_import, importing, no_binding, binding, simple, recursive, fun, fix, local, choice, plain, simple_in, recursive_in, no_compare, less, equal, summed, no_sum, plus, minus, multiplied, no_product, times, applied, no_argument, argument, posted, no_dot, dot, variable, literal, truth, parens, braces, no_part, first_part, last_part, next_part, yields, nesting}
 use Rattle.mls_syntax.specs.GrammarFaults.{begin_first, nestings, IsDeepAt}
 use Rattle.mls_syntax.proofs.GrammarMachine.{Part, a, the_then, the_else, the_in, the_paren, opens, may_end, start, End, behind_imports, may_compare, compared, tails, end_of, before, left}

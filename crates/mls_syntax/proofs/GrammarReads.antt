@@ -5,7 +5,8 @@ use Rattle.std.proofs.lemmas.List.{take-append-drop, length-take-le, length-map}
 use Rattle.std.proofs.lemmas.Option.{slice_get_within}
 use Rattle.mls_lexer.specs.declared.token.Token.{Token}
 use Rattle.mls_lexer.specs.Tokens.{Terminal, terminal, terminals}
-use Rattle.mls_lexer.proofs.Machine.{run, step, chosen, onward, can_end, run-append}
+use Rattle.mls_lexer.specs.steps.Machine.{run, step, chosen, onward, can_end}
+use Rattle.mls_lexer.proofs.Machine.{run-append}
 use Rattle.mls_syntax.specs.declared.parse.Fault.TheVariants.{Unexpected, Ended, TooDeep}
 use Rattle.mls_syntax.specs.Phrases.{Phrase, source, yields}
 use Rattle.mls_syntax.specs.GrammarFaults.{nestings, IsDeepAt, NoneDeepBefore, HasGrammarFault, unexpected, ended, too_deep}

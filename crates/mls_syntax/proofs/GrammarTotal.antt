@@ -7,7 +7,7 @@ use Rattle.std.proofs.lemmas.List.{length-map}
 use Rattle.std.proofs.lemmas.Option.{slice_get_within}
 use Rattle.mls_lexer.specs.declared.token.Token.{Token}
 use Rattle.mls_lexer.specs.Tokens.{Terminal, terminal, terminals}
-use Rattle.mls_lexer.proofs.Machine.{run, step, onward, can_end}
+use Rattle.mls_lexer.specs.steps.Machine.{run, step, onward, can_end}
 use Rattle.mls_syntax.specs.declared.parse.Fault.TheVariants.{Unexpected, Ended, TooDeep}
 use Rattle.mls_syntax.specs.Phrases.{sum, atom, Phrase, source, whole, no_import, importing, no_binding, binding, simple, recursive, fun, fix, local, choice, plain, simple_in, recursive_in, no_compare, less, equal, summed, no_sum, plus, minus, multiplied, no_product, times, applied, no_argument, argument, posted, no_dot, dot, variable, literal, truth, parens, braces, no_part, first_part, last_part, next_part, Sort, nesting}
 use Rattle.mls_syntax.specs.GrammarFaults.{begin_first, nestings}

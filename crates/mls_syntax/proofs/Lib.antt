@@ -51,6 +51,6 @@ pub mod Undoubled
 pub mod Walking
 pub mod WholeWalks
 pub mod Worked
-pub mod PlacesRise
+pub mod Widths
 pub mod DoublesRise
 pub mod UnknownsRise

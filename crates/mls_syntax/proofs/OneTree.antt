@@ -1,11 +1,10 @@
 -- A text is a module of one tree.
 use Rattle.std.proofs.Common.{◌≡◌, ℕ, List, [], sym, ap, ◌∙◌}
 use Rattle.mls_lexer.specs.declared.token.Token.{Token}
-use Rattle.mls_lexer.specs.Tokens.{terminals}
+use Rattle.mls_lexer.specs.Tokens.{terminals, place_of}
 use Rattle.mls_lexer.proofs.Readings as lexer
 use Rattle.mls_syntax.specs.Phrases.{Phrase, source, yields}
 use Rattle.mls_syntax.specs.Trees.{meaning}
-use Rattle.mls_syntax.specs.Modules.{place_of}
 use Rattle.mls_syntax.specs.GrammarLaws.{OneTree, NoGrammarFault}
 use Rattle.mls_syntax.proofs.OnePhrase.{one_phrase}
 use Rattle.mls_syntax.proofs.GrammarStops as stops

@@ -1,14 +1,14 @@
 -- What was read of the tokens of a module is the module, or has its first double.
 use Rattle.std.proofs.Common.{◌≡◌, ℕ, ◌≤◌, List, [], ◌∷◌, refl, sym, ap, ◌∙◌, subst, map, Some, None}
 use Rattle.mls_lexer.specs.declared.token.Token.{Token}
-use Rattle.mls_lexer.specs.Tokens.{IsTokens, terminal, terminals}
+use Rattle.mls_lexer.specs.Tokens.{IsTokens, terminal, terminals, place_of}
 use Rattle.mls_syntax.specs.declared.module.Module.{Module}
 use Rattle.mls_syntax.specs.declared.parse.Fault.{Fault}
 use Rattle.mls_syntax.specs.declared.piece.Piece.{Piece}
 use Rattle.mls_syntax.specs.declared.piece.Event.{Event}
 use Rattle.mls_syntax.specs.Phrases.{Phrase, source, yields, nesting}
 use Rattle.mls_syntax.specs.Trees.{SourceTree, meaning}
-use Rattle.mls_syntax.specs.Modules.{place_of, module_of, IsModuleText}
+use Rattle.mls_syntax.specs.Modules.{module_of, IsModuleText}
 use Rattle.mls_syntax.specs.Pieces.{emitted, given}
 use Rattle.mls_syntax.specs.Building.{State, build, last_told, beginning}
 use Rattle.mls_syntax.specs.Told.{TellsSource}

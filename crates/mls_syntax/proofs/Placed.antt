@@ -1,18 +1,14 @@
 -- The terminals that a phrase spells, each with its place, are its terminals, each with the place of its number.
 use Rattle.std.proofs.Common.{◌≡◌, ℕ, suc, ◌+◌, List, [], ◌∷◌, map, refl, sym, ap, ◌∙◌, arith}
 use Rattle.mls_lexer.specs.declared.token.Token.{Token}
-use Rattle.mls_lexer.specs.Tokens.{Terminal, terminal, terminals}
+use Rattle.mls_lexer.specs.Tokens.{Terminal, terminal, terminals, place_of}
 use Rattle.mls_syntax.specs.Phrases.{Sort, source, Phrase, whole, no_import, importing, no_binding, binding, simple, recursive, fun, fix, local, choice, plain, simple_in, recursive_in, no_compare, less, equal, summed, no_sum, plus, minus, multiplied, no_product, times, applied, no_argument, argument, posted, no_dot, dot, variable, literal, truth, parens, braces, no_part, first_part, last_part, next_part, yields, width}
-use Rattle.mls_syntax.specs.Modules.{place_of}
 use Rattle.mls_syntax.specs.Pieces.{emitted, given}
 use Rattle.mls_syntax.specs.Building.{build, last_told, beginning}
-use Rattle.mls_syntax.proofs.Spelled.{Placed, spells}
+use Rattle.mls_lexer.specs.steps.Placed.{Placed, placed}
+use Rattle.mls_lexer.proofs.Places.{placed_from, tokens-placed}
+use Rattle.mls_syntax.proofs.Spelled.{spells}
 use Rattle.mls_syntax.proofs.Builds.{built}
-
--- terminals with places, where the first has number k
-abbrev pub placed_from : (place : ℕ → ℕ) → ℕ → List Terminal → List Placed
-placed_from place k [] = []
-placed_from place k (t ∷ ts) = (place k, t) ∷ placed_from place (k + 1) ts
 
 -- these are the terminals, each with its place, where the first has number k
 record ArePlaced (place : ℕ → ℕ) (k : ℕ) (us : List Placed) (ts : List Terminal) : Type 0 where
@@ -137,20 +133,6 @@ spells-yields place k n (next_part label e p) w h =
 
 pub spells-placed : (place : ℕ → ℕ) (k : ℕ) {s : Sort} (p : Phrase s) → spells place k p [] ≡ placed_from place k (yields p [])
 spells-placed place k p = (spells-yields place k (k + width p) p refl (record { are = refl })).are
-
--- places counted from the second token on
-later : (place : ℕ → ℕ) (k n : ℕ) (ts : List Terminal) → n ≡ suc k → placed_from place n ts ≡ placed_from (λ i. place (suc i)) k ts
-later place k n [] e = refl
-later place k n (t ∷ ts) e = λ i. (place (e i), t) ∷ later place (k + 1) (n + 1) ts (omega arith) i
-
--- the terminals of tokens, each with the place of its token
-abbrev pub placed : List ℕ → List Token → List Placed
-placed text tokens = map (λ token. (token.start, terminal text token)) tokens
-
-tokens-placed : (text : List ℕ) (tokens : List Token) → placed text tokens ≡ placed_from (place_of tokens) 0 (terminals text tokens)
-tokens-placed text [] = refl
-tokens-placed text (token ∷ tokens) =
-    ap (λ us. (token.start, terminal text token) ∷ us) (tokens-placed text tokens ∙ sym (later (place_of (token ∷ tokens)) 0 1 (terminals text tokens) refl))
 
 -- so tokens that a phrase spells are what the machine reads of it
 pub tokens-spelled : (text : List ℕ) (tokens : List Token) {s : Sort} (p : Phrase s) → yields p [] ≡ terminals text tokens → placed text tokens ≡ spells (place_of tokens) 0 p []

@@ -6,7 +6,8 @@ use Rattle.std.proofs.lemmas.List.{length-map, take_all}
 use Rattle.std.proofs.lemmas.Option.{slice_get-map}
 use Rattle.mls_lexer.specs.declared.token.Token.{Token}
 use Rattle.mls_lexer.specs.Tokens.{Terminal, terminal, terminals}
-use Rattle.mls_lexer.proofs.Machine.{run, step, onward, run-append}
+use Rattle.mls_lexer.specs.steps.Machine.{run, step, onward}
+use Rattle.mls_lexer.proofs.Machine.{run-append}
 use Rattle.mls_syntax.specs.declared.parse.Fault.{Fault}
 use Rattle.mls_syntax.specs.declared.parse.Fault.TheVariants.{Ended}
 use Rattle.mls_syntax.specs.declared.piece.Piece.{Piece}

@@ -5,7 +5,7 @@ use Rattle.std.specs.List.{list_all}
 use Rattle.std.proofs.lemmas.List.{append_assoc}
 use Rattle.mls_lexer.specs.declared.token.Kind.TheVariants as kind
 use Rattle.mls_lexer.specs.Tokens.{Terminal, name, number, word}
-use Rattle.mls_lexer.proofs.Machine.{step, chosen, can_end}
+use Rattle.mls_lexer.specs.steps.Machine.{step, chosen, can_end}
 use Rattle.mls_syntax.specs.declared.piece.Piece.{Piece}
 use Rattle.mls_syntax.specs.declared.piece.Piece.TheVariants as piece
 use Rattle.mls_syntax.specs.declared.piece.Event.{Event}

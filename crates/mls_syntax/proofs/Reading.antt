@@ -9,7 +9,7 @@ use Rattle.mls_syntax.specs.declared.piece.Piece.TheVariants as piece
 use Rattle.mls_syntax.specs.declared.piece.Event.{Event}
 use Rattle.mls_syntax.specs.Phrases.{Sort, dots}
 use Rattle.mls_syntax.specs.Building.{Todo, a, arguments_of, let_of, the_import, the_binding, the_fun, the_fix, the_local, the_label, the_part, the_equals, the_arrow, the_then, the_else, the_in, the_paren, tell, Act, act, acts, State, took, advance, build, last_told}
-use Rattle.mls_syntax.proofs.Spelled.{Placed}
+use Rattle.mls_lexer.specs.steps.Placed.{Placed}
 use Rattle.mls_syntax.proofs.Closing.{First, ClosesApply}
 
 -- all that is told and given once no terminal is left

@@ -1,12 +1,9 @@
 -- The terminals that a phrase spells, each with its place.
 use Rattle.std.specs.Prelude.{ℕ, ◌+◌, List, ◌∷◌}
 use Rattle.mls_lexer.specs.declared.token.Kind.TheVariants as kind
-use Rattle.mls_lexer.specs.Tokens.{Terminal, name, number, word}
+use Rattle.mls_lexer.specs.Tokens.{name, number, word}
+use Rattle.mls_lexer.specs.steps.Placed.{Placed}
 use Rattle.mls_syntax.specs.Phrases.{Sort, Phrase, whole, no_import, importing, no_binding, binding, simple, recursive, fun, fix, local, choice, plain, simple_in, recursive_in, no_compare, less, equal, summed, no_sum, plus, minus, multiplied, no_product, times, applied, no_argument, argument, posted, no_dot, dot, variable, literal, truth, parens, braces, no_part, first_part, last_part, next_part, truth_word, width}
-
--- a terminal with its place
-abbrev pub Placed : Type 0
-Placed = ℕ × Terminal
 
 -- what the phrase that begins at token k spells, where token i has the place `place i`, before what follows it
 unfoldable pub spells : (place : ℕ → ℕ) → {s : Sort} → ℕ → Phrase s → List Placed → List Placed

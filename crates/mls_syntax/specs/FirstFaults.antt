@@ -3,11 +3,10 @@ use Rattle.std.specs.Prelude.{◌≡◌, ℕ, ◌≤◌, List, [], ◌∷◌}
 use Rattle.mls_lexer.specs.declared.token.LexFault.{LexFault}
 use Rattle.mls_lexer.specs.declared.token.LexFault.TheVariants as lex
 use Rattle.mls_lexer.specs.declared.token.Token.{Token}
-use Rattle.mls_lexer.specs.Tokens.{IsTokens, HasTokenFault, terminals}
+use Rattle.mls_lexer.specs.Tokens.{IsTokens, HasTokenFault, terminals, place_of}
 use Rattle.mls_syntax.specs.declared.parse.Fault.{Fault}
 use Rattle.mls_syntax.specs.declared.parse.Fault.TheVariants.{BadByte, BigNumber, Memory}
 use Rattle.mls_syntax.specs.Phrases.{source, Phrase, yields, nesting}
-use Rattle.mls_syntax.specs.Modules.{place_of}
 use Rattle.mls_syntax.specs.GrammarFaults.{HasGrammarFault}
 use Rattle.mls_syntax.specs.Doubles.{doubles}
 

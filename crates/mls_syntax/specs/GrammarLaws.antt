@@ -5,7 +5,8 @@ use Rattle.mls_lexer.specs.Tokens.{IsTokens, terminals}
 use Rattle.mls_syntax.specs.declared.parse.Fault.{Fault}
 use Rattle.mls_syntax.specs.Phrases.{Phrase, source, yields, nesting}
 use Rattle.mls_syntax.specs.Trees.{SourceTree}
-use Rattle.mls_syntax.specs.Modules.{place_of, IsTextOf}
+use Rattle.mls_lexer.specs.Tokens.{place_of}
+use Rattle.mls_syntax.specs.Modules.{IsTextOf}
 use Rattle.mls_syntax.specs.Doubles.{doubles}
 use Rattle.mls_syntax.specs.Faults.{fault_place}
 use Rattle.mls_syntax.specs.GrammarFaults.{HasGrammarFault}

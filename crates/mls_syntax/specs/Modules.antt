@@ -1,16 +1,12 @@
 -- Which texts are modules, and with which trees.
-use Rattle.std.specs.Prelude.{◌≡◌, ℕ, ◌≤◌, List, [], ◌∷◌, map, slice_get, option_map, unwrap_or, Contains, AllPairs, ◌≢◌}
+use Rattle.std.specs.Prelude.{◌≡◌, ℕ, ◌≤◌, List, [], ◌∷◌, map, Contains, AllPairs, ◌≢◌}
 use Rattle.mls_lexer.specs.declared.token.Token.{Token}
-use Rattle.mls_lexer.specs.Tokens.{IsTokens, terminals}
+use Rattle.mls_lexer.specs.Tokens.{IsTokens, terminals, place_of}
 use Rattle.mls_syntax.specs.declared.module.Module.{Module}
 use Rattle.mls_syntax.specs.declared.module.Import.{Import}
 use Rattle.mls_syntax.specs.declared.module.Binding.{Binding}
 use Rattle.mls_syntax.specs.Phrases.{source, Phrase, yields, nesting}
 use Rattle.mls_syntax.specs.Trees.{Tree, a_name, an_operator, a_number, a_truth, a_fun, a_fix, a_let, an_if, an_apply, a_make, a_project, Fields, no_field, a_field, ImportTree, BindingTree, SourceTree, meaning, postorder}
-
--- the place of token k
-abbrev pub place_of : List Token → ℕ → ℕ
-place_of tokens k = unwrap_or (option_map (λ token. token.start) (slice_get tokens k)) 0
 
 -- no two of these names are equal
 abbrev pub AreDistinct : List (List ℕ) → Type 0

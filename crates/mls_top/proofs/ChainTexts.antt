@@ -2,7 +2,7 @@
 use Rattle.std.proofs.Common.{◌≡◌, ℕ, suc, ◌+◌, Bool, true, false, List, [], ◌∷◌, ◌++◌, length, reverse, refl, sym, ap, ◌∙◌, append_assoc, append-nil, arith, codes, Option}
 use Rattle.std.proofs.lemmas.List.{reverse-append}
 use Rattle.mls_lexer.specs.declared.token.Kind.TheVariants as kind
-use Rattle.mls_lexer.specs.Tokens.{Terminal, word, HasTerminals}
+use Rattle.mls_lexer.specs.Tokens.{Terminal, word, HasTerminals, place_of}
 use Rattle.mls_lexer.proofs.Terminals.{HasTerminals-nil, HasTerminals-space, HasTerminals-name, HasTerminals-fixed, StopsBefore-word, StopsBefore-plain, shape-spelling}
 use Rattle.mls_base.specs.Spelling.{IsName, is_reserved}
 use Rattle.mls_syntax.specs.declared.term.TermNode.{TermNode}
@@ -13,7 +13,7 @@ use Rattle.std.specs.List.{push}
 use Rattle.mls_typetext.specs.Phrases.{Phrase, whole, atom, joined, no_codomain, to, joins, no_join, meets, no_meet, named, boolean, integer, top, yields, width}
 use Rattle.mls_typetext.specs.Trees.{meaning}
 use Rattle.mls_typetext.specs.Faults.{faults}
-use Rattle.mls_typetext.specs.Texts.{place_of, IsTypeText, read_of}
+use Rattle.mls_typetext.specs.Texts.{IsTypeText, read_of}
 use Rattle.mls_top.specs.Chains.{is_used, domain_text, piece_text, type_text}
 
 -- the type of a chain: for each function, from outside in, whether its domain is the variable or `top`, and then the leaf

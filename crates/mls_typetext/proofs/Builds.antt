@@ -8,8 +8,9 @@ use Rattle.mls_typetext.specs.Phrases.{Sort, whole, codomain, join, join_tail, m
 use Rattle.mls_typetext.specs.Trees.{meaning}
 use Rattle.mls_typetext.specs.declared.piece.Piece.{Piece}
 use Rattle.mls_typetext.specs.declared.piece.Piece.TheVariants as piece
-use Rattle.mls_typetext.specs.Pieces.{postorder}
-use Rattle.mls_typetext.specs.Building.{Todo, a, the_rec, the_field, the_dot, the_colon, the_paren, tell, Placed, acts, State, took, advance, build, last_told}
+use Rattle.mls_typetext.specs.steps.Pieces.{postorder}
+use Rattle.mls_lexer.specs.steps.Placed.{Placed}
+use Rattle.mls_typetext.specs.steps.PieceMachine.{Todo, a, the_rec, the_field, the_dot, the_colon, the_paren, tell, acts, State, took, advance, build, last_told}
 use Rattle.mls_typetext.proofs.Emitted.{emitted, emitted-meaning}
 
 -- what a phrase spells, with the places of its terminals

@@ -5,7 +5,7 @@ use Rattle.mls_typetext.specs.Phrases.{Sort, whole, codomain, join, join_tail, m
 use Rattle.mls_typetext.specs.Trees.{TypeTree, a_join, a_meet, Meaning, meaning}
 use Rattle.mls_typetext.specs.declared.piece.Piece.{Piece}
 use Rattle.mls_typetext.specs.declared.piece.Piece.TheVariants as piece
-use Rattle.mls_typetext.specs.Pieces.{postorder, field_postorder}
+use Rattle.mls_typetext.specs.steps.Pieces.{postorder, field_postorder}
 
 -- what a phrase that begins at token k tells, each piece as soon as its parts are told
 unfoldable pub emitted : (place : ℕ → ℕ) → {s : Sort} → ℕ → Phrase s → List Piece

@@ -9,13 +9,13 @@ use Rattle.mls_book.specs.declared.book.Node.TheVariants as node
 use Rattle.mls_typetext.specs.declared.piece.Size.{Size}
 use Rattle.mls_typetext.specs.declared.piece.Member.{Member}
 use Rattle.mls_typetext.specs.declared.piece.Member.TheVariants as member
-use Rattle.mls_typetext.specs.declared.lay_out.Place.{Place}
-use Rattle.mls_typetext.specs.declared.lay_out.Place.TheVariants.{Part, Block, Fields}
-use Rattle.mls_typetext.specs.declared.lay_out.Task.{Task}
-use Rattle.mls_typetext.specs.declared.lay_out.Task.TheVariants.{At, Leave, End}
+use Rattle.mls_typetext.specs.declared.lay_out.LayoutPlace.{LayoutPlace}
+use Rattle.mls_typetext.specs.declared.lay_out.LayoutPlace.TheVariants.{Part, Block, Fields}
+use Rattle.mls_typetext.specs.declared.lay_out.LayoutTask.{LayoutTask}
+use Rattle.mls_typetext.specs.declared.lay_out.LayoutTask.TheVariants.{At, Leave, End}
 use Rattle.mls_typetext.specs.Books.{Ty, var, again, boolean, integer, top, bot, arrow, join, meet, fields, rec, TyFields, none, one, here, under, node_in, stands, id, placed, field_nodes, layer, below, below_fields, book_of}
-use Rattle.mls_typetext.specs.Members.{outer, stands_for, size_of, members, field_members}
-use Rattle.mls_typetext.specs.Laying.{State, stand_by, stand, in_order, closed_by, closed, at_place, lay_next, lay_all}
+use Rattle.mls_typetext.specs.steps.Members.{outer, stands_for, size_of, members, field_members}
+use Rattle.mls_typetext.specs.steps.Laying.{State, stand_by, stand, in_order, closed_by, closed, at_place, lay_next, lay_all}
 use Rattle.mls_typetext.proofs.Fit.{block}
 
 outer-some : (o : Option ℕ) (k n : ℕ) → ((j : ℕ) → o ≡ Some j → n ≡ 0) → outer o ≡ Some k → n ≡ 0
@@ -104,18 +104,18 @@ module _ {A : Type 0} where
   drop-append_seam (x ∷ xs) ys = drop-append_seam xs ys
 
 -- the machine from a state in which nothing is over
-abbrev pub from : List Task → List ℕ → List Node → List Field → List Node → List Member → List Node
+abbrev pub from : List LayoutTask → List ℕ → List Node → List Field → List Node → List Member → List Node
 from tasks recs held fs nodes ms = lay_all (closed_by tasks recs held fs nodes) ms
 
 -- a part of a layer adds its nodes to the layer, and what lies below it to the nodes that are laid out
 abbrev pub LaysPart : Ty → Type 0
-LaysPart a = (p q : ℕ) (recs : List ℕ) (held nodes : List Node) (st : List Task) (rest : List Member)
+LaysPart a = (p q : ℕ) (recs : List ℕ) (held nodes : List Node) (st : List LayoutTask) (rest : List Member)
     → from (At (Part p q (size_of a)) ∷ st) recs held [] nodes (reverse (members a) ++ rest)
     ≡ from st recs (held ++ reverse (layer p q recs a)) [] (nodes ++ reverse (below p q recs a)) rest
 
 -- a layer of its own adds all its nodes to those that are laid out
 abbrev pub LaysBlock : Ty → Type 0
-LaysBlock a = (p : ℕ) (recs : List ℕ) (held nodes : List Node) (st : List Task) (rest : List Member)
+LaysBlock a = (p : ℕ) (recs : List ℕ) (held nodes : List Node) (st : List LayoutTask) (rest : List Member)
     → from (At (Block p (size_of a)) ∷ st) recs held [] nodes (reverse (members a) ++ rest)
     ≡ from st recs held [] (nodes ++ reverse (block p recs a)) rest
 
@@ -125,7 +125,7 @@ raw q recs none = []
 raw q recs (one label a rest) = record { label = label; node = id (stands q recs a) } ∷ raw (q + (here a + under a)) recs rest
 
 abbrev pub LaysFields : TyFields → Type 0
-LaysFields all = (q : ℕ) (recs : List ℕ) (held nodes : List Node) (fs : List Field) (st : List Task) (rest : List Member)
+LaysFields all = (q : ℕ) (recs : List ℕ) (held nodes : List Node) (fs : List Field) (st : List LayoutTask) (rest : List Member)
     → from (At (Fields q) ∷ st) recs held fs nodes (reverse (field_members all) ++ rest)
     ≡ from st recs (held ++ node.Rcd (in_order (fs ++ raw q recs all)) ∷ []) [] (nodes ++ reverse (below_fields q recs all)) rest
 
@@ -135,7 +135,7 @@ raw-in_order q recs none = refl
 raw-in_order q recs (one label a rest) = ap (placed (record { label = label; node = id (stands q recs a) })) (raw-in_order (q + (here a + under a)) recs rest)
 
 -- a layer of its own is a part of a layer that ends behind it
-block-part : (p : ℕ) (size : Size) (recs : List ℕ) (held nodes : List Node) (st : List Task) (ms : List Member)
+block-part : (p : ℕ) (size : Size) (recs : List ℕ) (held nodes : List Node) (st : List LayoutTask) (ms : List Member)
     → from (At (Block p size) ∷ st) recs held [] nodes ms ≡ from (At (Part p (p + size.here) size) ∷ End (length held) ∷ st) recs held [] nodes ms
 unfolding lay_all
 block-part p size recs held nodes st [] = refl
@@ -148,7 +148,7 @@ part-block a part p recs held nodes st rest =
     ∙ ((λ i. from st recs (take-append_seam held (reverse (layer p (p + here a) recs a)) i) [] ((nodes ++ reverse (below p (p + here a) recs a)) ++ drop-append_seam held (reverse (layer p (p + here a) recs a)) i) rest)
     ∙ ap (λ out. from st recs held [] out rest) (back-two nodes (layer p (p + here a) recs a) (below p (p + here a) recs a))))
 
-part-leaf : (recs : List ℕ) (held nodes : List Node) (st : List Task) (rest : List Member) → from st recs held [] nodes rest ≡ from st recs held [] (nodes ++ []) rest
+part-leaf : (recs : List ℕ) (held nodes : List Node) (st : List LayoutTask) (rest : List Member) → from st recs held [] nodes rest ≡ from st recs held [] (nodes ++ []) rest
 part-leaf recs held nodes st rest = ap (λ out. from st recs held [] out rest) (sym (append-nil nodes))
 
 part-arrow : (a b : Ty) → LaysBlock a → LaysBlock b → LaysPart (arrow a b)
@@ -257,11 +257,11 @@ lay-step s s' m ms ms' all e step is =
     ∙ (ap (lay_all (closed s)) (reverse-append ms' (m ∷ []))
     ∙ ap (λ s. lay_all (closed s) (reverse ms')) (sym step)))
 
-nodes-at : (place : Option Place) (s : State) → (at_place place s).nodes ≡ s.nodes
+nodes-at : (place : Option LayoutPlace) (s : State) → (at_place place s).nodes ≡ s.nodes
 nodes-at None s = refl
 nodes-at (Some place) s = refl
 
-pub lay-end : (s s' : State) (place : Option Place) (ms : List Member) (all : List Node) → ms ≡ [] → closed s ≡ at_place place s'
+pub lay-end : (s s' : State) (place : Option LayoutPlace) (ms : List Member) (all : List Node) → ms ≡ [] → closed s ≡ at_place place s'
     → all ≡ lay_all (closed s) (reverse ms) → s'.nodes ≡ all
 unfolding lay_all
 lay-end s s' place ms all e closes is =

@@ -8,10 +8,10 @@ use Rattle.mls_typetext.specs.declared.piece.Item.TheVariants as item
 use Rattle.mls_typetext.specs.declared.piece.Member.{Member}
 use Rattle.mls_typetext.specs.declared.piece.Member.TheVariants as member
 use Rattle.mls_typetext.specs.Trees.{TypeTree, a_name, a_bool, an_int, a_top, a_bot, an_arrow, a_record, a_join, a_meet, a_rec, TypeFields, no_field, a_field}
-use Rattle.mls_typetext.specs.Items.{items, field_items}
+use Rattle.mls_typetext.specs.steps.Items.{items, field_items}
 use Rattle.mls_typetext.specs.Books.{Ty, var, again, arrow, join, meet, fields, rec, TyFields, one, is_in, place_in, variables_in, field_variables, variables, numbered, numbered_fields, type_of, here, under, under_fields}
-use Rattle.mls_typetext.specs.Members.{size_of, members, field_members}
-use Rattle.mls_typetext.specs.Measuring.{State, measured, measure_all, first_size, without_size}
+use Rattle.mls_typetext.specs.steps.Members.{size_of, members, field_members}
+use Rattle.mls_typetext.specs.steps.Measuring.{State, measured, measure_all, first_size, without_size}
 use Rattle.mls_typetext.proofs.NumberedNames.{added, added-append, Begins, begins-self, begins-added, number-is, added-first_places}
 
 -- the machine on pieces, from these variables, sizes and totals, and these pieces behind it

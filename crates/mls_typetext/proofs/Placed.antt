@@ -3,13 +3,8 @@ use Rattle.std.proofs.Common.{◌≡◌, ℕ, ◌+◌, List, [], ◌∷◌, refl
 use Rattle.mls_lexer.specs.declared.token.Kind.TheVariants as kind
 use Rattle.mls_lexer.specs.Tokens.{Terminal, name, word}
 use Rattle.mls_typetext.specs.Phrases.{Sort, whole, Phrase, recursive, joined, no_codomain, to, joins, no_join, or, meets, no_meet, and, named, boolean, integer, top, bot, parens, braces, no_field, first_field, last_field, next_field, yields, width}
-use Rattle.mls_typetext.specs.Building.{Placed}
+use Rattle.mls_lexer.proofs.Places.{placed_from}
 use Rattle.mls_typetext.proofs.Builds.{spells}
-
--- terminals with places, where the first has number k
-abbrev pub placed_from : (place : ℕ → ℕ) → ℕ → List Terminal → List Placed
-placed_from place k [] = []
-placed_from place k (t ∷ ts) = (place k, t) ∷ placed_from place (k + 1) ts
 
 renumber : (place : ℕ → ℕ) (k m : ℕ) (ts : List Terminal) → k ≡ m → placed_from place k ts ≡ placed_from place m ts
 renumber place k m ts e = ap (λ k. placed_from place k ts) e

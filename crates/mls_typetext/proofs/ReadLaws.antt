@@ -1,12 +1,12 @@
 -- What a text of a type is read as.
 use Rattle.std.proofs.Common.{◌≡◌, ℕ, true, List, [], length, subst, sym, ap, ◌∙◌}
-use Rattle.mls_lexer.specs.Tokens.{terminals}
+use Rattle.mls_lexer.specs.Tokens.{terminals, place_of}
 use Rattle.mls_lexer.proofs.Readings as lexer
 use Rattle.mls_typetext.specs.Phrases.{yields}
 use Rattle.mls_typetext.specs.Trees.{TypeTree, meaning}
 use Rattle.mls_typetext.specs.Faults.{faults}
 use Rattle.mls_typetext.specs.Books.{type_of, variables}
-use Rattle.mls_typetext.specs.Texts.{read_of, place_of, IsTypeOf}
+use Rattle.mls_typetext.specs.Texts.{read_of, IsTypeOf}
 use Rattle.mls_typetext.specs.Laws.{OneReading, IsReadScheme, ReadIsClosed, ReadHasValue}
 use Rattle.mls_typetext.proofs.Fit.{IsFit}
 use Rattle.mls_typetext.proofs.FitBooks.{book_of-closed, book_of-variables, root_of-below}

@@ -6,10 +6,11 @@ use Rattle.std.proofs.lemmas.Option.{slice_get-map}
 use Rattle.mls_lexer.specs.declared.token.Token.{Token}
 use Rattle.mls_lexer.specs.Tokens.{terminal}
 use Rattle.mls_typetext.specs.declared.piece.Piece.{Piece}
-use Rattle.mls_typetext.specs.declared.read.Reader.{Reader}
+use Rattle.mls_typetext.specs.declared.read.PieceReader.{PieceReader}
 use Rattle.mls_typetext.specs.Phrases.{whole}
-use Rattle.mls_typetext.specs.Building.{Todo, a, Placed, State, advance, build, last_told, placed, told_of}
-use Rattle.mls_typetext.specs.Readings.{stack_of, state_of, IsNew}
+use Rattle.mls_lexer.specs.steps.Placed.{Placed, placed}
+use Rattle.mls_typetext.specs.steps.PieceMachine.{Todo, a, State, advance, build, last_told, told_of}
+use Rattle.mls_typetext.specs.steps.PieceReaders.{stack_of, state_of, IsNew}
 
 next_taken : {A : Type 0} (xs : List A) (n : ℕ) (x : A) → slice_get xs n ≡ Some x → take (suc n) xs ≡ take n xs ++ x ∷ []
 next_taken [] n x e = absurd (cc)
@@ -27,14 +28,14 @@ unfolding build
 build-one u st told = refl
 
 -- the reader has read the first n tokens
-abbrev pub HasRead : List ℕ → List Token → ℕ → Reader → Type 0
+abbrev pub HasRead : List ℕ → List Token → ℕ → PieceReader → Type 0
 HasRead text tokens n reader = build (a whole ∷ []) [] (take n (placed text tokens)) ≡ state_of reader
 
-pub has_read-new : (text : List ℕ) (tokens : List Token) (reader : Reader) → IsNew reader → HasRead text tokens 0 reader
+pub has_read-new : (text : List ℕ) (tokens : List Token) (reader : PieceReader) → IsNew reader → HasRead text tokens 0 reader
 unfolding build
 has_read-new text tokens reader new = λ i. record { stack = sym new.stack i; told = sym new.pieces i }
 
-pub has_read-more : (text : List ℕ) (tokens : List Token) (n : ℕ) (token : Token) → slice_get tokens n ≡ Some token → (old new : Reader) → HasRead text tokens n old
+pub has_read-more : (text : List ℕ) (tokens : List Token) (n : ℕ) (token : Token) → slice_get tokens n ≡ Some token → (old new : PieceReader) → HasRead text tokens n old
     → state_of new ≡ advance token.start (terminal text token) (stack_of old.stack.items) old.pieces.items → HasRead text tokens (n + 1) new
 has_read-more text tokens n token at old new is went =
     let u : Placed = (token.start, terminal text token) in
@@ -47,7 +48,7 @@ has_read-more text tokens n token at old new is went =
     ∙ (build-one u (stack_of old.stack.items) old.pieces.items
     ∙ sym went))))
 
-pub has_read-all : (text : List ℕ) (tokens : List Token) (n : ℕ) (reader : Reader) → length tokens ≤ n → HasRead text tokens n reader → last_told (stack_of reader.stack.items) reader.pieces.items ≡ told_of (placed text tokens)
+pub has_read-all : (text : List ℕ) (tokens : List Token) (n : ℕ) (reader : PieceReader) → length tokens ≤ n → HasRead text tokens n reader → last_told (stack_of reader.stack.items) reader.pieces.items ≡ told_of (placed text tokens)
 has_read-all text tokens n reader past is =
     let size : length (placed text tokens) ≡ length tokens = length-map tokens (λ (token : Token). (token.start, terminal text token)) in
     let all : take n (placed text tokens) ≡ placed text tokens = take_all n (placed text tokens) (omega arith) in

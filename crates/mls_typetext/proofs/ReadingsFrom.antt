@@ -7,7 +7,8 @@ use Rattle.mls_typetext.specs.declared.scheme.TypeFault.{TypeFault}
 use Rattle.mls_typetext.specs.Phrases.{Phrase, whole, yields}
 use Rattle.mls_typetext.specs.Trees.{meaning}
 use Rattle.mls_typetext.specs.Faults.{faults}
-use Rattle.mls_typetext.specs.Texts.{place_of, read_of}
+use Rattle.mls_lexer.specs.Tokens.{place_of}
+use Rattle.mls_typetext.specs.Texts.{read_of}
 use Rattle.mls_typetext.specs.TextsFrom.{ReadsFrom, HasFaultFrom, stops, in_tree_from}
 use Rattle.mls_typetext.specs.Stops.{EndsBefore, HasStop}
 use Rattle.mls_typetext.specs.Laws.{IsReadScheme, HasOneReading, OneReadingFrom}

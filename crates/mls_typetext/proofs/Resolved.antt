@@ -6,35 +6,35 @@ use Rattle.mls_typetext.specs.declared.scheme.TypeFault.{TypeFault}
 use Rattle.mls_typetext.specs.declared.scheme.TypeFault.TheVariants.{NotPolar, DuplicateLabel}
 use Rattle.mls_typetext.specs.declared.piece.Piece.{Piece}
 use Rattle.mls_typetext.specs.declared.piece.Piece.TheVariants as piece
-use Rattle.mls_typetext.specs.declared.resolve.Place.{Place}
-use Rattle.mls_typetext.specs.declared.resolve.Task.{Task}
-use Rattle.mls_typetext.specs.declared.resolve.Task.TheVariants.{Part, Leave, Note}
+use Rattle.mls_typetext.specs.declared.resolve.NamePlace.{NamePlace}
+use Rattle.mls_typetext.specs.declared.resolve.NameTask.{NameTask}
+use Rattle.mls_typetext.specs.declared.resolve.NameTask.TheVariants.{Part, Leave, Note}
 use Rattle.mls_typetext.specs.Trees.{TypeTree}
 use Rattle.mls_typetext.specs.Faults.{faults}
-use Rattle.mls_typetext.specs.Pieces.{postorder}
-use Rattle.mls_typetext.specs.Resolving.{Known, whole_place, nothing_known, noted, naming, fault_if, notes, opened, known_after}
-use Rattle.mls_typetext.specs.Readers.{GivesItems, GivesFault}
+use Rattle.mls_typetext.specs.steps.Pieces.{postorder}
+use Rattle.mls_typetext.specs.steps.NameMachine.{Known, whole_place, nothing_known, noted, naming, fault_if, notes, opened, known_after}
+use Rattle.mls_typetext.specs.steps.NameReaders.{GivesItems, GivesFault}
 use Rattle.mls_typetext.proofs.Resolves.{after_leave, after_note, after_piece, after_all, after_none, first_or, reads-whole}
 
 -- around each part that is still to come there are so few functions and records, and so few `rec`s, that with the pieces that are left they
 -- are at most the limit
-abbrev pub IsBelow : (limit left : ℕ) → List Task → Type 0
+abbrev pub IsBelow : (limit left : ℕ) → List NameTask → Type 0
 IsBelow limit left [] = Unit {0}
 IsBelow limit left (Part p ∷ st) = (p.guards + left ≤ limit) × (p.depth + left ≤ limit) × IsBelow limit left st
 IsBelow limit left (Leave x outer ∷ st) = IsBelow limit left st
 IsBelow limit left (Note fault ∷ st) = IsBelow limit left st
 
-below-fewer : (limit left : ℕ) (st : List Task) → IsBelow limit (suc left) st → IsBelow limit left st
+below-fewer : (limit left : ℕ) (st : List NameTask) → IsBelow limit (suc left) st → IsBelow limit left st
 below-fewer limit left [] h = tt
 below-fewer limit left (Part p ∷ st) h = (omega (arith, h.0), omega (arith, h.1), below-fewer limit left st h.2)
 below-fewer limit left (Leave x outer ∷ st) h = below-fewer limit left st h
 below-fewer limit left (Note fault ∷ st) h = below-fewer limit left st h
 
-below-notes : (limit left : ℕ) (fault : Option TypeFault) (st : List Task) → IsBelow limit left st → IsBelow limit left (notes fault ++ st)
+below-notes : (limit left : ℕ) (fault : Option TypeFault) (st : List NameTask) → IsBelow limit left st → IsBelow limit left (notes fault ++ st)
 below-notes limit left None st h = h
 below-notes limit left (Some fault) st h = h
 
-below-opened : (limit left : ℕ) (piece : Piece) (p : Place) (st : List Task) (k : Known) → IsBelow limit (suc left) (Part p ∷ st) → IsBelow limit left (opened piece p st k).tasks
+below-opened : (limit left : ℕ) (piece : Piece) (p : NamePlace) (st : List NameTask) (k : Known) → IsBelow limit (suc left) (Part p ∷ st) → IsBelow limit left (opened piece p st k).tasks
 below-opened limit left (piece.Name at x) p st k h = below-fewer limit left st h.2
 below-opened limit left piece.Bool p st k h = below-fewer limit left st h.2
 below-opened limit left piece.Int p st k h = below-fewer limit left st h.2
@@ -63,19 +63,19 @@ one-less : {A : Type 0} (xs ys : List A) (z : A) → xs ≡ ys ++ z ∷ [] → l
 one-less xs ys z e = ap length e ∙ (length-append ys (z ∷ []) ∙ add-one (length ys))
 
 -- what will be known in the end is what will be known in the end of the whole type
-pub record IsGoing (pieces left : List Piece) (tasks : List Task) (known : Known) : Type 0 where
+pub record IsGoing (pieces left : List Piece) (tasks : List NameTask) (known : Known) : Type 0 where
   pub same : known_after tasks known (reverse left) ≡ known_after (Part whole_place ∷ []) nothing_known (reverse pieces)
   pub below : IsBelow (length pieces) (length left) tasks
 
 module _ (pieces : List Piece) where
-  module _ (left : List Piece) (tasks st : List Task) (known : Known) (going : IsGoing pieces left tasks known) where
-    module _ (p : Place) (is : tasks ≡ Part p ∷ st) where
+  module _ (left : List Piece) (tasks st : List NameTask) (known : Known) (going : IsGoing pieces left tasks known) where
+    module _ (p : NamePlace) (is : tasks ≡ Part p ∷ st) where
       -- a part with a piece,
       module _ (rest : List Piece) (piece : Piece) (last : left ≡ rest ++ piece ∷ []) where
         here : IsBelow (length pieces) (suc (length rest)) (Part p ∷ st)
         here = subst (λ n. IsBelow (length pieces) n (Part p ∷ st)) (one-less left rest piece last) (subst (IsBelow (length pieces) (length left)) is going.below)
 
-        pub reads : (next : List Task) (known' : Known) → next ≡ (opened piece p st known).tasks → known' ≡ (opened piece p st known).known → IsGoing pieces rest next known'
+        pub reads : (next : List NameTask) (known' : Known) → next ≡ (opened piece p st known).tasks → known' ≡ (opened piece p st known).known → IsGoing pieces rest next known'
         reads next known' e e' = record {
           same =
               (λ i. known_after (e i) (e' i) (reverse rest))
@@ -97,7 +97,7 @@ module _ (pieces : List Piece) where
       }
 
     -- the front of a `rec`,
-    pub leaves : (x : List ℕ) (outer : Option Place) (next : List Task) (known' : Known) → tasks ≡ Leave x outer ∷ st → next ≡ st → known' ≡ naming x outer known → IsGoing pieces left next known'
+    pub leaves : (x : List ℕ) (outer : Option NamePlace) (next : List NameTask) (known' : Known) → tasks ≡ Leave x outer ∷ st → next ≡ st → known' ≡ naming x outer known → IsGoing pieces left next known'
     leaves x outer next known' is e e' = record {
       same =
           (λ i. known_after (e i) (e' i) (reverse left))
@@ -118,7 +118,7 @@ module _ (pieces : List Piece) where
     }
 
 -- what the reader gives in the end
-module _ (pieces : List Piece) (left : List Piece) (tasks : List Task) (known : Known) (going : IsGoing pieces left tasks known) (none : tasks ≡ []) where
+module _ (pieces : List Piece) (left : List Piece) (tasks : List NameTask) (known : Known) (going : IsGoing pieces left tasks known) (none : tasks ≡ []) where
   known-last : (t : TypeTree) → pieces ≡ postorder t → known ≡ known_after (Part whole_place ∷ []) nothing_known (reverse (postorder t))
   known-last t is =
       sym (after_none known (reverse left))

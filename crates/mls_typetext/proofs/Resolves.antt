@@ -10,37 +10,37 @@ use Rattle.mls_typetext.specs.declared.piece.Piece.{Piece}
 use Rattle.mls_typetext.specs.declared.piece.Piece.TheVariants as piece
 use Rattle.mls_typetext.specs.declared.piece.Item.{Item}
 use Rattle.mls_typetext.specs.declared.piece.Item.TheVariants as item
-use Rattle.mls_typetext.specs.declared.resolve.Place.{Place}
-use Rattle.mls_typetext.specs.declared.resolve.Task.{Task}
-use Rattle.mls_typetext.specs.declared.resolve.Task.TheVariants.{Part, Leave, Note}
+use Rattle.mls_typetext.specs.declared.resolve.NamePlace.{NamePlace}
+use Rattle.mls_typetext.specs.declared.resolve.NameTask.{NameTask}
+use Rattle.mls_typetext.specs.declared.resolve.NameTask.TheVariants.{Part, Leave, Note}
 use Rattle.mls_typetext.specs.Trees.{TypeTree, a_name, a_bool, an_int, a_top, a_bot, an_arrow, a_record, a_join, a_meet, a_rec, TypeFields, no_field, a_field}
 use Rattle.mls_typetext.specs.Books.{is_in, place_in}
 use Rattle.mls_typetext.specs.Faults.{Around, nearest, same, name_faults, faults, field_faults}
-use Rattle.mls_typetext.specs.Pieces.{postorder, field_postorder}
-use Rattle.mls_typetext.specs.Items.{items, field_items}
-use Rattle.mls_typetext.specs.Resolving.{Known, whole_place, domain, nothing_known, told, noted, naming, fault_if, name_fault, name_item, notes, opened, taken, ended, known_after}
+use Rattle.mls_typetext.specs.steps.Pieces.{postorder, field_postorder}
+use Rattle.mls_typetext.specs.steps.Items.{items, field_items}
+use Rattle.mls_typetext.specs.steps.NameMachine.{Known, whole_place, domain, nothing_known, told, noted, naming, fault_if, name_fault, name_item, notes, opened, taken, ended, known_after}
 
 -- what is to do before the next piece is done at it, or at the end
-pub after_leave : (x : List ℕ) (outer : Option Place) (st : List Task) (k : Known) (ps : List Piece) → known_after (Leave x outer ∷ st) k ps ≡ known_after st (naming x outer k) ps
+pub after_leave : (x : List ℕ) (outer : Option NamePlace) (st : List NameTask) (k : Known) (ps : List Piece) → known_after (Leave x outer ∷ st) k ps ≡ known_after st (naming x outer k) ps
 unfolding known_after taken ended
 after_leave x outer st k [] = refl
 after_leave x outer st k (piece ∷ ps) = refl
 
-pub after_note : (fault : TypeFault) (st : List Task) (k : Known) (ps : List Piece) → known_after (Note fault ∷ st) k ps ≡ known_after st (noted (Some fault) k) ps
+pub after_note : (fault : TypeFault) (st : List NameTask) (k : Known) (ps : List Piece) → known_after (Note fault ∷ st) k ps ≡ known_after st (noted (Some fault) k) ps
 unfolding known_after taken ended
 after_note fault st k [] = refl
 after_note fault st k (piece ∷ ps) = refl
 
-after_notes : (fault : Option TypeFault) (st : List Task) (k : Known) (ps : List Piece) → known_after (notes fault ++ st) k ps ≡ known_after st (noted fault k) ps
+after_notes : (fault : Option TypeFault) (st : List NameTask) (k : Known) (ps : List Piece) → known_after (notes fault ++ st) k ps ≡ known_after st (noted fault k) ps
 after_notes None st k ps = refl
 after_notes (Some fault) st k ps = after_note fault st k ps
 
-pub after_piece : (piece : Piece) (p : Place) (st : List Task) (k : Known) (ps : List Piece)
+pub after_piece : (piece : Piece) (p : NamePlace) (st : List NameTask) (k : Known) (ps : List Piece)
     → known_after (Part p ∷ st) k (piece ∷ ps) ≡ known_after (opened piece p st k).tasks (opened piece p st k).known ps
 unfolding known_after taken
 after_piece piece p st k ps = refl
 
-pub after_all : (p : Place) (st : List Task) (k : Known) → known_after (Part p ∷ st) k [] ≡ known_after st k []
+pub after_all : (p : NamePlace) (st : List NameTask) (k : Known) → known_after (Part p ∷ st) k [] ≡ known_after st k []
 unfolding known_after ended
 after_all p st k = refl
 
@@ -83,7 +83,7 @@ one_of None = []
 one_of (Some fault) = fault ∷ []
 
 -- what the names of these `rec`s mean
-abbrev pub found : List Around → List ℕ → Option Place
+abbrev pub found : List Around → List ℕ → Option NamePlace
 found [] x = None
 found (r ∷ rs) x = if bytes_eq r.x x then Some (record { is_positive = r.is_positive; guards = r.guards; depth = suc (length rs) }) else found rs x
 
@@ -93,7 +93,7 @@ names around = map (λ r. r.x) around
 -- a name of a `rec` or of none
 pub data Means (around : List Around) (x : List ℕ) : Type 0 where
   none : found around x ≡ None → nearest around x ≡ None → is_in (names around) x ≡ false → Means around x
-  some : (b : Place) (r : Around) → found around x ≡ Some b → nearest around x ≡ Some r → is_in (names around) x ≡ true
+  some : (b : NamePlace) (r : Around) → found around x ≡ Some b → nearest around x ≡ Some r → is_in (names around) x ≡ true
       → b.is_positive ≡ r.is_positive → b.guards ≡ r.guards → length around ≡ b.depth + place_in (names around) x → Means around x
 
 means : (around : List Around) (x : List ℕ) → Means around x
@@ -122,7 +122,7 @@ means (r ∷ rs) x = go (bytes_eq r.x x) refl (means rs x)
         (ap suc d ∙ (omega arith ∙ sym (ap (λ c. b.depth + (if c then 0 else suc (place_in (names rs) x))) e)))
 
 -- the place of a part under these `rec`s, and what is known there
-abbrev at_place : Bool → ℕ → List Around → Place
+abbrev at_place : Bool → ℕ → List Around → NamePlace
 at_place is_positive guards around = record { is_positive = is_positive; guards = guards; depth = length around }
 
 abbrev under : List Around → (List ℕ → Bool) → Option TypeFault → List Item → Known
@@ -168,7 +168,7 @@ abbrev mutual
 
 -- the pieces of a tree are read as its items and its first fault
 abbrev pub Reads : TypeTree → Type 0
-Reads t = (p : Bool) (around : List Around) (guards : ℕ) (st : List Task) (labels : List ℕ → Bool) (fault : Option TypeFault) (out : List Item) (rest : List Piece)
+Reads t = (p : Bool) (around : List Around) (guards : ℕ) (st : List NameTask) (labels : List ℕ → Bool) (fault : Option TypeFault) (out : List Item) (rest : List Piece)
     → known_after (Part (at_place p guards around) ∷ st) (under around labels fault out) (reverse (postorder t) ++ rest)
     ≡ known_after st (under around (labels_after labels t) (first_or (faults p around guards t) fault) (out ++ reverse (items (names around) t))) rest
 
@@ -176,7 +176,7 @@ abbrev in_list : List (List ℕ) → List ℕ → Bool
 in_list labels x = list_any (bytes_eq x) labels
 
 abbrev pub ReadsFields : TypeFields → Type 0
-ReadsFields all = (p : Bool) (around : List Around) (guards : ℕ) (st : List Task) (labels : List (List ℕ)) (fault : Option TypeFault) (out : List Item) (rest : List Piece)
+ReadsFields all = (p : Bool) (around : List Around) (guards : ℕ) (st : List NameTask) (labels : List (List ℕ)) (fault : Option TypeFault) (out : List Item) (rest : List Piece)
     → known_after (Part (at_place p guards around) ∷ st) (under around (in_list labels) fault out) (reverse (field_postorder all) ++ rest)
     ≡ known_after st (under around (field_labels_after (in_list labels) all) (first_or (field_faults p around guards labels all) fault) (out ++ reverse (field_items (names around) all))) rest
 
@@ -234,7 +234,7 @@ reads-arrow from to h h' p around guards st labels fault out rest =
 
 -- a join or a meet, whose own fault stands between its parts
 module _ (left right : TypeTree) (h : Reads left) (h' : Reads right) (it : Item) (p : Bool) (around : List Around) (guards : ℕ) (own : Option TypeFault) (own_faults : List TypeFault) (e : one_of own ≡ own_faults) where
-  reads-pair : (st : List Task) (labels : List ℕ → Bool) (fault : Option TypeFault) (out : List Item) (rest : List Piece)
+  reads-pair : (st : List NameTask) (labels : List ℕ → Bool) (fault : Option TypeFault) (out : List Item) (rest : List Piece)
       → known_after (Part (at_place p guards around) ∷ notes own ++ Part (at_place p guards around) ∷ st) (told it (under around labels fault out)) (reverse (postorder right) ++ (reverse (postorder left) ++ rest))
       ≡ known_after st (under around (labels_after (labels_after labels right) left)
       (first_or ((faults p around guards left ++ own_faults) ++ faults p around guards right) fault)

@@ -10,11 +10,11 @@ use Rattle.mls_typetext.specs.declared.scheme.ReadScheme.{ReadScheme}
 use Rattle.mls_typetext.specs.Trees.{TypeTree}
 use Rattle.mls_typetext.specs.Faults.{faults}
 use Rattle.mls_typetext.specs.Books.{type_of, id, book_of, root_of}
-use Rattle.mls_typetext.specs.Pieces.{postorder}
+use Rattle.mls_typetext.specs.steps.Pieces.{postorder}
 use Rattle.mls_typetext.specs.Texts.{read_of}
-use Rattle.mls_typetext.specs.Readers.{GivesItems}
-use Rattle.mls_typetext.specs.Measuring.{Measures}
-use Rattle.mls_typetext.specs.Laying.{AreNodesOf, stand}
+use Rattle.mls_typetext.specs.steps.NameReaders.{GivesItems}
+use Rattle.mls_typetext.specs.steps.Measuring.{Measures}
+use Rattle.mls_typetext.specs.steps.Laying.{AreNodesOf, stand}
 use Rattle.mls_typetext.proofs.Laid.{stands-is}
 use Rattle.mls_typetext.proofs.ReadLaws.{read_of-closed}
 

@@ -15,7 +15,7 @@ use Rattle.std.proofs.lemmas.Cmp.{nat_list_cmp_total}
 use Rattle.std.proofs.lemmas.List.Sorted.{sorted_far, ranks_by}
 use Rattle.mls_book.specs.declared.book.Field.{Field}
 use Rattle.mls_typetext.specs.Books.{placed_by, placed}
-use Rattle.mls_typetext.specs.Laying.{in_order}
+use Rattle.mls_typetext.specs.steps.Laying.{in_order}
 
 module _ {X : Type 0} (lt : X → X → Bool) (order : IsStrictWeakOrder lt) where
   -- no element of the list is less than this one

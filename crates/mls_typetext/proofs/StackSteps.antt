@@ -5,12 +5,12 @@ use Rattle.std.specs.List.{list_all}
 use Rattle.std.proofs.lemmas.List.{reverse-append, map-append, append_assoc}
 use Rattle.mls_lexer.specs.declared.token.Kind.{Kind}
 use Rattle.mls_lexer.specs.Tokens.{terminal_of}
-use Rattle.mls_lexer.proofs.Machine.{step, chosen, both, can_end}
-use Rattle.mls_typetext.specs.declared.end.Part.{Part as Kept}
+use Rattle.mls_lexer.specs.steps.Machine.{step, chosen, both, can_end}
+use Rattle.mls_typetext.specs.declared.end.EndPart.{EndPart as Kept}
 use Rattle.mls_typetext.specs.declared.end.Rest.{Rest}
 use Rattle.mls_typetext.specs.declared.end.Step.TheVariants.{Read, Over, Stuck}
-use Rattle.mls_typetext.specs.Parts.{Part, opens, may_end}
-use Rattle.mls_typetext.specs.Stacks.{part_of, stack_of, row_of, Behind, Opened, Stepped}
+use Rattle.mls_typetext.specs.steps.EndTable.{ToCome, opens, may_end}
+use Rattle.mls_typetext.specs.steps.EndStacks.{part_of, stack_of, row_of, Behind, Opened, Stepped}
 
 -- parts put on the stack come first
 pub stack_of-append : (parts more : List Kept) → stack_of (parts ++ more) ≡ stack_of more ++ stack_of parts
@@ -79,7 +79,7 @@ both_and true b c d e = e
 both_and false true c d e = refl
 both_and false false c d e = refl
 
-can_end-last : (st : List Part) (part : Part) → can_end may_end (st ++ part ∷ []) ≡ (may_end part && can_end may_end st)
+can_end-last : (st : List ToCome) (part : ToCome) → can_end may_end (st ++ part ∷ []) ≡ (may_end part && can_end may_end st)
 can_end-last [] part = go (may_end part)
   where
     go : (b : Bool) → both b true ≡ (b && true)

@@ -6,14 +6,13 @@ use Rattle.std.proofs.lemmas.Bool.{cases_lt}
 use Rattle.std.proofs.lemmas.List.{length-map, length-drop, take_all}
 use Rattle.std.proofs.lemmas.Option.{slice_get_within}
 use Rattle.mls_lexer.specs.declared.token.Token.{Token}
-use Rattle.mls_lexer.specs.Tokens.{Terminal, terminal, terminals}
+use Rattle.mls_lexer.specs.Tokens.{Terminal, terminal, terminals, place_of}
 use Rattle.mls_lexer.proofs.Readings as lexer
 use Rattle.mls_typetext.specs.declared.scheme.TypeFault.{TypeFault}
 use Rattle.mls_typetext.specs.declared.scheme.TypeFault.TheVariants.{Unexpected}
 use Rattle.mls_typetext.specs.Phrases.{Phrase, whole, yields}
 use Rattle.mls_typetext.specs.Trees.{meaning}
 use Rattle.mls_typetext.specs.Faults.{faults}
-use Rattle.mls_typetext.specs.Texts.{place_of}
 use Rattle.mls_typetext.specs.Stops.{IsType, BeginsType, IsFurthest, EndsBefore, HasStop, stops_before, stops_at_end, of_tokens, HasTypeFault, in_tokens, before, at_end, in_tree}
 use Rattle.mls_typetext.specs.Laws.{NoFaultBesideReading, OneFirstFault, OneEnd}
 use Rattle.mls_typetext.proofs.OnePhrase.{one_phrase}

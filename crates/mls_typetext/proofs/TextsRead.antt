@@ -6,17 +6,18 @@ use Rattle.std.proofs.lemmas.List.Elements.{All-take, All-drop}
 use Rattle.mls_lexer.specs.declared.token.LexFault.{LexFault}
 use Rattle.mls_lexer.specs.declared.token.LexFault.TheVariants as lex
 use Rattle.mls_lexer.specs.declared.token.Token.{Token}
-use Rattle.mls_lexer.specs.Tokens.{IsToken, IsTokens, HasTokenFault, terminal, terminals}
+use Rattle.mls_lexer.specs.Tokens.{IsToken, IsTokens, HasTokenFault, terminal, terminals, place_of}
 use Rattle.mls_lexer.proofs.Follows.{Follow-all}
 use Rattle.mls_typetext.specs.declared.scheme.ReadScheme.{ReadScheme}
 use Rattle.mls_typetext.specs.declared.scheme.TypeFault.{TypeFault}
 use Rattle.mls_typetext.specs.declared.scheme.TypeFault.TheVariants.{Memory}
 use Rattle.mls_typetext.specs.Phrases.{Phrase, whole, yields}
 use Rattle.mls_typetext.specs.Trees.{TypeTree, meaning}
-use Rattle.mls_typetext.specs.Pieces.{postorder}
-use Rattle.mls_typetext.specs.Building.{placed, told_of}
-use Rattle.mls_typetext.specs.Reads.{IsTold, IsReadOf, IsFaultOf}
-use Rattle.mls_typetext.specs.Texts.{place_of, IsTypeText}
+use Rattle.mls_typetext.specs.steps.Pieces.{postorder}
+use Rattle.mls_lexer.specs.steps.Placed.{placed}
+use Rattle.mls_typetext.specs.steps.PieceMachine.{told_of}
+use Rattle.mls_typetext.specs.steps.ReadPieces.{IsTold, IsReadOf, IsFaultOf}
+use Rattle.mls_typetext.specs.Texts.{IsTypeText}
 use Rattle.mls_typetext.specs.Stops.{IsType, EndsBefore, of_tokens, HasTypeFault, in_tokens, in_tree}
 use Rattle.mls_typetext.specs.TextsFrom.{ReadsFrom, HasFaultFrom, in_tree_from}
 use Rattle.mls_typetext.proofs.ReadPieces.{told-pieces}

@@ -7,7 +7,8 @@ use Rattle.std.proofs.lemmas.Option.{slice_get_within}
 use Rattle.mls_lexer.specs.declared.token.Token.{Token}
 use Rattle.mls_lexer.specs.declared.token.LexFault.{LexFault}
 use Rattle.mls_lexer.specs.Tokens.{Terminal, IsTokens, HasTokenFault, terminal, terminals}
-use Rattle.mls_lexer.proofs.Machine.{run, step, can_end}
+use Rattle.mls_lexer.specs.steps.Machine.{run, step, can_end}
+use Rattle.mls_lexer.proofs.TextOrder.{token_at}
 use Rattle.mls_lexer.proofs.Total.{tokens_or_fault}
 use Rattle.mls_typetext.specs.declared.scheme.ReadScheme.{ReadScheme}
 use Rattle.mls_typetext.specs.declared.scheme.TypeFault.{TypeFault}
@@ -15,8 +16,9 @@ use Rattle.mls_typetext.specs.declared.scheme.TypeFault.TheVariants.{Unexpected,
 use Rattle.mls_typetext.specs.Phrases.{Phrase, whole, yields}
 use Rattle.mls_typetext.specs.Trees.{meaning}
 use Rattle.mls_typetext.specs.Faults.{faults}
-use Rattle.mls_typetext.specs.Parts.{Part, a, opens, may_end}
-use Rattle.mls_typetext.specs.Texts.{place_of, read_of, IsTypeText}
+use Rattle.mls_typetext.specs.steps.EndTable.{ToCome, a, opens, may_end}
+use Rattle.mls_lexer.specs.Tokens.{place_of}
+use Rattle.mls_typetext.specs.Texts.{read_of, IsTypeText}
 use Rattle.mls_typetext.specs.Stops.{IsType, EndsBefore, HasStop, of_tokens, HasTypeFault, in_tokens, in_tree}
 use Rattle.mls_typetext.specs.Laws.{ReadingOrFault}
 use Rattle.mls_typetext.proofs.TypeMachine.{read}
@@ -27,13 +29,13 @@ use Rattle.mls_typetext.proofs.WholeTexts.{whole-stop, whole-end, whole-type}
 -- where the machine stops
 record StopsAt (ts : List Terminal) : Type 0 where
   pub count : ℕ
-  pub left : List Part
+  pub left : List ToCome
   pub within : count ≤ length ts
   pub is_read : IsRead ts count left
   pub stuck : IsStuck ts count left
 
 -- it stops somewhere from each place on
-stops_from : (ts : List Terminal) (more n : ℕ) (st : List Part) → n + more ≡ length ts → IsRead ts n st → StopsAt ts
+stops_from : (ts : List Terminal) (more n : ℕ) (st : List ToCome) → n + more ≡ length ts → IsRead ts n st → StopsAt ts
 stops_from ts zero n st all is =
     record {
       count = n;
@@ -44,13 +46,13 @@ stops_from ts zero n st all is =
     }
 stops_from ts (suc more) n st all is = by_next (slice_get ts n) refl (λ next further. stops_from ts more (suc n) next (omega arith) further)
   where
-    by_step : (t : Terminal) → slice_get ts n ≡ Some t → (o : Option (List Part)) → step opens may_end st t ≡ o
-        → ((next : List Part) → IsRead ts (suc n) next → StopsAt ts) → StopsAt ts
+    by_step : (t : Terminal) → slice_get ts n ≡ Some t → (o : Option (List ToCome)) → step opens may_end st t ≡ o
+        → ((next : List ToCome) → IsRead ts (suc n) next → StopsAt ts) → StopsAt ts
     by_step t at None none further =
         record { count = n; left = st; within = omega arith; is_read = is; stuck = stuck-at ts n t st at none }
     by_step t at (Some next) goes further = further next (read-more ts n t st next is at goes)
 
-    by_next : (o : Option Terminal) → slice_get ts n ≡ o → ((next : List Part) → IsRead ts (suc n) next → StopsAt ts) → StopsAt ts
+    by_next : (o : Option Terminal) → slice_get ts n ≡ o → ((next : List ToCome) → IsRead ts (suc n) next → StopsAt ts) → StopsAt ts
     by_next None none further =
         record {
           count = n;
@@ -64,11 +66,6 @@ stops_from ts (suc more) n st all is = by_next (slice_get ts n) refl (λ next fu
 nothing_read : (ts : List Terminal) → IsRead ts 0 (a whole ∷ [])
 unfolding run
 nothing_read ts = refl
-
-pub token_at : (tokens : List Token) (k : ℕ) → k < length tokens → (token : Token) × (slice_get tokens k ≡ Some token)
-token_at [] k low = absurd (omega arith)
-token_at (t ∷ tokens) zero low = (t, refl)
-token_at (t ∷ tokens) (suc k) low = token_at tokens k (omega arith)
 
 -- from a token on a type ends or stops
 pub ends_or_stops : (text : List ℕ) (tokens : List Token) (from : ℕ)

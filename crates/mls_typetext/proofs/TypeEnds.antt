@@ -6,13 +6,14 @@ use Rattle.std.proofs.lemmas.List.{length-map, length-drop, take_all, drop-map, 
 use Rattle.std.proofs.lemmas.Option.{slice_get-map, slice_get-get_or, slice_get_past, get_or_from_slice_get}
 use Rattle.mls_lexer.specs.declared.token.Token.{Token}
 use Rattle.mls_lexer.specs.Tokens.{Terminal, terminal, terminals}
-use Rattle.mls_lexer.proofs.Machine.{run, step, onward, run-append}
-use Rattle.mls_typetext.specs.declared.end.Part.{Part as Kept}
+use Rattle.mls_lexer.specs.steps.Machine.{run, step, onward}
+use Rattle.mls_lexer.proofs.Machine.{run-append}
+use Rattle.mls_typetext.specs.declared.end.EndPart.{EndPart as Kept}
 use Rattle.mls_typetext.specs.declared.end.Step.TheVariants.{Read, Over, Stuck}
 use Rattle.mls_typetext.specs.declared.scheme.TypeFault.TheVariants.{Unexpected, Ended}
 use Rattle.mls_typetext.specs.Phrases.{whole}
-use Rattle.mls_typetext.specs.Parts.{Part, a, opens, may_end}
-use Rattle.mls_typetext.specs.Stacks.{part_of, stack_of, Stepped}
+use Rattle.mls_typetext.specs.steps.EndTable.{ToCome, a, opens, may_end}
+use Rattle.mls_typetext.specs.steps.EndStacks.{part_of, stack_of, Stepped}
 use Rattle.mls_typetext.specs.Stops.{EndsBefore, HasStop}
 use Rattle.mls_typetext.proofs.TypeMachine.{read}
 use Rattle.mls_typetext.proofs.TypeStops.{IsRead, IsStuck, ends_before, has_stop, has_ended}
@@ -24,7 +25,7 @@ take-more (first ∷ ts) zero t e = let same : first ≡ t = cc in ap (λ t. t �
 take-more (first ∷ ts) (suc n) t e = ap (λ us. first ∷ us) (take-more ts n t e)
 
 -- one terminal more is read by one step
-pub read-more : (ts : List Terminal) (n : ℕ) (t : Terminal) (st next : List Part) → IsRead ts n st → slice_get ts n ≡ Some t → step opens may_end st t ≡ Some next → IsRead ts (suc n) next
+pub read-more : (ts : List Terminal) (n : ℕ) (t : Terminal) (st next : List ToCome) → IsRead ts n st → slice_get ts n ≡ Some t → step opens may_end st t ≡ Some next → IsRead ts (suc n) next
 unfolding run
 read-more ts n t st next is at goes =
     ap (read (a whole ∷ [])) (take-more ts n t at)
@@ -32,7 +33,7 @@ read-more ts n t st next is at goes =
     ∙ (ap (λ o. onward o (λ next. read next (t ∷ []))) is
     ∙ ap (λ o. onward o (λ next. read next [])) goes))
 
-pub stuck-at : (ts : List Terminal) (n : ℕ) (t : Terminal) (st : List Part) → slice_get ts n ≡ Some t → step opens may_end st t ≡ None → IsStuck ts n st
+pub stuck-at : (ts : List Terminal) (n : ℕ) (t : Terminal) (st : List ToCome) → slice_get ts n ≡ Some t → step opens may_end st t ≡ None → IsStuck ts n st
 stuck-at ts n t st at none = λ other at'.
     let same : t ≡ other = same_some t other (sym at ∙ at') in
     ap (step opens may_end st) (sym same) ∙ none
@@ -40,7 +41,7 @@ stuck-at ts n t st at none = λ other at'.
     same_some : (x y : Terminal) → Some x ≡ Some y → x ≡ y
     same_some x y e = cc
 
-stuck-past : (ts : List Terminal) (n : ℕ) (st : List Part) → length ts ≤ n → IsStuck ts n st
+stuck-past : (ts : List Terminal) (n : ℕ) (st : List ToCome) → length ts ≤ n → IsStuck ts n st
 stuck-past ts n st past = λ t at. let none : None ≡ Some t = sym (slice_get_past ts n past) ∙ at in absurd (cc)
 
 -- the tokens from a token on, as the loop has them
@@ -103,7 +104,7 @@ module _ (text : List ℕ) (tokens : List Token) (from : ℕ) where
         it.1 token-all
 
   -- behind the last token the type is over,
-  read-all : (n : ℕ) (st : List Part) → length (rest_of tokens from) ≤ n → IsRead (drop from (terminals text tokens)) n st → read (a whole ∷ []) (drop from (terminals text tokens)) ≡ Some st
+  read-all : (n : ℕ) (st : List ToCome) → length (rest_of tokens from) ≤ n → IsRead (drop from (terminals text tokens)) n st → read (a whole ∷ []) (drop from (terminals text tokens)) ≡ Some st
   read-all n st past is =
       let size = count-tokens in
       let size' = count-rest in

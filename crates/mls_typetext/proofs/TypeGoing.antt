@@ -3,20 +3,21 @@ use Rattle.std.proofs.Common.{◌≡◌, true, ℕ, List, [], ◌∷◌, ◌++�
 use Rattle.std.specs.Prelude.{Option}
 use Rattle.mls_lexer.specs.declared.token.Kind.TheVariants as kind
 use Rattle.mls_lexer.specs.Tokens.{Terminal, name, word}
-use Rattle.mls_lexer.proofs.Machine.{run, can_end, onward, run-append, Phrases, spell, some_phrases, OpensSoundly, ReadsSoundly, IsSound, run-sound, empty_phrases}
+use Rattle.mls_lexer.specs.steps.Machine.{run, can_end, onward}
+use Rattle.mls_lexer.proofs.Machine.{run-append, Phrases, spell, some_phrases, OpensSoundly, ReadsSoundly, IsSound, run-sound, empty_phrases}
 use Rattle.mls_typetext.specs.Phrases.{whole, codomain, join, join_tail, meet, meet_tail, atom, fields, more_fields, Phrase, recursive, joined, no_codomain, to, joins, no_join, or, meets, no_meet, and, named, boolean, integer, top, bot, parens, braces, no_field, first_field, last_field, next_field, yields}
-use Rattle.mls_typetext.specs.Parts.{Part, a, the_name, the_dot, the_colon, the_paren, atom_opens, opens, may_end}
+use Rattle.mls_typetext.specs.steps.EndTable.{ToCome, a, the_name, the_dot, the_colon, the_paren, atom_opens, opens, may_end}
 use Rattle.mls_typetext.proofs.TypeMachine.{read, left, reads}
 
 -- phrases of parts, and what they spell
-abbrev pub PhraseOf : Part → Type 0
+abbrev pub PhraseOf : ToCome → Type 0
 PhraseOf (a s) = Phrase s
 PhraseOf the_name = List ℕ
 PhraseOf the_dot = Unit {0}
 PhraseOf the_colon = Unit {0}
 PhraseOf the_paren = Unit {0}
 
-abbrev pub yields_of : (s : Part) → PhraseOf s → List Terminal → List Terminal
+abbrev pub yields_of : (s : ToCome) → PhraseOf s → List Terminal → List Terminal
 yields_of (a s) p ts = yields p ts
 yields_of the_name x ts = name x ∷ ts
 yields_of the_dot p ts = word kind.Dot ∷ ts
@@ -24,7 +25,7 @@ yields_of the_colon p ts = word kind.Colon ∷ ts
 yields_of the_paren p ts = word kind.ParenRight ∷ ts
 
 -- there is a phrase of each sort
-some_phrase : (s : Part) → PhraseOf s
+some_phrase : (s : ToCome) → PhraseOf s
 some_phrase (a whole) = joined (joins (meets boolean no_meet) no_join) no_codomain
 some_phrase (a codomain) = no_codomain
 some_phrase (a join) = joins (meets boolean no_meet) no_join
@@ -40,10 +41,10 @@ some_phrase the_colon = tt
 some_phrase the_paren = tt
 
 -- an atom opens soundly, where it and what comes behind it make the part
-abbrev Builds : Part → List Part → Type 0
+abbrev Builds : ToCome → List ToCome → Type 0
 Builds s row = (x : Phrase atom) (qs : Phrases PhraseOf row) → (p : PhraseOf s) × ((ts : List Terminal) → yields_of s p ts ≡ yields x (spell PhraseOf yields_of row qs ts))
 
-atom-sound : (s : Part) (row : List Part) → Builds s row → (t : Terminal) → OpensSoundly PhraseOf yields_of s t (atom_opens row t)
+atom-sound : (s : ToCome) (row : List ToCome) → Builds s row → (t : Terminal) → OpensSoundly PhraseOf yields_of s t (atom_opens row t)
 unfolding yields
 atom-sound s row build (name x) = λ qs. build (named x) qs
 atom-sound s row build (word kind.WordBool) = λ qs. build boolean qs
@@ -69,7 +70,7 @@ build_meet x qs = (meets x qs.0, λ ts. refl)
 build_atom : Builds (a atom) []
 build_atom x qs = (x, λ ts. refl)
 
-opening : (s : Part) (t : Terminal) → OpensSoundly PhraseOf yields_of s t (opens s t)
+opening : (s : ToCome) (t : Terminal) → OpensSoundly PhraseOf yields_of s t (opens s t)
 unfolding yields
 opening (a whole) (word kind.WordRec) = λ qs. (recursive qs.0 qs.1.1.0, λ ts. refl)
 opening (a whole) t = atom-sound (a whole) (a meet_tail ∷ a join_tail ∷ a codomain ∷ []) build_whole t
@@ -97,7 +98,7 @@ opening the_colon _ = tt
 opening the_paren (word kind.ParenRight) = λ qs. (tt, λ ts. refl)
 opening the_paren _ = tt
 
-empty : (s : Part) → may_end s ≡ true → (p : PhraseOf s) × ((ts : List Terminal) → yields_of s p ts ≡ ts)
+empty : (s : ToCome) → may_end s ≡ true → (p : PhraseOf s) × ((ts : List Terminal) → yields_of s p ts ≡ ts)
 unfolding yields
 empty (a codomain) e = (no_codomain, λ ts. refl)
 empty (a join_tail) e = (no_join, λ ts. refl)
@@ -120,7 +121,7 @@ grammar_is_sound = record { opening = opening; empty = empty }
 abbrev pub Begins : List Terminal → Type 0
 Begins us = (p : Phrase whole) × (more : List Terminal) × (yields p [] ≡ us ++ more)
 
-abbrev pub IsThere : Option (List Part) → Type 0
+abbrev pub IsThere : Option (List ToCome) → Type 0
 IsThere None = ⊥
 IsThere (Some st) = Unit {0}
 
@@ -132,7 +133,7 @@ begins-read us it = go (read (a whole ∷ []) us) both
     both : onward (read (a whole ∷ []) us) (λ next. read next it.1) ≡ Some (left whole ++ [])
     both = sym (run-append opens may_end (a whole ∷ []) us it.1) ∙ (ap (read (a whole ∷ [])) (sym it.2) ∙ reads it.0 [] [])
 
-    go : (o : Option (List Part)) → onward o (λ next. read next it.1) ≡ Some (left whole ++ []) → IsThere o
+    go : (o : Option (List ToCome)) → onward o (λ next. read next it.1) ≡ Some (left whole ++ []) → IsThere o
     go None e = cc
     go (Some st) e = tt
 
@@ -140,7 +141,7 @@ begins-read us it = go (read (a whole ∷ []) us) both
 pub read-begins : (us : List Terminal) → IsThere (read (a whole ∷ []) us) → Begins us
 read-begins us there = go (read (a whole ∷ []) us) (run-sound opens may_end PhraseOf yields_of grammar_is_sound us (a whole ∷ [])) there
   where
-    go : (o : Option (List Part)) → ReadsSoundly PhraseOf yields_of (a whole ∷ []) us o → IsThere o → Begins us
+    go : (o : Option (List ToCome)) → ReadsSoundly PhraseOf yields_of (a whole ∷ []) us o → IsThere o → Begins us
     go None sound there = absurd there
     go (Some st) sound there =
         let qs : Phrases PhraseOf st = some_phrases PhraseOf some_phrase st in
@@ -153,10 +154,10 @@ unfolding run
 type-read us p e = ap (read (a whole ∷ [])) (sym e) ∙ reads p [] []
 
 -- and terminals behind which nothing has to come are a type
-pub read-type : (us : List Terminal) (st : List Part) → read (a whole ∷ []) us ≡ Some st → can_end may_end st ≡ true → (p : Phrase whole) × (yields p [] ≡ us)
+pub read-type : (us : List Terminal) (st : List ToCome) → read (a whole ∷ []) us ≡ Some st → can_end may_end st ≡ true → (p : Phrase whole) × (yields p [] ≡ us)
 read-type us st is can = go (read (a whole ∷ []) us) (run-sound opens may_end PhraseOf yields_of grammar_is_sound us (a whole ∷ [])) is
   where
-    go : (o : Option (List Part)) → ReadsSoundly PhraseOf yields_of (a whole ∷ []) us o → o ≡ Some st → (p : Phrase whole) × (yields p [] ≡ us)
+    go : (o : Option (List ToCome)) → ReadsSoundly PhraseOf yields_of (a whole ∷ []) us o → o ≡ Some st → (p : Phrase whole) × (yields p [] ≡ us)
     go None sound e = absurd (cc)
     go (Some next) sound e =
         let same : next ≡ st = cc in

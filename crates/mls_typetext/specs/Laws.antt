@@ -1,20 +1,21 @@
 -- Laws of the texts of types.
-use Rattle.std.specs.Prelude.{◌≡◌, ◌⊎◌, ℕ, ◌+◌, ◌<◌, ◌≤◌, true, List, [], ◌∷◌, length, All}
+use Rattle.std.specs.Prelude.{◌≡◌, ◌⊎◌, ℕ, ◌+◌, ◌<◌, ◌≤◌, true, List, [], ◌∷◌, length, take, drop, All}
 use Rattle.mls_book.specs.declared.book.Node.TheVariants.{Var}
 use Rattle.mls_book.specs.Books.{IsClosedBook, node_at}
 use Rattle.mls_book.specs.Predicates.{Predicate}
 use Rattle.mls_book.specs.Passes.{passes_by}
 use Rattle.mls_lexer.specs.declared.token.Token.{Token}
-use Rattle.mls_lexer.specs.Tokens.{IsTokens}
+use Rattle.mls_lexer.specs.Tokens.{IsTokens, terminals}
 use Rattle.mls_typetext.specs.declared.scheme.ReadScheme.{ReadScheme}
 use Rattle.mls_typetext.specs.declared.scheme.TypeFault.{TypeFault}
-use Rattle.mls_typetext.specs.Phrases.{Phrase, whole, width}
+use Rattle.mls_typetext.specs.Phrases.{Phrase, whole, yields}
 use Rattle.mls_typetext.specs.Faults.{faults}
 use Rattle.mls_typetext.specs.Stops.{EndsBefore, HasStop, HasTypeFault, tree_place}
 use Rattle.mls_typetext.specs.Trees.{TypeTree, meaning}
 use Rattle.mls_typetext.specs.Books.{Ty, type_of}
 use Rattle.mls_typetext.specs.Values.{HasValue}
-use Rattle.mls_typetext.specs.Texts.{place_of, read_of, IsTypeOf, IsTypeText}
+use Rattle.mls_lexer.specs.Tokens.{place_of}
+use Rattle.mls_typetext.specs.Texts.{read_of, IsTypeOf, IsTypeText}
 use Rattle.mls_typetext.specs.TextsFrom.{ReadsFrom, HasFaultFrom}
 
 -- the book is closed, its root is there, and its variables are below their number
@@ -56,8 +57,8 @@ ReadingOrFault = (text : List ℕ) → ((read : ReadScheme) × IsTypeText text r
 -- of the faults of a tree, the first in the order of the text has the least place
 abbrev pub FirstIsLeast : Type 0
 FirstIsLeast =
-    (text : List ℕ) (tokens : List Token) (from : ℕ) (phrase : Phrase whole) (fault : TypeFault) (later : List TypeFault)
-    → IsTokens text tokens → from + width phrase ≤ length tokens
+    (text : List ℕ) (tokens : List Token) (from count : ℕ) (phrase : Phrase whole) (fault : TypeFault) (later : List TypeFault)
+    → IsTokens text tokens → yields phrase [] ≡ take count (drop from (terminals text tokens))
     → faults true [] 0 (meaning (place_of tokens) from phrase) ≡ fault ∷ later
     → All (λ other. tree_place fault ≤ tree_place other) later
 

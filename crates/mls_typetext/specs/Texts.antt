@@ -1,16 +1,12 @@
 -- Which texts are types, and what they are read as.
-use Rattle.std.specs.Prelude.{◌≡◌, ℕ, true, List, [], length, slice_get, option_map, unwrap_or}
+use Rattle.std.specs.Prelude.{◌≡◌, ℕ, true, List, [], length}
 use Rattle.mls_lexer.specs.declared.token.Token.{Token}
-use Rattle.mls_lexer.specs.Tokens.{IsTokens, terminals}
+use Rattle.mls_lexer.specs.Tokens.{IsTokens, terminals, place_of}
 use Rattle.mls_typetext.specs.declared.scheme.ReadScheme.{ReadScheme}
 use Rattle.mls_typetext.specs.Phrases.{Phrase, whole, yields}
 use Rattle.mls_typetext.specs.Trees.{TypeTree, meaning}
 use Rattle.mls_typetext.specs.Faults.{faults}
 use Rattle.mls_typetext.specs.Books.{type_of, variables, book_of, root_of, id}
-
--- the place of token k
-abbrev pub place_of : List Token → ℕ → ℕ
-place_of tokens k = unwrap_or (option_map (λ token. token.start) (slice_get tokens k)) 0
 
 -- what a tree is read as
 abbrev pub read_of : TypeTree → ReadScheme

@@ -1,13 +1,13 @@
 -- What the type that begins at a token is read as, and its first fault.
 use Rattle.std.specs.Prelude.{◌≡◌, ℕ, true, List, [], ◌∷◌, take, drop}
 use Rattle.mls_lexer.specs.declared.token.Token.{Token}
-use Rattle.mls_lexer.specs.Tokens.{terminals}
+use Rattle.mls_lexer.specs.Tokens.{terminals, place_of}
 use Rattle.mls_typetext.specs.declared.scheme.ReadScheme.{ReadScheme}
 use Rattle.mls_typetext.specs.declared.scheme.TypeFault.{TypeFault}
 use Rattle.mls_typetext.specs.Phrases.{Phrase, whole, yields}
 use Rattle.mls_typetext.specs.Trees.{meaning}
 use Rattle.mls_typetext.specs.Faults.{faults}
-use Rattle.mls_typetext.specs.Texts.{place_of, read_of}
+use Rattle.mls_typetext.specs.Texts.{read_of}
 use Rattle.mls_typetext.specs.Stops.{EndsBefore, HasStop}
 
 -- the type that begins at token `from` ends before token k, nothing in its tree is a fault, and it is read as this

@@ -3,8 +3,8 @@ ghost use Rattle.std.specs.Prelude.{◌≡◌, ◌≢◌, ◌≤◌, length, IfO
 ghost use Rattle.std.specs.List.{list_all};
 ghost use Rattle.mls_lexer.specs.Tokens.{IsTokens};
 ghost use Rattle.mls_typetext.specs.Stops.{EndsBefore, HasStop};
-ghost use Rattle.mls_typetext.specs.Parts.{may_end};
-ghost use Rattle.mls_typetext.specs.Stacks.{Behind, BehindAtom, BehindOne, Opened, Stepped, part_of};
+ghost use Rattle.mls_typetext.specs.steps.EndTable.{may_end};
+ghost use Rattle.mls_typetext.specs.steps.EndStacks.{Behind, BehindAtom, BehindOne, Opened, Stepped, part_of};
 
 use crate::scheme::TypeFault;
 use mls_base::memory::Memory;
@@ -13,7 +13,7 @@ use std::alloc::Global;
 
 // A part of a type that is still to come.
 #[derive(Clone, Copy)]
-enum Part {
+enum EndPart {
     Whole,
     Codomain,
     Join,
@@ -32,8 +32,8 @@ enum Part {
 // What is left to come behind a token, each with the next part last: `inner`, and below it `outer`.
 #[derive(Clone, Copy)]
 struct Rest {
-    outer: &'static [Part],
-    inner: &'static [Part],
+    outer: &'static [EndPart],
+    inner: &'static [EndPart],
 }
 
 // What a token did: a part began with it, or nothing has to come and none did, or what has to come cannot begin with it.
@@ -59,7 +59,7 @@ pub fn type_end(
     ensures fault { IfErr result (λ fault. fault ≢ TypeFault.Memory → HasStop text.now tokens.now from fault) }
 {
     let mut stack = Vec::new(alloc);
-    stack.push(Part::Whole)?;
+    stack.push(EndPart::Whole)?;
     for (count, token) in tokens[from..].iter().enumerate() {
         match read_token(&mut stack, token.kind)? {
             Step::Read => {}
@@ -75,7 +75,7 @@ pub fn type_end(
 }
 
 // Reads one token: takes the parts that may be empty off the stack up to one that begins with the token.
-fn read_token(stack: &mut Vec<Part>, kind: Kind) -> Result<Step, Memory>
+fn read_token(stack: &mut Vec<EndPart>, kind: Kind) -> Result<Step, Memory>
     ensures { IfOk result (λ step. Stepped kind stack.old.items stack.new.items step) }
 {
     while let Some(part) = stack.pop() {
@@ -90,7 +90,7 @@ fn read_token(stack: &mut Vec<Part>, kind: Kind) -> Result<Step, Memory>
 }
 
 // Whether the part begins with a token of this kind: then what is left to come behind it is put on the stack.
-fn begin(stack: &mut Vec<Part>, part: Part, kind: Kind) -> Result<bool, Memory>
+fn begin(stack: &mut Vec<EndPart>, part: EndPart, kind: Kind) -> Result<bool, Memory>
     ensures { IfOk result (λ begun. Opened part kind stack.old.items stack.new.items begun) }
 {
     match behind(part, kind) {
@@ -104,42 +104,45 @@ fn begin(stack: &mut Vec<Part>, part: Part, kind: Kind) -> Result<bool, Memory>
 }
 
 // Whether all parts of the stack may be empty.
-fn can_end(stack: &[Part]) -> bool
+fn can_end(stack: &[EndPart]) -> bool
     ensures { result ≡ list_all (λ part. may_end (part_of part)) stack.now }
 {
     stack.iter().all(|part| may_end(*part))
 }
 
 // Whether the part may be empty.
-fn may_end(part: Part) -> bool
+fn may_end(part: EndPart) -> bool
     ensures { result ≡ may_end (part_of part) }
 {
-    matches!(part, Part::Codomain | Part::JoinTail | Part::MeetTail)
+    matches!(
+        part,
+        EndPart::Codomain | EndPart::JoinTail | EndPart::MeetTail
+    )
 }
 
 // What is left to come behind a token of this kind, where the part begins with it.
-fn behind(part: Part, kind: Kind) -> Option<Rest>
+fn behind(part: EndPart, kind: Kind) -> Option<Rest>
     ensures { Behind part kind result }
 {
     match part {
-        Part::Whole => behind_whole(kind),
-        Part::Codomain => behind_one(kind, Kind::Arrow, &[Part::Whole]),
-        Part::Join => behind_atom(&[Part::JoinTail, Part::MeetTail], kind),
-        Part::JoinTail => behind_one(kind, Kind::Bar, &[Part::JoinTail, Part::Meet]),
-        Part::Meet => behind_atom(&[Part::MeetTail], kind),
-        Part::MeetTail => behind_one(kind, Kind::Amp, &[Part::MeetTail, Part::Atom]),
-        Part::Atom => behind_atom(&[], kind),
-        Part::Fields => behind_fields(kind),
-        Part::MoreFields => behind_more_fields(kind),
-        Part::Name => behind_one(kind, Kind::Name, &[]),
-        Part::Dot => behind_one(kind, Kind::Dot, &[]),
-        Part::Colon => behind_one(kind, Kind::Colon, &[]),
-        Part::ParenRight => behind_one(kind, Kind::ParenRight, &[]),
+        EndPart::Whole => behind_whole(kind),
+        EndPart::Codomain => behind_one(kind, Kind::Arrow, &[EndPart::Whole]),
+        EndPart::Join => behind_atom(&[EndPart::JoinTail, EndPart::MeetTail], kind),
+        EndPart::JoinTail => behind_one(kind, Kind::Bar, &[EndPart::JoinTail, EndPart::Meet]),
+        EndPart::Meet => behind_atom(&[EndPart::MeetTail], kind),
+        EndPart::MeetTail => behind_one(kind, Kind::Amp, &[EndPart::MeetTail, EndPart::Atom]),
+        EndPart::Atom => behind_atom(&[], kind),
+        EndPart::Fields => behind_fields(kind),
+        EndPart::MoreFields => behind_more_fields(kind),
+        EndPart::Name => behind_one(kind, Kind::Name, &[]),
+        EndPart::Dot => behind_one(kind, Kind::Dot, &[]),
+        EndPart::Colon => behind_one(kind, Kind::Colon, &[]),
+        EndPart::ParenRight => behind_one(kind, Kind::ParenRight, &[]),
     }
 }
 
 // The same for a part that begins with one kind of token alone.
-fn behind_one(kind: Kind, wanted: Kind, inner: &'static [Part]) -> Option<Rest>
+fn behind_one(kind: Kind, wanted: Kind, inner: &'static [EndPart]) -> Option<Rest>
     ensures { BehindOne kind wanted inner.now result }
 {
     if kind == wanted {
@@ -151,19 +154,22 @@ fn behind_one(kind: Kind, wanted: Kind, inner: &'static [Part]) -> Option<Rest>
 
 // The same for a whole type.
 fn behind_whole(kind: Kind) -> Option<Rest>
-    ensures { Behind Part.Whole kind result }
+    ensures { Behind EndPart.Whole kind result }
 {
     match kind {
         Kind::WordRec => Some(Rest {
             outer: &[],
-            inner: &[Part::Whole, Part::Dot, Part::Name],
+            inner: &[EndPart::Whole, EndPart::Dot, EndPart::Name],
         }),
-        _ => behind_atom(&[Part::Codomain, Part::JoinTail, Part::MeetTail], kind),
+        _ => behind_atom(
+            &[EndPart::Codomain, EndPart::JoinTail, EndPart::MeetTail],
+            kind,
+        ),
     }
 }
 
 // The same for an atom that these parts follow.
-fn behind_atom(outer: &'static [Part], kind: Kind) -> Option<Rest>
+fn behind_atom(outer: &'static [EndPart], kind: Kind) -> Option<Rest>
     ensures { BehindAtom outer.now kind result }
 {
     match kind {
@@ -174,11 +180,11 @@ fn behind_atom(outer: &'static [Part], kind: Kind) -> Option<Rest>
         Kind::WordBot => Some(Rest { outer, inner: &[] }),
         Kind::ParenLeft => Some(Rest {
             outer,
-            inner: &[Part::ParenRight, Part::Whole],
+            inner: &[EndPart::ParenRight, EndPart::Whole],
         }),
         Kind::BraceLeft => Some(Rest {
             outer,
-            inner: &[Part::Fields],
+            inner: &[EndPart::Fields],
         }),
         _ => None,
     }
@@ -186,7 +192,7 @@ fn behind_atom(outer: &'static [Part], kind: Kind) -> Option<Rest>
 
 // The same for what stands behind the opening brace of a record.
 fn behind_fields(kind: Kind) -> Option<Rest>
-    ensures { Behind Part.Fields kind result }
+    ensures { Behind EndPart.Fields kind result }
 {
     match kind {
         Kind::BraceRight => Some(Rest {
@@ -195,7 +201,7 @@ fn behind_fields(kind: Kind) -> Option<Rest>
         }),
         Kind::Name => Some(Rest {
             outer: &[],
-            inner: &[Part::MoreFields, Part::Whole, Part::Colon],
+            inner: &[EndPart::MoreFields, EndPart::Whole, EndPart::Colon],
         }),
         _ => None,
     }
@@ -203,7 +209,7 @@ fn behind_fields(kind: Kind) -> Option<Rest>
 
 // The same for what stands behind a field.
 fn behind_more_fields(kind: Kind) -> Option<Rest>
-    ensures { Behind Part.MoreFields kind result }
+    ensures { Behind EndPart.MoreFields kind result }
 {
     match kind {
         Kind::BraceRight => Some(Rest {
@@ -212,7 +218,12 @@ fn behind_more_fields(kind: Kind) -> Option<Rest>
         }),
         Kind::Comma => Some(Rest {
             outer: &[],
-            inner: &[Part::MoreFields, Part::Whole, Part::Colon, Part::Name],
+            inner: &[
+                EndPart::MoreFields,
+                EndPart::Whole,
+                EndPart::Colon,
+                EndPart::Name,
+            ],
         }),
         _ => None,
     }

@@ -1,9 +1,10 @@
 //! Types from their texts.
 ghost use Rattle.std.specs.Prelude.{◌≡◌, ◌≢◌, ◌≤◌, [], length, All, IfOk, IfErr};
 ghost use Rattle.mls_lexer.specs.Tokens.{IsToken, IsTokens};
-ghost use Rattle.mls_typetext.specs.Building.{placed, told_of};
-ghost use Rattle.mls_typetext.specs.Laying.{stand};
-ghost use Rattle.mls_typetext.specs.Reads.{IsTold, IsReadOf, IsFaultOf};
+ghost use Rattle.mls_lexer.specs.steps.Placed.{placed};
+ghost use Rattle.mls_typetext.specs.steps.PieceMachine.{told_of};
+ghost use Rattle.mls_typetext.specs.steps.Laying.{stand};
+ghost use Rattle.mls_typetext.specs.steps.ReadPieces.{IsTold, IsReadOf, IsFaultOf};
 ghost use Rattle.mls_typetext.specs.Stops.{HasTypeFault};
 ghost use Rattle.mls_typetext.specs.Texts.{IsTypeText};
 ghost use Rattle.mls_typetext.specs.TextsFrom.{ReadsFrom, HasFaultFrom};

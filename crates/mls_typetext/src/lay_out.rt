@@ -2,7 +2,7 @@
 ghost use Rattle.std.specs.Prelude.{◌≡◌, [], ◌∷◌, reverse, None, IfOk, OnOk};
 ghost use Rattle.mls_book.specs.declared.book.Node.TheVariants.{Rcd};
 ghost use Rattle.mls_typetext.specs.Books.{id, node_in};
-ghost use Rattle.mls_typetext.specs.Laying.{AreNodesOf, at_place, closed, end_at, enter, hold, in_order, lay_field, lay_next, lay_part, stand, state_of, todo};
+ghost use Rattle.mls_typetext.specs.steps.Laying.{AreNodesOf, at_place, closed, end_at, enter, hold, in_order, lay_field, lay_next, lay_part, stand, state_of, todo};
 
 use crate::count::sum;
 use crate::piece::{Member, Size};
@@ -13,7 +13,7 @@ use std::mem;
 
 // Where the nodes of a part go.
 #[derive(Clone, Copy)]
-enum Place {
+enum LayoutPlace {
     // The part belongs to the layer that is open: its nodes begin at the first number, and those below it at the second.
     Part(usize, usize, Size),
     // It is a layer of its own, which begins at this number, with all that lies below it.
@@ -24,9 +24,9 @@ enum Place {
 
 // What is still to do.
 #[derive(Clone, Copy)]
-enum Task {
+enum LayoutTask {
     // A part is to come.
-    At(Place),
+    At(LayoutPlace),
     // The body of a `rec` is over.
     Leave,
     // A layer is over: its nodes are held from this place on.
@@ -37,7 +37,7 @@ enum Task {
 #[derive(Drop)]
 struct Layout {
     // The next thing to do is the last.
-    tasks: Vec<Task>,
+    tasks: Vec<LayoutTask>,
     // The nodes for which the `rec`s around stand, the nearest last.
     recs: Vec<usize>,
     // The nodes of the layers that are open, each layer from its last node.
@@ -54,29 +54,31 @@ impl Layout {
         ensures { OnOk result (state_of self.new ≡ lay_next member (closed (state_of self.old))) }
     {
         match self.next()? {
-            Some(Place::Part(layer, below, size)) => self.lay_part(member, layer, below, size),
-            Some(Place::Block(layer, size)) => {
+            Some(LayoutPlace::Part(layer, below, size)) => self.lay_part(
+                member, layer, below, size,
+            ),
+            Some(LayoutPlace::Block(layer, size)) => {
                 let below = sum(layer, size.here)?;
-                self.tasks.push(Task::End(self.held.len()))?;
+                self.tasks.push(LayoutTask::End(self.held.len()))?;
                 self.lay_part(member, layer, below, size)
             }
-            Some(Place::Fields(below)) => self.lay_field(alloc, member, below),
+            Some(LayoutPlace::Fields(below)) => self.lay_field(alloc, member, below),
             None => Ok(()),
         }
     }
 
     // The place of the next piece. What is over before it is closed.
-    fn next(&mut self) -> Result<Option<Place>, Memory>
+    fn next(&mut self) -> Result<Option<LayoutPlace>, Memory>
         ensures closed { IfOk result (λ place. closed (state_of self.old) ≡ at_place place (state_of self.new)) }
         ensures none { IfOk result (λ place. place ≡ None → self.new.tasks.items ≡ []) }
     {
         while let Some(task) = self.tasks.pop() {
             match task {
-                Task::At(place) => return Ok(Some(place)),
-                Task::Leave => {
+                LayoutTask::At(place) => return Ok(Some(place)),
+                LayoutTask::Leave => {
                     self.recs.pop();
                 }
-                Task::End(start) => self.end(start)?,
+                LayoutTask::End(start) => self.end(start)?,
             }
         }
         Ok(None)
@@ -113,15 +115,18 @@ impl Layout {
             Member::Arrow(domain, codomain) => {
                 let next = sum(below, sum(domain.here, domain.under)?)?;
                 let node = Node::Arrow(self.node_of(below, domain)?, self.node_of(next, codomain)?);
-                self.todo(Place::Block(below, domain), Place::Block(next, codomain))?;
+                self.todo(
+                    LayoutPlace::Block(below, domain),
+                    LayoutPlace::Block(next, codomain),
+                )?;
                 self.hold(node)
             }
             Member::Join(left, right) => {
                 let (next, under) = (sum(layer, left.here)?, sum(below, left.under)?);
                 let node = Node::Join(self.node_of(layer, left)?, self.node_of(next, right)?);
                 self.todo(
-                    Place::Part(layer, below, left),
-                    Place::Part(next, under, right),
+                    LayoutPlace::Part(layer, below, left),
+                    LayoutPlace::Part(next, under, right),
                 )?;
                 self.hold(node)
             }
@@ -129,14 +134,14 @@ impl Layout {
                 let (next, under) = (sum(layer, left.here)?, sum(below, left.under)?);
                 let node = Node::Meet(self.node_of(layer, left)?, self.node_of(next, right)?);
                 self.todo(
-                    Place::Part(layer, below, left),
-                    Place::Part(next, under, right),
+                    LayoutPlace::Part(layer, below, left),
+                    LayoutPlace::Part(next, under, right),
                 )?;
                 self.hold(node)
             }
             Member::Rec(body) => self.enter(layer, below, size, body),
             Member::Record => {
-                self.tasks.push(Task::At(Place::Fields(below)))?;
+                self.tasks.push(LayoutTask::At(LayoutPlace::Fields(below)))?;
                 Ok(())
             }
             // These stand among the fields of a record.
@@ -153,7 +158,7 @@ impl Layout {
                 let node = self.node_of(below, size)?;
                 let next = sum(below, sum(size.here, size.under)?)?;
                 self.fields.push(Field { label, node })?;
-                self.todo(Place::Block(below, size), Place::Fields(next))
+                self.todo(LayoutPlace::Block(below, size), LayoutPlace::Fields(next))
             }
             Member::Last => {
                 let fields = mem::replace(&mut self.fields, Vec::new(alloc));
@@ -166,11 +171,12 @@ impl Layout {
 
     // Goes into the body of a `rec` of this size.
     fn enter(&mut self, layer: usize, below: usize, size: Size, body: Size) -> Result<(), Memory>
-        ensures { OnOk result (state_of self.new ≡ enter (stand layer (state_of self.old).recs size) (todo (Task.At (Place.Part layer below body) ∷ Task.Leave ∷ []) (state_of self.old))) }
+        ensures { OnOk result (state_of self.new ≡ enter (stand layer (state_of self.old).recs size) (todo (LayoutTask.At (LayoutPlace.Part layer below body) ∷ LayoutTask.Leave ∷ []) (state_of self.old))) }
     {
         let node = self.node_of(layer, size)?;
-        self.tasks.push(Task::Leave)?;
-        self.tasks.push(Task::At(Place::Part(layer, below, body)))?;
+        self.tasks.push(LayoutTask::Leave)?;
+        self.tasks
+            .push(LayoutTask::At(LayoutPlace::Part(layer, below, body)))?;
         self.recs.push(node.0)?;
         Ok(())
     }
@@ -184,11 +190,11 @@ impl Layout {
     }
 
     // Two places are still to come: the last of them first.
-    fn todo(&mut self, second: Place, first: Place) -> Result<(), Memory>
-        ensures { OnOk result (state_of self.new ≡ todo (Task.At first ∷ Task.At second ∷ []) (state_of self.old)) }
+    fn todo(&mut self, second: LayoutPlace, first: LayoutPlace) -> Result<(), Memory>
+        ensures { OnOk result (state_of self.new ≡ todo (LayoutTask.At first ∷ LayoutTask.At second ∷ []) (state_of self.old)) }
     {
-        self.tasks.push(Task::At(second))?;
-        self.tasks.push(Task::At(first))?;
+        self.tasks.push(LayoutTask::At(second))?;
+        self.tasks.push(LayoutTask::At(first))?;
         Ok(())
     }
 
@@ -235,7 +241,7 @@ pub fn lay_out(alloc: Global, members: Vec<Member>, size: Size) -> Result<Vec<No
     ensures { IfOk result (λ nodes. AreNodesOf members.items size nodes.items) }
 {
     let mut layout = Layout {
-        tasks: vec![in alloc; Task::At(Place::Block(0, size))]?,
+        tasks: vec![in alloc; LayoutTask::At(LayoutPlace::Block(0, size))]?,
         recs: Vec::new(alloc),
         held: Vec::new(alloc),
         fields: Vec::new(alloc),

@@ -1,7 +1,7 @@
 //! The numbers of the variables of a type, and the sizes of its parts.
 ghost use Rattle.std.specs.Prelude.{◌≡◌, IfOk, OnOk, bytes_eq};
 ghost use Rattle.std.specs.List.{position_or_len};
-ghost use Rattle.mls_typetext.specs.Measuring.{Measures, add, add_total, arrow_size, first_size, first_total, join_size, again_size, measured, named, nodes_in, other_sizes, rec_size, size, state_of, without_size, without_total};
+ghost use Rattle.mls_typetext.specs.steps.Measuring.{Measures, add, add_total, arrow_size, first_size, first_total, join_size, again_size, measured, named, nodes_in, other_sizes, rec_size, size, state_of, without_size, without_total};
 
 use crate::count::sum;
 use crate::piece::{Item, Member, Size};

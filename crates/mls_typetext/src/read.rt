@@ -1,9 +1,10 @@
 //! The tokens of a type, read from the front to the pieces that they tell.
 ghost use Rattle.std.specs.Prelude.{◌≡◌, ◌≤◌, ℕ, true, List, All, IfOk, OnOk, slice_range};
 ghost use Rattle.mls_lexer.specs.Tokens.{IsToken, terminal, terminal_of};
-ghost use Rattle.mls_typetext.specs.Building.{a, the_field, the_rec, acts, atom_acts, advance, last_told, told_of, placed};
+ghost use Rattle.mls_lexer.specs.steps.Placed.{placed};
+ghost use Rattle.mls_typetext.specs.steps.PieceMachine.{a, the_field, the_rec, acts, atom_acts, advance, last_told, told_of};
 ghost use Rattle.mls_typetext.specs.Phrases.{whole, codomain, join, join_tail, meet, meet_tail, fields, more_fields};
-ghost use Rattle.mls_typetext.specs.Readings.{part_of, stack_of, Acted, Puts, Tells, IsNew, state_of};
+ghost use Rattle.mls_typetext.specs.steps.PieceReaders.{part_of, stack_of, Acted, Puts, Tells, IsNew, state_of};
 
 use crate::piece::Piece;
 use mls_base::memory::Memory;
@@ -13,7 +14,7 @@ use std::alloc::Global;
 
 // A part of a type that is still to come. A binder is the name behind `rec`, and a label the one behind a comma.
 #[derive(Clone, Copy)]
-enum Part {
+enum PiecePart {
     Whole,
     Codomain,
     Join,
@@ -33,13 +34,13 @@ enum Part {
 // What is still to do: a part has to come, or a piece is told once what stands before it is over.
 #[derive(Drop)]
 enum Todo {
-    Read(Part),
+    Read(PiecePart),
     Tell(Piece),
 }
 
 // What is still to do, the next last, and what was told so far.
 #[derive(Drop)]
-struct Reader {
+struct PieceReader {
     stack: Vec<Todo>,
     pieces: Vec<Piece>,
 }
@@ -50,7 +51,7 @@ pub fn read_pieces(alloc: Global, text: &[u8], tokens: &[Token]) -> Result<Vec<P
     requires { All (IsToken text.now) tokens.now }
     ensures { IfOk result (λ pieces. pieces.items ≡ told_of (placed text.now tokens.now)) }
 {
-    let mut reader = Reader::new(alloc)?;
+    let mut reader = PieceReader::new(alloc)?;
     for token in tokens {
         reader.read_token(alloc, text, *token)?;
     }
@@ -66,14 +67,14 @@ fn name_of(alloc: Global, text: &[u8], token: Token) -> Result<Name, Memory>
     Name::new(alloc, &text[token.start..token.end])
 }
 
-impl Reader {
+impl PieceReader {
     // A reader before the first token.
-    fn new(alloc: Global) -> Result<Reader, Memory>
+    fn new(alloc: Global) -> Result<PieceReader, Memory>
         ensures { IfOk result IsNew }
     {
         let mut stack = Vec::new(alloc);
-        stack.push(Todo::Read(Part::Whole))?;
-        Ok(Reader {
+        stack.push(Todo::Read(PiecePart::Whole))?;
+        Ok(PieceReader {
             stack,
             pieces: Vec::new(alloc),
         })
@@ -101,7 +102,7 @@ impl Reader {
     fn finish(self) -> Result<Vec<Piece>, Memory>
         ensures { IfOk result (λ pieces. pieces.items ≡ last_told (stack_of self.stack.items) self.pieces.items) }
     {
-        let Reader {
+        let PieceReader {
             mut stack,
             mut pieces,
         } = self;
@@ -130,26 +131,26 @@ impl Reader {
         alloc: Global,
         text: &[u8],
         token: Token,
-        part: Part,
+        part: PiecePart,
     ) -> Result<bool, Memory>
         requires { IsToken text.now token }
         ensures { IfOk result (λ begun. Acted (acts (part_of part) token.start (terminal text.now token)) self.old self.new begun) }
     {
         match part {
-            Part::Whole => self.begin_whole(alloc, text, token),
-            Part::Codomain => self.begin_codomain(token),
-            Part::Join => self.begin_join(alloc, text, token),
-            Part::JoinTail => self.begin_join_tail(token),
-            Part::Meet => self.begin_meet(alloc, text, token),
-            Part::MeetTail => self.begin_meet_tail(token),
-            Part::Atom => self.begin_atom(alloc, text, token, []),
-            Part::Fields => self.begin_fields(alloc, text, token),
-            Part::MoreFields => self.begin_more_fields(token),
-            Part::Binder => self.begin_binder(alloc, text, token),
-            Part::Label => self.begin_label(alloc, text, token),
-            Part::Dot => Ok(token.kind == Kind::Dot),
-            Part::Colon => Ok(token.kind == Kind::Colon),
-            Part::ParenRight => Ok(token.kind == Kind::ParenRight),
+            PiecePart::Whole => self.begin_whole(alloc, text, token),
+            PiecePart::Codomain => self.begin_codomain(token),
+            PiecePart::Join => self.begin_join(alloc, text, token),
+            PiecePart::JoinTail => self.begin_join_tail(token),
+            PiecePart::Meet => self.begin_meet(alloc, text, token),
+            PiecePart::MeetTail => self.begin_meet_tail(token),
+            PiecePart::Atom => self.begin_atom(alloc, text, token, []),
+            PiecePart::Fields => self.begin_fields(alloc, text, token),
+            PiecePart::MoreFields => self.begin_more_fields(token),
+            PiecePart::Binder => self.begin_binder(alloc, text, token),
+            PiecePart::Label => self.begin_label(alloc, text, token),
+            PiecePart::Dot => Ok(token.kind == Kind::Dot),
+            PiecePart::Colon => Ok(token.kind == Kind::Colon),
+            PiecePart::ParenRight => Ok(token.kind == Kind::ParenRight),
         }
     }
 
@@ -159,13 +160,13 @@ impl Reader {
         ensures { IfOk result (λ begun. Acted (acts (a whole) token.start (terminal text.now token)) self.old self.new begun) }
     {
         if token.kind == Kind::WordRec {
-            self.put([Todo::Read(Part::Binder)])?;
+            self.put([Todo::Read(PiecePart::Binder)])?;
             return Ok(true);
         }
         let row = [
-            Todo::Read(Part::Codomain),
-            Todo::Read(Part::JoinTail),
-            Todo::Read(Part::MeetTail),
+            Todo::Read(PiecePart::Codomain),
+            Todo::Read(PiecePart::JoinTail),
+            Todo::Read(PiecePart::MeetTail),
         ];
         self.begin_atom(alloc, text, token, row)
     }
@@ -175,7 +176,10 @@ impl Reader {
         requires { IsToken text.now token }
         ensures { IfOk result (λ begun. Acted (acts (a join) token.start (terminal text.now token)) self.old self.new begun) }
     {
-        let row = [Todo::Read(Part::JoinTail), Todo::Read(Part::MeetTail)];
+        let row = [
+            Todo::Read(PiecePart::JoinTail),
+            Todo::Read(PiecePart::MeetTail),
+        ];
         self.begin_atom(alloc, text, token, row)
     }
 
@@ -184,7 +188,7 @@ impl Reader {
         requires { IsToken text.now token }
         ensures { IfOk result (λ begun. Acted (acts (a meet) token.start (terminal text.now token)) self.old self.new begun) }
     {
-        self.begin_atom(alloc, text, token, [Todo::Read(Part::MeetTail)])
+        self.begin_atom(alloc, text, token, [Todo::Read(PiecePart::MeetTail)])
     }
 
     // The same for an atom that this row follows, the next one last.
@@ -210,12 +214,15 @@ impl Reader {
             Kind::WordBot => self.tell(row, Piece::Bot(token.start)),
             Kind::ParenLeft => {
                 self.put(row)?;
-                self.put([Todo::Read(Part::ParenRight), Todo::Read(Part::Whole)])?;
+                self.put([
+                    Todo::Read(PiecePart::ParenRight),
+                    Todo::Read(PiecePart::Whole),
+                ])?;
                 Ok(true)
             }
             Kind::BraceLeft => {
                 self.put(row)?;
-                self.put([Todo::Tell(Piece::Record), Todo::Read(Part::Fields)])?;
+                self.put([Todo::Tell(Piece::Record), Todo::Read(PiecePart::Fields)])?;
                 Ok(true)
             }
             _ => Ok(false),
@@ -239,7 +246,7 @@ impl Reader {
         if token.kind != Kind::Arrow {
             return Ok(false);
         }
-        self.put([Todo::Tell(Piece::Arrow), Todo::Read(Part::Whole)])?;
+        self.put([Todo::Tell(Piece::Arrow), Todo::Read(PiecePart::Whole)])?;
         Ok(true)
     }
 
@@ -251,9 +258,9 @@ impl Reader {
             return Ok(false);
         }
         self.put([
-            Todo::Read(Part::JoinTail),
+            Todo::Read(PiecePart::JoinTail),
             Todo::Tell(Piece::Join(token.start)),
-            Todo::Read(Part::Meet),
+            Todo::Read(PiecePart::Meet),
         ])?;
         Ok(true)
     }
@@ -266,9 +273,9 @@ impl Reader {
             return Ok(false);
         }
         self.put([
-            Todo::Read(Part::MeetTail),
+            Todo::Read(PiecePart::MeetTail),
             Todo::Tell(Piece::Meet(token.start)),
-            Todo::Read(Part::Atom),
+            Todo::Read(PiecePart::Atom),
         ])?;
         Ok(true)
     }
@@ -295,7 +302,7 @@ impl Reader {
                 Ok(true)
             }
             Kind::Comma => {
-                self.put([Todo::Read(Part::Label)])?;
+                self.put([Todo::Read(PiecePart::Label)])?;
                 Ok(true)
             }
             _ => Ok(false),
@@ -313,8 +320,8 @@ impl Reader {
         let name = name_of(alloc, text, token)?;
         self.put([
             Todo::Tell(Piece::Rec(name)),
-            Todo::Read(Part::Whole),
-            Todo::Read(Part::Dot),
+            Todo::Read(PiecePart::Whole),
+            Todo::Read(PiecePart::Dot),
         ])?;
         Ok(true)
     }
@@ -330,9 +337,9 @@ impl Reader {
         let name = name_of(alloc, text, token)?;
         self.put([
             Todo::Tell(Piece::Field(token.start, name)),
-            Todo::Read(Part::MoreFields),
-            Todo::Read(Part::Whole),
-            Todo::Read(Part::Colon),
+            Todo::Read(PiecePart::MoreFields),
+            Todo::Read(PiecePart::Whole),
+            Todo::Read(PiecePart::Colon),
         ])?;
         Ok(true)
     }

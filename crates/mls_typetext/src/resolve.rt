@@ -1,9 +1,9 @@
 //! The recursive names and the faults of the tree of a type.
 ghost use Rattle.std.specs.Prelude.{◌≡◌, ◌≢◌, ◌^◌, ◌<◌, [], ◌∷◌, ◌++◌, Some, IfOk, IfErr, OnOk};
 ghost use Rattle.mls_typetext.specs.declared.piece.Piece.TheVariants as piece;
-ghost use Rattle.mls_typetext.specs.declared.resolve.Task.TheVariants as task;
-ghost use Rattle.mls_typetext.specs.Resolving.{whole_place, inside, domain, body, nothing_known, told, noted, naming, without_labels, with_label, fault_if, name_fault, name_item, notes, opened};
-ghost use Rattle.mls_typetext.specs.Readers.{tasks_of, known_of, GivesItems, GivesFault};
+ghost use Rattle.mls_typetext.specs.declared.resolve.NameTask.TheVariants as task;
+ghost use Rattle.mls_typetext.specs.steps.NameMachine.{whole_place, inside, domain, body, nothing_known, told, noted, naming, without_labels, with_label, fault_if, name_fault, name_item, notes, opened};
+ghost use Rattle.mls_typetext.specs.steps.NameReaders.{tasks_of, known_of, GivesItems, GivesFault};
 
 use crate::piece::{Item, Piece};
 use crate::scheme::TypeFault;
@@ -15,7 +15,7 @@ use std::alloc::Global;
 // Where a part of a type stands: the sign of its place, how many functions and records are around it, and how many
 // `rec`s.
 #[derive(Clone, Copy)]
-struct Place {
+struct NamePlace {
     is_positive: bool,
     guards: usize,
     depth: usize,
@@ -23,22 +23,22 @@ struct Place {
 
 // What is still to come, from the end of the text to its front.
 #[derive(Drop)]
-enum Task {
+enum NameTask {
     // The pieces of a part, or of the fields of a record, at this place.
-    Part(Place),
+    Part(NamePlace),
     // The front of a `rec`: its name means again what it meant around it.
-    Leave(Name, Option<Place>),
+    Leave(Name, Option<NamePlace>),
     // The place of a fault.
     Note(TypeFault),
 }
 
 // A reader of pieces from the last to the first.
 #[derive(Drop)]
-struct Reader {
+struct NameReader {
     // The next task is the last.
-    tasks: Vec<Task>,
+    tasks: Vec<NameTask>,
     // The `rec`s around the place that is reached, with the places of their bodies.
-    recs: IndexMap<Name, Place>,
+    recs: IndexMap<Name, NamePlace>,
     // The labels of the record whose fields are read, or were read last.
     labels: IndexSet<Name>,
     // The fault that stands first in what was read, since it was noted last.
@@ -53,17 +53,17 @@ pub fn resolve(alloc: Global, pieces: Vec<Piece>) -> Result<Vec<Item>, TypeFault
     ensures fault { IfErr result (λ fault. fault ≢ TypeFault.Memory → GivesFault pieces.items fault) }
 {
     let mut left = pieces;
-    let mut reader = Reader::new(alloc)?;
+    let mut reader = NameReader::new(alloc)?;
     while let Some(task) = reader.tasks.pop() {
         match task {
             // There is a piece for each part.
-            Task::Part(place) => {
+            NameTask::Part(place) => {
                 if let Some(piece) = left.pop() {
                     reader.read(piece, place)?;
                 }
             }
-            Task::Leave(name, outer) => reader.leave(name, outer)?,
-            Task::Note(fault) => reader.fault = Some(fault),
+            NameTask::Leave(name, outer) => reader.leave(name, outer)?,
+            NameTask::Note(fault) => reader.fault = Some(fault),
         }
     }
     match reader.fault {
@@ -72,12 +72,12 @@ pub fn resolve(alloc: Global, pieces: Vec<Piece>) -> Result<Vec<Item>, TypeFault
     }
 }
 
-impl Place {
+impl NamePlace {
     // The place of a whole type.
-    fn of_whole() -> Place
+    fn of_whole() -> NamePlace
         ensures { result ≡ whole_place }
     {
-        Place {
+        NamePlace {
             is_positive: true,
             guards: 0,
             depth: 0,
@@ -85,22 +85,22 @@ impl Place {
     }
 
     // The place of what stands in a record, or in the codomain of a function, of this place.
-    fn inside(self) -> Place
+    fn inside(self) -> NamePlace
         requires { self.guards < 2 ^ 63 }
         ensures { result ≡ inside self }
     {
-        Place {
+        NamePlace {
             guards: self.guards + 1,
             ..self
         }
     }
 
     // The place of the domain of a function of this place.
-    fn domain(self) -> Place
+    fn domain(self) -> NamePlace
         requires { self.guards < 2 ^ 63 }
         ensures { result ≡ domain self }
     {
-        Place {
+        NamePlace {
             is_positive: !self.is_positive,
             guards: self.guards + 1,
             ..self
@@ -108,18 +108,18 @@ impl Place {
     }
 
     // The place of the body of a `rec` of this place.
-    fn body(self) -> Place
+    fn body(self) -> NamePlace
         requires { self.depth < 2 ^ 63 }
         ensures { result ≡ body self }
     {
-        Place {
+        NamePlace {
             depth: self.depth + 1,
             ..self
         }
     }
 
     // The fault of a name at this place, where it means a `rec` whose body has that place.
-    fn name_fault(self, at: usize, meaning: Option<Place>) -> Option<TypeFault>
+    fn name_fault(self, at: usize, meaning: Option<NamePlace>) -> Option<TypeFault>
         ensures { result ≡ name_fault self at meaning }
     {
         let body = meaning?;
@@ -134,7 +134,7 @@ impl Place {
     }
 
     // The item of a name at this place. There are no more `rec`s around a body than around what stands in it.
-    fn name_item(self, name: Name, meaning: Option<Place>) -> Item
+    fn name_item(self, name: Name, meaning: Option<NamePlace>) -> Item
         ensures { result ≡ name_item self name meaning }
     {
         match meaning {
@@ -151,14 +151,14 @@ fn fault_if(is_wrong: bool, fault: TypeFault) -> Option<TypeFault>
     if is_wrong { Some(fault) } else { None }
 }
 
-impl Reader {
+impl NameReader {
     // At the end of a whole type.
-    fn new(alloc: Global) -> Result<Reader, Memory>
+    fn new(alloc: Global) -> Result<NameReader, Memory>
         ensures { IfOk result (λ reader. (tasks_of reader ≡ task.Part whole_place ∷ []) × (known_of reader ≡ nothing_known)) }
     {
         let mut tasks = Vec::new(alloc);
-        tasks.push(Task::Part(Place::of_whole()))?;
-        Ok(Reader {
+        tasks.push(NameTask::Part(NamePlace::of_whole()))?;
+        Ok(NameReader {
             tasks,
             recs: IndexMap::new(alloc),
             labels: IndexSet::new(alloc),
@@ -168,7 +168,7 @@ impl Reader {
     }
 
     // Reads the last piece of the part at this place.
-    fn read(&mut self, piece: Piece, place: Place) -> Result<(), Memory>
+    fn read(&mut self, piece: Piece, place: NamePlace) -> Result<(), Memory>
         requires guards { place.guards < 2 ^ 63 }
         requires depth { place.depth < 2 ^ 63 }
         ensures tasks { OnOk result (tasks_of self.new ≡ (opened piece place (tasks_of self.old) (known_of self.old)).tasks) }
@@ -203,7 +203,7 @@ impl Reader {
     }
 
     // Reads a name.
-    fn read_name(&mut self, at: usize, name: Name, place: Place) -> Result<(), Memory>
+    fn read_name(&mut self, at: usize, name: Name, place: NamePlace) -> Result<(), Memory>
         ensures tasks { OnOk result (tasks_of self.new ≡ tasks_of self.old) }
         ensures known { OnOk result (known_of self.new ≡ (opened (piece.Name at name) place (tasks_of self.old) (known_of self.old)).known) }
     {
@@ -213,13 +213,13 @@ impl Reader {
     }
 
     // Reads a function: its codomain is behind its domain.
-    fn read_arrow(&mut self, place: Place) -> Result<(), Memory>
+    fn read_arrow(&mut self, place: NamePlace) -> Result<(), Memory>
         requires { place.guards < 2 ^ 63 }
         ensures tasks { OnOk result (tasks_of self.new ≡ task.Part (inside place) ∷ task.Part (domain place) ∷ tasks_of self.old) }
         ensures known { OnOk result (known_of self.new ≡ (opened piece.Arrow place (tasks_of self.old) (known_of self.old)).known) }
     {
-        self.plan(Task::Part(place.domain()))?;
-        self.plan(Task::Part(place.inside()))?;
+        self.plan(NameTask::Part(place.domain()))?;
+        self.plan(NameTask::Part(place.inside()))?;
         self.tell(Item::Arrow)
     }
 
@@ -228,55 +228,55 @@ impl Reader {
         &mut self,
         item: Item,
         fault: Option<TypeFault>,
-        place: Place,
+        place: NamePlace,
     ) -> Result<(), Memory>
         ensures tasks { OnOk result (tasks_of self.new ≡ task.Part place ∷ notes fault ++ task.Part place ∷ tasks_of self.old) }
         ensures known { OnOk result (known_of self.new ≡ told item (known_of self.old)) }
     {
-        self.plan(Task::Part(place))?;
+        self.plan(NameTask::Part(place))?;
         self.plan_note(fault)?;
-        self.plan(Task::Part(place))?;
+        self.plan(NameTask::Part(place))?;
         self.tell(item)
     }
 
     // Reads a `rec`: in its body the name means the body.
-    fn read_rec(&mut self, name: Name, place: Place) -> Result<(), Memory>
+    fn read_rec(&mut self, name: Name, place: NamePlace) -> Result<(), Memory>
         requires { place.depth < 2 ^ 63 }
         ensures tasks { OnOk result (tasks_of self.new ≡ (opened (piece.Rec name) place (tasks_of self.old) (known_of self.old)).tasks) }
         ensures known { OnOk result (known_of self.new ≡ (opened (piece.Rec name) place (tasks_of self.old) (known_of self.old)).known) }
     {
         let body = place.body();
         let outer = self.bind(name.clone()?, body)?;
-        self.plan(Task::Leave(name, outer))?;
-        self.plan(Task::Part(body))?;
+        self.plan(NameTask::Leave(name, outer))?;
+        self.plan(NameTask::Part(body))?;
         self.tell(Item::Rec)
     }
 
     // Reads the end of a record, which has no label yet.
-    fn read_record(&mut self, place: Place) -> Result<(), Memory>
+    fn read_record(&mut self, place: NamePlace) -> Result<(), Memory>
         requires { place.guards < 2 ^ 63 }
         ensures tasks { OnOk result (tasks_of self.new ≡ task.Part (inside place) ∷ tasks_of self.old) }
         ensures known { OnOk result (known_of self.new ≡ (opened piece.Record place (tasks_of self.old) (known_of self.old)).known) }
     {
         self.forget_labels();
-        self.plan(Task::Part(place.inside()))?;
+        self.plan(NameTask::Part(place.inside()))?;
         self.tell(Item::Record)
     }
 
     // Reads a field: the fields behind it stand behind its type, and its own fault before its type.
-    fn read_field(&mut self, at: usize, label: Name, place: Place) -> Result<(), Memory>
+    fn read_field(&mut self, at: usize, label: Name, place: NamePlace) -> Result<(), Memory>
         ensures tasks { OnOk result (tasks_of self.new ≡ (opened (piece.Field at label) place (tasks_of self.old) (known_of self.old)).tasks) }
         ensures known { OnOk result (known_of self.new ≡ (opened (piece.Field at label) place (tasks_of self.old) (known_of self.old)).known) }
     {
         let is_double = self.add_label(label.clone()?)?;
         self.plan_note(fault_if(is_double, TypeFault::DuplicateLabel(at)))?;
-        self.plan(Task::Part(place))?;
-        self.plan(Task::Part(place))?;
+        self.plan(NameTask::Part(place))?;
+        self.plan(NameTask::Part(place))?;
         self.tell(Item::Field(label))
     }
 
     // Leaves a `rec`: its name means again what it meant around it.
-    fn leave(&mut self, name: Name, outer: Option<Place>) -> Result<(), Memory>
+    fn leave(&mut self, name: Name, outer: Option<NamePlace>) -> Result<(), Memory>
         ensures tasks { OnOk result (tasks_of self.new ≡ tasks_of self.old) }
         ensures known { OnOk result (known_of self.new ≡ naming name outer (known_of self.old)) }
     {
@@ -292,7 +292,7 @@ impl Reader {
     }
 
     // From here on the name means the `rec` whose body has this place; tells what it meant before.
-    fn bind(&mut self, name: Name, body: Place) -> Result<Option<Place>, Memory>
+    fn bind(&mut self, name: Name, body: NamePlace) -> Result<Option<NamePlace>, Memory>
         ensures outer { IfOk result (λ outer. outer ≡ (known_of self.old).recs name) }
         ensures tasks { OnOk result (tasks_of self.new ≡ tasks_of self.old) }
         ensures known { OnOk result (known_of self.new ≡ naming name (Some body) (known_of self.old)) }
@@ -339,7 +339,7 @@ impl Reader {
     }
 
     // Makes this the next task.
-    fn plan(&mut self, task: Task) -> Result<(), Memory>
+    fn plan(&mut self, task: NameTask) -> Result<(), Memory>
         ensures tasks { OnOk result (tasks_of self.new ≡ task ∷ tasks_of self.old) }
         ensures known { OnOk result (known_of self.new ≡ known_of self.old) }
     {
@@ -353,7 +353,7 @@ impl Reader {
         ensures known { OnOk result (known_of self.new ≡ known_of self.old) }
     {
         match fault {
-            Some(fault) => self.plan(Task::Note(fault)),
+            Some(fault) => self.plan(NameTask::Note(fault)),
             None => Ok(()),
         }
     }

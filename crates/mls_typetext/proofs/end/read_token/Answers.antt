@@ -1,6 +1,6 @@
 use Rattle.std.proofs.Common.{sym, subst, rules}
 use Rattle.std.proofs.lemmas.List.{nil_from_length}
-use Rattle.mls_typetext.specs.Stacks.{Opened}
+use Rattle.mls_typetext.specs.steps.EndStacks.{Opened}
 use Rattle.mls_typetext.proofs.StackSteps.{do_same, part-read, part-stuck, part-empty, all-over}
 use Rattle.mls_typetext.proofs.end.read_token.Goals as goal
 

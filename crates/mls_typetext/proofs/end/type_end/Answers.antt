@@ -1,10 +1,10 @@
 use Rattle.std.proofs.Common.{[], ◌∷◌, ◌++◌, sym, ap, ◌∙◌, subst, Some}
 use Rattle.std.specs.List.{list_all}
-use Rattle.mls_lexer.proofs.Machine.{run}
+use Rattle.mls_lexer.specs.steps.Machine.{run}
 use Rattle.mls_lexer.specs.declared.token.Kind.TheVariants.{Name}
-use Rattle.mls_typetext.specs.declared.end.Part.TheVariants.{Whole}
-use Rattle.mls_typetext.specs.Parts.{may_end}
-use Rattle.mls_typetext.specs.Stacks.{part_of, stack_of, Stepped}
+use Rattle.mls_typetext.specs.declared.end.EndPart.TheVariants.{Whole}
+use Rattle.mls_typetext.specs.steps.EndTable.{may_end}
+use Rattle.mls_typetext.specs.steps.EndStacks.{part_of, stack_of, Stepped}
 use Rattle.mls_typetext.proofs.TypeEnds.{token-read, token-over, token-stuck, last-over, last-early}
 use Rattle.mls_typetext.proofs.end.type_end.Goals as goal
 

@@ -1,6 +1,6 @@
 use Rattle.std.proofs.Common.{drop}
 use Rattle.mls_lexer.specs.Tokens.{terminals}
-use Rattle.mls_typetext.specs.Stacks.{stack_of}
+use Rattle.mls_typetext.specs.steps.EndStacks.{stack_of}
 use Rattle.mls_typetext.proofs.TypeStops.{IsRead}
 use Rattle.mls_typetext.proofs.end.type_end.Given as goal
 

@@ -1,8 +1,9 @@
 use Rattle.std.proofs.Common.{sym, ap, ◌∙◌, rules, Some}
 use Rattle.std.proofs.lemmas.Option.{slice_get-get_or}
 use Rattle.mls_lexer.proofs.Follows.{Follow-all}
-use Rattle.mls_typetext.specs.Building.{placed, told_of}
-use Rattle.mls_typetext.specs.Reads.{IsReadOf, IsFaultOf}
+use Rattle.mls_lexer.specs.steps.Placed.{placed}
+use Rattle.mls_typetext.specs.steps.PieceMachine.{told_of}
+use Rattle.mls_typetext.specs.steps.ReadPieces.{IsReadOf, IsFaultOf}
 use Rattle.mls_typetext.specs.Stops.{HasTypeFault}
 use Rattle.mls_typetext.specs.Texts.{IsTypeText}
 use Rattle.mls_typetext.proofs.TextsRead.{passed, passed_ok, passed_err, whole_ended, all_told, type_text, type_fault}

@@ -1,7 +1,7 @@
 use Rattle.std.proofs.Common.{◌≡◌, arith, [], ◌∷◌, reverse, ◌∙◌}
-use Rattle.mls_typetext.specs.declared.lay_out.Place.TheVariants.{Block}
-use Rattle.mls_typetext.specs.declared.lay_out.Task.TheVariants.{At}
-use Rattle.mls_typetext.specs.Laying.{state_of, closed_by, lay_all}
+use Rattle.mls_typetext.specs.declared.lay_out.LayoutPlace.TheVariants.{Block}
+use Rattle.mls_typetext.specs.declared.lay_out.LayoutTask.TheVariants.{At}
+use Rattle.mls_typetext.specs.steps.Laying.{state_of, closed_by, lay_all}
 use Rattle.std.proofs.lemmas.Grind.{common_steps}
 use Rattle.mls_typetext.proofs.Laid.{lays-book, lay-step, lay-end}
 use Rattle.mls_typetext.proofs.lay_out.lay_out.Goals as goal

@@ -1,7 +1,7 @@
 use Rattle.std.proofs.Common.{◌≡◌, length, reverse, [], ◌∷◌}
-use Rattle.mls_typetext.specs.declared.lay_out.Place.TheVariants.{Block}
-use Rattle.mls_typetext.specs.declared.lay_out.Task.TheVariants.{At}
-use Rattle.mls_typetext.specs.Laying.{closed, closed_by, lay_all, state_of}
+use Rattle.mls_typetext.specs.declared.lay_out.LayoutPlace.TheVariants.{Block}
+use Rattle.mls_typetext.specs.declared.lay_out.LayoutTask.TheVariants.{At}
+use Rattle.mls_typetext.specs.steps.Laying.{closed, closed_by, lay_all, state_of}
 use Rattle.mls_typetext.proofs.lay_out.lay_out.Given as goal
 
 -- the pieces that are left make of the layout what all make of it at the start

@@ -1,5 +1,5 @@
 use Rattle.std.proofs.Common.{◌≡◌, ◌++◌, rules, ◌∙◌}
-use Rattle.mls_typetext.specs.Laying.{in_order}
+use Rattle.mls_typetext.specs.steps.Laying.{in_order}
 use Rattle.mls_typetext.proofs.SortedFields.{sort-by-labels}
 use Rattle.mls_typetext.proofs.lay_out.record_of.Goals as goal
 

@@ -1,5 +1,5 @@
 use Rattle.std.proofs.Common.{◌≡◌, ◌++◌}
-use Rattle.mls_typetext.specs.Laying.{in_order}
+use Rattle.mls_typetext.specs.steps.Laying.{in_order}
 use Rattle.mls_typetext.proofs.lay_out.record_of.Given as goal
 
 abbrev pub invariant-loop-field : goal.invariant-loop-field

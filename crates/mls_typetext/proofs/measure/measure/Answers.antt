@@ -1,6 +1,6 @@
 use Rattle.std.proofs.Common.{◌≡◌, [], ap, ◌∙◌, arith, length, reverse}
 use Rattle.std.proofs.lemmas.Grind.{common_steps}
-use Rattle.mls_typetext.specs.Measuring.{measure_all, state_of}
+use Rattle.mls_typetext.specs.steps.Measuring.{measure_all, state_of}
 use Rattle.mls_typetext.proofs.MeasuredItems.{measure-step, measure-end, IsMeasured, measured-whole}
 use Rattle.mls_typetext.proofs.measure.measure.Goals as goal
 

@@ -1,5 +1,5 @@
 use Rattle.std.proofs.Common.{◌≡◌, length, reverse, []}
-use Rattle.mls_typetext.specs.Measuring.{measure_all, state_of}
+use Rattle.mls_typetext.specs.steps.Measuring.{measure_all, state_of}
 use Rattle.mls_typetext.proofs.measure.measure.Given as goal
 
 -- the pieces that are left make of what was measured what all make of nothing

@@ -1,6 +1,6 @@
 use Rattle.std.proofs.Common.{◌∷◌, ap, ◌∙◌, reverse, rules}
 use Rattle.std.proofs.lemmas.List.{nil_from_length}
-use Rattle.mls_typetext.specs.Readers.{tasks_of, known_of}
+use Rattle.mls_typetext.specs.steps.NameReaders.{tasks_of, known_of}
 use Rattle.mls_typetext.proofs.Resolved.{last-first, reads, skips, leaves, marks, gives-fault, gives-items}
 use Rattle.mls_typetext.proofs.resolve.resolve.Goals as goal
 

@@ -1,5 +1,5 @@
 use Rattle.std.proofs.Common.{◌+◌, ◌*◌, length}
-use Rattle.mls_typetext.specs.Readers.{tasks_of, known_of}
+use Rattle.mls_typetext.specs.steps.NameReaders.{tasks_of, known_of}
 use Rattle.mls_typetext.proofs.Resolved.{IsGoing}
 use Rattle.mls_typetext.proofs.resolve.resolve.Given as goal
 

@@ -1,5 +1,5 @@
 use Rattle.std.proofs.Common.{◌≡◌, length}
-use Rattle.mls_typetext.specs.Laying.{closed, state_of}
+use Rattle.mls_typetext.specs.steps.Laying.{closed, state_of}
 use Rattle.mls_typetext.proofs.lay_out.Layout.next.Given as goal
 
 -- what is over makes no difference to the state in which it is closed

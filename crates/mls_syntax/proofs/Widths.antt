@@ -1,27 +1,11 @@
--- The places of tokens rise, and a phrase has as many terminals as its width says.
+-- A phrase has as many terminals as its width says.
 use Rattle.std.proofs.Common.{◌≡◌, ℕ, zero, suc, ◌+◌, ◌<◌, List, [], ◌∷◌, ◌++◌, length, refl, sym, ap, ◌∙◌, arith, Some}
 use Rattle.std.specs.Prelude.{slice_get, option_map, unwrap_or}
 use Rattle.std.proofs.lemmas.List.{length-map}
 use Rattle.mls_lexer.specs.declared.token.Token.{Token}
 use Rattle.mls_lexer.specs.declared.token.Kind.TheVariants as kind
 use Rattle.mls_lexer.specs.Tokens.{Terminal, word, IsTokens, terminal, terminals}
-use Rattle.mls_lexer.proofs.TextOrder.{tokens_rise}
 use Rattle.mls_syntax.specs.Phrases.{Sort, source, Phrase, whole, no_import, importing, no_binding, binding, simple, recursive, fun, fix, local, choice, plain, simple_in, recursive_in, no_compare, less, equal, summed, no_sum, plus, minus, multiplied, no_product, times, applied, no_argument, argument, posted, no_dot, dot, variable, literal, truth, parens, braces, no_part, first_part, last_part, next_part, yields, width}
-use Rattle.mls_syntax.specs.Modules.{place_of}
-
-token_at : (tokens : List Token) (k : ℕ) → k < length tokens → (token : Token) × (slice_get tokens k ≡ Some token)
-token_at [] k low = absurd (omega arith)
-token_at (t ∷ tokens) zero low = (t, refl)
-token_at (t ∷ tokens) (suc k) low = token_at tokens k (omega arith)
-
-pub places_rise : (text : List ℕ) (tokens : List Token) → IsTokens text tokens → (i j : ℕ) → i < j → j < length tokens → place_of tokens i < place_of tokens j
-places_rise text tokens are i j below low =
-    let s = token_at tokens i (omega arith) in
-    let t = token_at tokens j low in
-    let at : place_of tokens i ≡ s.0.start = ap (λ o. unwrap_or (option_map (λ (token : Token). token.start) o) 0) s.1 in
-    let at' : place_of tokens j ≡ t.0.start = ap (λ o. unwrap_or (option_map (λ (token : Token). token.start) o) 0) t.1 in
-    let rise = tokens_rise text tokens are i j s.0 t.0 below s.1 t.1 in
-    omega arith
 
 width-yields : {s : Sort} (p : Phrase s) (rest : List Terminal) → length (yields p rest) ≡ width p + length rest
 unfolding yields width

@@ -10,9 +10,9 @@ use Rattle.mls_typetext.specs.declared.piece.Member.TheVariants as member
 use Rattle.mls_typetext.specs.declared.measure.Measuring.{Measuring}
 use Rattle.mls_typetext.specs.declared.measure.Measured.{Measured}
 use Rattle.mls_typetext.specs.Trees.{TypeTree}
-use Rattle.mls_typetext.specs.Items.{items}
+use Rattle.mls_typetext.specs.steps.Items.{items}
 use Rattle.mls_typetext.specs.Books.{variables, type_of}
-use Rattle.mls_typetext.specs.Members.{outer, size_of, members}
+use Rattle.mls_typetext.specs.steps.Members.{outer, size_of, members}
 
 -- the variables so far; the sizes of the parts that belong to nothing yet and how many nodes lie below the fields of records that are
 -- open, both the nearest first; and the pieces

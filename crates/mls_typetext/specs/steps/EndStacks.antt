@@ -1,19 +1,18 @@
 -- The stack of a reader, from its top down, as the stack of the machine.
-use Rattle.std.proofs.Common.{◌≡◌, ◌≢◌, ℕ, Bool, true, false, List, ◌++◌, map, reverse, Some, None}
-use Rattle.std.specs.Prelude.{Option, option_map, MatchOption}
+use Rattle.std.specs.Prelude.{◌≡◌, ◌≢◌, ℕ, Bool, true, false, List, ◌++◌, map, reverse, Some, None, Option, option_map, MatchOption}
 use Rattle.mls_lexer.specs.declared.token.Kind.{Kind}
 use Rattle.mls_lexer.specs.Tokens.{terminal_of}
-use Rattle.mls_lexer.proofs.Machine.{step, can_end}
-use Rattle.mls_typetext.specs.declared.end.Part.{Part as Kept}
-use Rattle.mls_typetext.specs.declared.end.Part.TheVariants as kept
+use Rattle.mls_lexer.specs.steps.Machine.{step, can_end}
+use Rattle.mls_typetext.specs.declared.end.EndPart.{EndPart as Kept}
+use Rattle.mls_typetext.specs.declared.end.EndPart.TheVariants as kept
 use Rattle.mls_typetext.specs.declared.end.Rest.{Rest}
 use Rattle.mls_typetext.specs.declared.end.Step.{Step}
 use Rattle.mls_typetext.specs.declared.end.Step.TheVariants.{Read, Over, Stuck}
 use Rattle.mls_typetext.specs.Phrases.{whole, codomain, join, join_tail, meet, meet_tail, atom, fields, more_fields}
-use Rattle.mls_typetext.specs.Parts.{Part, a, the_name, the_dot, the_colon, the_paren, atom_opens, opens, may_end}
+use Rattle.mls_typetext.specs.steps.EndTable.{ToCome, a, the_name, the_dot, the_colon, the_paren, atom_opens, opens, may_end}
 
 -- a part as the machine has it
-abbrev pub part_of : Kept → Part
+abbrev pub part_of : Kept → ToCome
 part_of kept.Whole = a whole
 part_of kept.Codomain = a codomain
 part_of kept.Join = a join
@@ -29,11 +28,11 @@ part_of kept.Colon = the_colon
 part_of kept.ParenRight = the_paren
 
 -- parts, the next one last
-abbrev pub stack_of : List Kept → List Part
+abbrev pub stack_of : List Kept → List ToCome
 stack_of parts = map part_of (reverse parts)
 
 -- what is left to come behind a token
-abbrev pub row_of : Rest → List Part
+abbrev pub row_of : Rest → List ToCome
 row_of rest = stack_of rest.inner.now ++ stack_of rest.outer.now
 
 -- this is what the part leaves to come behind a token of this kind
@@ -50,7 +49,7 @@ BehindOne kind wanted inner rest = MatchOption rest (kind ≢ wanted) (λ rest. 
 
 -- what a part makes of the stack below it at a token
 abbrev pub Opened : Kept → Kind → (old new : List Kept) → Bool → Type 0
-Opened part kind old new true = (row : List Part) × ((bytes : List ℕ) → opens (part_of part) (terminal_of kind bytes) ≡ Some row) × (stack_of new ≡ row ++ stack_of old)
+Opened part kind old new true = (row : List ToCome) × ((bytes : List ℕ) → opens (part_of part) (terminal_of kind bytes) ≡ Some row) × (stack_of new ≡ row ++ stack_of old)
 Opened part kind old new false = ((bytes : List ℕ) → opens (part_of part) (terminal_of kind bytes) ≡ None) × (new ≡ old)
 
 -- what a token makes of the stack

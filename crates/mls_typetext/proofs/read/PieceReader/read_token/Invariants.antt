@@ -1,8 +1,8 @@
 use Rattle.std.proofs.Common.{◌≡◌, length}
 use Rattle.mls_lexer.specs.Tokens.{terminal}
-use Rattle.mls_typetext.specs.Building.{advance}
-use Rattle.mls_typetext.specs.Readings.{stack_of}
-use Rattle.mls_typetext.proofs.read.Reader.read_token.Given as goal
+use Rattle.mls_typetext.specs.steps.PieceMachine.{advance}
+use Rattle.mls_typetext.specs.steps.PieceReaders.{stack_of}
+use Rattle.mls_typetext.proofs.read.PieceReader.read_token.Given as goal
 
 abbrev pub invariant-loop-todo : goal.invariant-loop-todo
 invariant-loop-todo l =

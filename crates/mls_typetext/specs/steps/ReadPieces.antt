@@ -5,7 +5,7 @@ use Rattle.mls_typetext.specs.declared.scheme.ReadScheme.{ReadScheme}
 use Rattle.mls_typetext.specs.declared.scheme.TypeFault.{TypeFault}
 use Rattle.mls_typetext.specs.Trees.{TypeTree}
 use Rattle.mls_typetext.specs.Faults.{faults}
-use Rattle.mls_typetext.specs.Pieces.{postorder}
+use Rattle.mls_typetext.specs.steps.Pieces.{postorder}
 use Rattle.mls_typetext.specs.Texts.{read_of}
 
 -- the pieces are those of a tree

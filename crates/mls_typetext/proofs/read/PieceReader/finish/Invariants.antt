@@ -1,7 +1,7 @@
 use Rattle.std.proofs.Common.{◌≡◌, length}
-use Rattle.mls_typetext.specs.Building.{last_told}
-use Rattle.mls_typetext.specs.Readings.{stack_of}
-use Rattle.mls_typetext.proofs.read.Reader.finish.Given as goal
+use Rattle.mls_typetext.specs.steps.PieceMachine.{last_told}
+use Rattle.mls_typetext.specs.steps.PieceReaders.{stack_of}
+use Rattle.mls_typetext.proofs.read.PieceReader.finish.Given as goal
 
 abbrev pub invariant-loop-todo : goal.invariant-loop-todo
 invariant-loop-todo l = last_told (stack_of l.stack.items) l.pieces.items ≡ last_told (stack_of l.fn.self.stack.items) l.fn.self.pieces.items

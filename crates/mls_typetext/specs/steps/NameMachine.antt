@@ -6,35 +6,35 @@ use Rattle.mls_typetext.specs.declared.piece.Piece.{Piece}
 use Rattle.mls_typetext.specs.declared.piece.Piece.TheVariants as piece
 use Rattle.mls_typetext.specs.declared.piece.Item.{Item}
 use Rattle.mls_typetext.specs.declared.piece.Item.TheVariants as item
-use Rattle.mls_typetext.specs.declared.resolve.Place.{Place}
-use Rattle.mls_typetext.specs.declared.resolve.Task.{Task}
-use Rattle.mls_typetext.specs.declared.resolve.Task.TheVariants.{Part, Leave, Note}
+use Rattle.mls_typetext.specs.declared.resolve.NamePlace.{NamePlace}
+use Rattle.mls_typetext.specs.declared.resolve.NameTask.{NameTask}
+use Rattle.mls_typetext.specs.declared.resolve.NameTask.TheVariants.{Part, Leave, Note}
 use Rattle.mls_typetext.specs.Faults.{same}
 
 -- what is known at a place: what the names of the `rec`s around it mean, the labels that the record has so far, the fault that stands first
 -- behind the place, and the items behind it, from the last to the first
 pub record Known : Type 0 where
-  pub recs : List ℕ → Option Place
+  pub recs : List ℕ → Option NamePlace
   pub labels : List ℕ → Bool
   pub fault : Option TypeFault
   pub items : List Item
 
 -- the tasks, the next one first
 pub record State : Type 0 where
-  pub tasks : List Task
+  pub tasks : List NameTask
   pub known : Known
 
 -- the place of a whole type, and that of what stands in a record, in a codomain, in a domain and in a `rec`
-abbrev pub whole_place : Place
+abbrev pub whole_place : NamePlace
 whole_place = record { is_positive = true; guards = 0; depth = 0 }
 
-abbrev pub inside : Place → Place
+abbrev pub inside : NamePlace → NamePlace
 inside p = record { is_positive = p.is_positive; guards = suc p.guards; depth = p.depth }
 
-abbrev pub domain : Place → Place
+abbrev pub domain : NamePlace → NamePlace
 domain p = record { is_positive = not p.is_positive; guards = suc p.guards; depth = p.depth }
 
-abbrev pub body : Place → Place
+abbrev pub body : NamePlace → NamePlace
 body p = record { is_positive = p.is_positive; guards = p.guards; depth = suc p.depth }
 
 -- at the end of a whole type
@@ -49,7 +49,7 @@ noted None k = k
 noted (Some fault) k = record { recs = k.recs; labels = k.labels; fault = Some fault; items = k.items }
 
 -- where a name means this, or is no name of a `rec`
-abbrev pub naming : List ℕ → Option Place → Known → Known
+abbrev pub naming : List ℕ → Option NamePlace → Known → Known
 naming x meaning k = record { recs = λ y. if bytes_eq x y then meaning else k.recs y; labels = k.labels; fault = k.fault; items = k.items }
 
 abbrev pub without_labels : Known → Known
@@ -63,21 +63,21 @@ fault_if true fault = Some fault
 fault_if false fault = None
 
 -- the fault of a name that means a `rec` whose body has this place
-abbrev pub name_fault : Place → ℕ → Option Place → Option TypeFault
+abbrev pub name_fault : NamePlace → ℕ → Option NamePlace → Option TypeFault
 name_fault p at None = None
 name_fault p at (Some b) = if b.guards == p.guards then Some (Unguarded at) else fault_if (not (same b.is_positive p.is_positive)) (Contravariant at)
 
 -- its item
-abbrev pub name_item : Place → List ℕ → Option Place → Item
+abbrev pub name_item : NamePlace → List ℕ → Option NamePlace → Item
 name_item p x None = item.Variable x
 name_item p x (Some b) = item.Again (p.depth - b.depth)
 
-abbrev pub notes : Option TypeFault → List Task
+abbrev pub notes : Option TypeFault → List NameTask
 notes None = []
 notes (Some fault) = Note fault ∷ []
 
 -- what a part at a place becomes once its last piece is read
-abbrev pub opened : Piece → Place → List Task → Known → State
+abbrev pub opened : Piece → NamePlace → List NameTask → Known → State
 opened (piece.Name at x) p st k = record { tasks = st; known = told (name_item p x (k.recs x)) (noted (name_fault p at (k.recs x)) k) }
 opened piece.Bool p st k = record { tasks = st; known = told item.Bool k }
 opened piece.Int p st k = record { tasks = st; known = told item.Int k }
@@ -95,21 +95,21 @@ opened (piece.Field at label) p st k = record {
 }
 
 -- one piece: what is to do before it is done
-unfoldable pub taken : Piece → List Task → Known → State
+unfoldable pub taken : Piece → List NameTask → Known → State
 taken piece [] k = record { tasks = []; known = k }
 taken piece (Part p ∷ st) k = opened piece p st k
 taken piece (Leave x outer ∷ st) k = taken piece st (naming x outer k)
 taken piece (Note fault ∷ st) k = taken piece st (noted (Some fault) k)
 
 -- and where no piece is left
-unfoldable pub ended : List Task → Known → Known
+unfoldable pub ended : List NameTask → Known → Known
 ended [] k = k
 ended (Part p ∷ st) k = ended st k
 ended (Leave x outer ∷ st) k = ended st (naming x outer k)
 ended (Note fault ∷ st) k = ended st (noted (Some fault) k)
 
 -- what is known in the end, where the pieces are given from the last to the first
-unfoldable pub known_after : List Task → Known → List Piece → Known
+unfoldable pub known_after : List NameTask → Known → List Piece → Known
 known_after st k [] = ended st k
 known_after st k (piece ∷ pieces) =
     let next = taken piece st k in

@@ -4,9 +4,9 @@ use Rattle.std.specs.List.{list_any}
 use Rattle.std.proofs.lemmas.List.Folds.{list_any-append}
 use Rattle.std.proofs.lemmas.Slice.Eq.{bytes_eq-Decides}
 use Rattle.indexmap.specs.IndexSet.{insert_key}
-use Rattle.mls_typetext.specs.Resolving.{Known, with_label}
-use Rattle.mls_typetext.specs.Readers.{known_of}
-use Rattle.mls_typetext.proofs.resolve.Reader.add_label.Goals as goal
+use Rattle.mls_typetext.specs.steps.NameMachine.{Known, with_label}
+use Rattle.mls_typetext.specs.steps.NameReaders.{known_of}
+use Rattle.mls_typetext.proofs.resolve.NameReader.add_label.Goals as goal
 
 -- a label that is added at the end, or is there already
 added-at : (label : List ℕ) (labels : List (List ℕ)) (x : List ℕ) → list_any (bytes_eq x) (insert_key bytes_eq labels label) ≡ (bytes_eq x label || list_any (bytes_eq x) labels)

@@ -6,18 +6,18 @@ use Rattle.mls_book.specs.declared.book.Node.TheVariants as node
 use Rattle.mls_typetext.specs.declared.piece.Size.{Size}
 use Rattle.mls_typetext.specs.declared.piece.Member.{Member}
 use Rattle.mls_typetext.specs.declared.piece.Member.TheVariants as member
-use Rattle.mls_typetext.specs.declared.lay_out.Place.{Place}
-use Rattle.mls_typetext.specs.declared.lay_out.Place.TheVariants.{Part, Block, Fields}
-use Rattle.mls_typetext.specs.declared.lay_out.Task.{Task}
-use Rattle.mls_typetext.specs.declared.lay_out.Task.TheVariants.{At, Leave, End}
+use Rattle.mls_typetext.specs.declared.lay_out.LayoutPlace.{LayoutPlace}
+use Rattle.mls_typetext.specs.declared.lay_out.LayoutPlace.TheVariants.{Part, Block, Fields}
+use Rattle.mls_typetext.specs.declared.lay_out.LayoutTask.{LayoutTask}
+use Rattle.mls_typetext.specs.declared.lay_out.LayoutTask.TheVariants.{At, Leave, End}
 use Rattle.mls_typetext.specs.declared.lay_out.Layout.{Layout}
 use Rattle.mls_typetext.specs.Books.{Ty, node_in, id, placed, book_of}
-use Rattle.mls_typetext.specs.Members.{size_of, members}
+use Rattle.mls_typetext.specs.steps.Members.{size_of, members}
 
 -- what is to do and the nodes of the `rec`s around it, both the nearest first; the nodes of the layers that are open, the fields of the
 -- record that is open, and the nodes that are laid out
 pub record State : Type 0 where
-  pub tasks : List Task
+  pub tasks : List LayoutTask
   pub recs : List ℕ
   pub held : List Node
   pub fields : List Field
@@ -51,7 +51,7 @@ later [] = []
 later (n ∷ ns) = ns
 
 -- what is over is closed: the next thing to do is a place, or there is none
-abbrev pub closed_by : List Task → List ℕ → List Node → List Field → List Node → State
+abbrev pub closed_by : List LayoutTask → List ℕ → List Node → List Field → List Node → State
 closed_by [] recs held fields nodes = record { tasks = []; recs = recs; held = held; fields = fields; nodes = nodes }
 closed_by (At place ∷ st) recs held fields nodes = record { tasks = At place ∷ st; recs = recs; held = held; fields = fields; nodes = nodes }
 closed_by (Leave ∷ st) recs held fields nodes = closed_by st (later recs) held fields nodes
@@ -65,7 +65,7 @@ abbrev pub hold : Node → State → State
 hold node s = record { tasks = s.tasks; recs = s.recs; held = s.held ++ node ∷ []; fields = s.fields; nodes = s.nodes }
 
 -- more to do, the next first
-abbrev pub todo : List Task → State → State
+abbrev pub todo : List LayoutTask → State → State
 todo tasks s = record { tasks = tasks ++ s.tasks; recs = s.recs; held = s.held; fields = s.fields; nodes = s.nodes }
 
 abbrev pub enter : ℕ → State → State
@@ -107,18 +107,18 @@ lay_field (member.Field label a) q s =
 lay_field member.Last q s = hold (node.Rcd (in_order s.fields)) (with_fields [] s)
 lay_field _ q s = s
 
-abbrev pub lay : Member → Place → State → State
+abbrev pub lay : Member → LayoutPlace → State → State
 lay member (Part p q size) s = lay_part member p q size s
 lay member (Block p size) s = lay_part member p (p + size.here) size (todo (End (length s.held) ∷ []) s)
 lay member (Fields q) s = lay_field member q s
 
 -- the state at its next place
-abbrev pub at_place : Option Place → State → State
+abbrev pub at_place : Option LayoutPlace → State → State
 at_place None s = s
 at_place (Some place) s = todo (At place ∷ []) s
 
 -- one piece, at the next place
-abbrev pub lay_at : Member → List Task → State → State
+abbrev pub lay_at : Member → List LayoutTask → State → State
 lay_at member (At place ∷ st) s = lay member place (record { tasks = st; recs = s.recs; held = s.held; fields = s.fields; nodes = s.nodes })
 lay_at member _ s = s
 

@@ -5,18 +5,18 @@ use Rattle.indexmap.specs.IndexSet.{contains}
 use Rattle.mls_typetext.specs.declared.scheme.TypeFault.{TypeFault}
 use Rattle.mls_typetext.specs.declared.piece.Piece.{Piece}
 use Rattle.mls_typetext.specs.declared.piece.Item.{Item}
-use Rattle.mls_typetext.specs.declared.resolve.Task.{Task}
-use Rattle.mls_typetext.specs.declared.resolve.Reader.{Reader}
+use Rattle.mls_typetext.specs.declared.resolve.NameTask.{NameTask}
+use Rattle.mls_typetext.specs.declared.resolve.NameReader.{NameReader}
 use Rattle.mls_typetext.specs.Trees.{TypeTree}
 use Rattle.mls_typetext.specs.Faults.{faults}
-use Rattle.mls_typetext.specs.Pieces.{postorder}
-use Rattle.mls_typetext.specs.Items.{items}
-use Rattle.mls_typetext.specs.Resolving.{Known}
+use Rattle.mls_typetext.specs.steps.Pieces.{postorder}
+use Rattle.mls_typetext.specs.steps.Items.{items}
+use Rattle.mls_typetext.specs.steps.NameMachine.{Known}
 
-abbrev pub tasks_of : Reader → List Task
+abbrev pub tasks_of : NameReader → List NameTask
 tasks_of r = reverse r.tasks.items
 
-abbrev pub known_of : Reader → Known
+abbrev pub known_of : NameReader → Known
 known_of r = record { recs = get bytes_eq r.recs; labels = contains bytes_eq r.labels; fault = r.fault; items = r.items.items }
 
 -- the pieces are those of no tree with a fault, and these are its items from the last to the first

@@ -1,8 +1,8 @@
 -- A machine that tells the pieces of a type from left to right, by a stack of what is still to come and still to tell.
-use Rattle.std.specs.Prelude.{◌≡◌, ℕ, List, [], ◌∷◌, ◌++◌, map, Option, Some, None}
+use Rattle.std.specs.Prelude.{◌≡◌, ℕ, List, [], ◌∷◌, ◌++◌, Option, Some, None}
 use Rattle.mls_lexer.specs.declared.token.Kind.TheVariants as kind
-use Rattle.mls_lexer.specs.declared.token.Token.{Token}
-use Rattle.mls_lexer.specs.Tokens.{Terminal, terminal, name, word}
+use Rattle.mls_lexer.specs.Tokens.{Terminal, name, word}
+use Rattle.mls_lexer.specs.steps.Placed.{Placed}
 use Rattle.mls_typetext.specs.declared.piece.Piece.{Piece}
 use Rattle.mls_typetext.specs.declared.piece.Piece.TheVariants as piece
 use Rattle.mls_typetext.specs.Phrases.{Sort, whole, codomain, join, join_tail, meet, meet_tail, atom, fields, more_fields}
@@ -12,10 +12,6 @@ pub data Todo : Type 0 where
   a : Sort → Todo
   the_rec the_field the_dot the_colon the_paren : Todo
   tell : Piece → Todo
-
--- a terminal with its place
-abbrev pub Placed : Type 0
-Placed = ℕ × Terminal
 
 -- what a part that begins with a terminal leaves to come, and the pieces that it tells at once
 pub record Act : Type 0 where
@@ -85,10 +81,6 @@ abbrev pub last_told : List Todo → List Piece → List Piece
 last_told [] out = out
 last_told (tell piece ∷ st) out = last_told st (out ++ piece ∷ [])
 last_told (todo ∷ st) out = last_told st out
-
--- the tokens of a text, each with its place
-abbrev pub placed : List ℕ → List Token → List Placed
-placed text tokens = map (λ token. (token.start, terminal text token)) tokens
 
 -- what the machine tells of a whole type
 abbrev pub told_of : List Placed → List Piece

@@ -1,5 +1,5 @@
-use Rattle.mls_typetext.specs.Readings.{Puts}
-use Rattle.mls_typetext.proofs.read.Reader.put.Given as goal
+use Rattle.mls_typetext.specs.steps.PieceReaders.{Puts}
+use Rattle.mls_typetext.proofs.read.PieceReader.put.Given as goal
 
 abbrev pub invariant-loop-todo : goal.invariant-loop-todo
 invariant-loop-todo g l = Puts l.yielded l.initial.self l.self

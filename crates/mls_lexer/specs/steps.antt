@@ -1,0 +1,4 @@
+-- What the functions of the crate do one step at a time. No public clause cites it.
+pub mod Machine
+pub mod Placed
+pub mod Scanning
