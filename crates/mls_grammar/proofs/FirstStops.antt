@@ -1,8 +1,10 @@
 -- A text is a module or has one first fault before its names are looked at.
 use Rattle.std.proofs.Common.{◌≡◌, ◌⊎◌, inl, inr, ℕ, ◌≤◌, List, [], ◌∷◌, refl, sym, ap, ◌∙◌, subst}
+use Rattle.mls_lexer.specs.declared.token.LexFault.{LexFault}
 use Rattle.mls_lexer.specs.declared.token.Token.{Token}
-use Rattle.mls_lexer.specs.Tokens.{terminals, place_of}
+use Rattle.mls_lexer.specs.Tokens.{IsTokens, HasTokenFault, terminals, place_of}
 use Rattle.mls_lexer.proofs.Readings as lexer
+use Rattle.mls_lexer.proofs.Total.{tokens_or_fault}
 use Rattle.mls_grammar.specs.declared.fault.Fault.{Fault}
 use Rattle.mls_grammar.specs.Phrases.{Phrase, source, yields, nesting}
 use Rattle.mls_grammar.specs.Trees.{SourceTree, meaning}
@@ -10,7 +12,7 @@ use Rattle.mls_grammar.specs.Modules.{HasNoDoubles, IsTextOf}
 use Rattle.mls_grammar.specs.GrammarFaults.{HasGrammarFault}
 use Rattle.mls_grammar.specs.Doubles.{doubles}
 use Rattle.mls_grammar.specs.FirstFaults.{of_tokens, HasFirstFault, in_tokens, in_grammar, in_doubles}
-use Rattle.mls_grammar.specs.GrammarLaws.{NoFaultBesideATree, OneFaultBeforeNames, IsPhraseOrFault, TreeOrFault}
+use Rattle.mls_grammar.specs.GrammarLaws.{NoFaultBesideATree, OneFaultBeforeNames, IsPhraseOrFault, IsTreeOrFault, TreeOrFault}
 use Rattle.mls_grammar.proofs.OnePhrase.{one_phrase}
 use Rattle.mls_grammar.proofs.Distinct.{clean}
 use Rattle.mls_grammar.proofs.Undoubled.{undoubled}
@@ -57,11 +59,12 @@ one_fault_before_names text _ _ (in_doubles others has' p spelled shallow g late
 one_fault_before_names text _ _ (in_doubles tokens has p spelled shallow f later e) (in_doubles others has' q spelled' shallow' g later' e') =
     first_fault f g later later' (sym e ∙ (one_list text tokens others p q (lexer.one_reading text tokens others has has') spelled spelled' ∙ e'))
 
-pub tree_or_fault : TreeOrFault
-tree_or_fault text tokens has = go (phrase_or_fault text tokens)
+-- what its tokens give
+of_all_tokens : (text : List ℕ) (tokens : List Token) → IsTokens text tokens → IsTreeOrFault text
+of_all_tokens text tokens has = go (phrase_or_fault text tokens)
   where
     by_doubles : (p : Phrase source) → yields p [] ≡ terminals text tokens → nesting p ≤ 200 → (fs : List Fault) → doubles (place_of tokens) [] 0 p ≡ fs
-        → ((tree : SourceTree) × IsTextOf text tree) ⊎ ((fault : Fault) × HasFirstFault text fault)
+        → IsTreeOrFault text
     by_doubles p is shallow [] e =
         inl (
           meaning (place_of tokens) 0 p,
@@ -77,6 +80,13 @@ tree_or_fault text tokens has = go (phrase_or_fault text tokens)
         )
     by_doubles p is shallow (f ∷ later) e = inr (f, in_doubles tokens has p is shallow f later e)
 
-    go : IsPhraseOrFault text tokens → ((tree : SourceTree) × IsTextOf text tree) ⊎ ((fault : Fault) × HasFirstFault text fault)
+    go : IsPhraseOrFault text tokens → IsTreeOrFault text
     go (inl it) = by_doubles it.0 it.1 it.2 (doubles (place_of tokens) [] 0 it.0) refl
     go (inr it) = inr (it.0, in_grammar tokens has it.0 it.1)
+
+pub tree_or_fault : TreeOrFault
+tree_or_fault text = by_tokens (tokens_or_fault text)
+  where
+    by_tokens : ((tokens : List Token) × IsTokens text tokens) ⊎ ((fault : LexFault) × HasTokenFault text fault) → IsTreeOrFault text
+    by_tokens (inl (tokens, has)) = of_all_tokens text tokens has
+    by_tokens (inr (fault, has)) = inr (of_tokens fault, in_tokens fault has)

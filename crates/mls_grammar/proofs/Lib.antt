@@ -1,4 +1,5 @@
 pub mod Distinct
+pub mod DoublesRise
 pub mod FaultsWithin
 pub mod FirstStops
 mod GrammarExamples
@@ -15,3 +16,4 @@ pub mod PassedFaults
 pub mod PlacesWithin
 pub mod TreesOfNodes
 pub mod Undoubled
+pub mod Widths

@@ -1,11 +1,14 @@
 -- The laws of the grammar of modules.
-use Rattle.std.specs.Prelude.{◌≡◌, ◌⊎◌, ℕ, ◌≤◌, List, []}
+use Rattle.std.specs.Prelude.{◌≡◌, ◌⊎◌, ℕ, ◌≤◌, List, [], ◌∷◌, length, All}
 use Rattle.mls_lexer.specs.declared.token.Token.{Token}
 use Rattle.mls_lexer.specs.Tokens.{IsTokens, terminals}
 use Rattle.mls_grammar.specs.declared.fault.Fault.{Fault}
 use Rattle.mls_grammar.specs.Phrases.{Phrase, source, yields, nesting}
 use Rattle.mls_grammar.specs.Trees.{SourceTree}
+use Rattle.mls_lexer.specs.Tokens.{place_of}
 use Rattle.mls_grammar.specs.Modules.{IsTextOf}
+use Rattle.mls_grammar.specs.Doubles.{doubles}
+use Rattle.mls_grammar.specs.Faults.{fault_place}
 use Rattle.mls_grammar.specs.GrammarFaults.{HasGrammarFault}
 use Rattle.mls_grammar.specs.FirstFaults.{HasFirstFault}
 
@@ -40,8 +43,17 @@ NoFaultBesideATree = (text : List ℕ) (tree : SourceTree) (fault : Fault) → I
 abbrev pub OneFaultBeforeNames : Type 0
 OneFaultBeforeNames = (text : List ℕ) (fault other : Fault) → HasFirstFault text fault → HasFirstFault text other → fault ≡ other
 
--- and a text that has tokens has one of the two: it is a module or has a first fault
+-- and every text has one of the two: it is a module or has a first fault
+abbrev pub IsTreeOrFault : List ℕ → Type 0
+IsTreeOrFault text = ((tree : SourceTree) × IsTextOf text tree) ⊎ ((fault : Fault) × HasFirstFault text fault)
+
 abbrev pub TreeOrFault : Type 0
-TreeOrFault =
-    (text : List ℕ) (tokens : List Token) → IsTokens text tokens
-    → ((tree : SourceTree) × IsTextOf text tree) ⊎ ((fault : Fault) × HasFirstFault text fault)
+TreeOrFault = (text : List ℕ) → IsTreeOrFault text
+
+-- of the names and labels that are given twice, the first in the order of the text has the least place
+abbrev pub FirstDoubleIsLeast : Type 0
+FirstDoubleIsLeast =
+    (text : List ℕ) (tokens : List Token) (phrase : Phrase source) (fault : Fault) (later : List Fault)
+    → IsTokens text tokens → yields phrase [] ≡ terminals text tokens
+    → doubles (place_of tokens) [] 0 phrase ≡ fault ∷ later
+    → All (λ other. fault_place (length text) fault ≤ fault_place (length text) other) later

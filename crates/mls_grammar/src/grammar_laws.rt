@@ -1,7 +1,7 @@
 //! Laws of the grammar of modules, each the contract of a function that does nothing.
 ghost use Rattle.mls_grammar.specs.GrammarLaws.{OneTree, NoGrammarFault, OneGrammarFault};
 ghost use Rattle.mls_grammar.specs.GrammarLaws.{PhraseOrFault, NoFaultBesideATree, OneFaultBeforeNames};
-ghost use Rattle.mls_grammar.specs.GrammarLaws.{TreeOrFault};
+ghost use Rattle.mls_grammar.specs.GrammarLaws.{TreeOrFault, FirstDoubleIsLeast};
 
 /// A text is a module of one tree at most.
 pub fn one_tree()
@@ -33,7 +33,12 @@ pub fn one_fault_before_names()
     ensures { OneFaultBeforeNames }
 {}
 
-/// A text that has tokens is a module or has a first fault.
+/// Every text is a module or has a first fault before its names are looked at.
 pub fn tree_or_fault()
     ensures { TreeOrFault }
+{}
+
+/// Of the names and labels that are given twice, the first in the order of the text has the least place.
+pub fn first_double_is_least()
+    ensures { FirstDoubleIsLeast }
 {}

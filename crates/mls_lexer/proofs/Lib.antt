@@ -9,5 +9,7 @@ pub mod Readings
 pub mod Shapes
 pub mod Shifts
 pub mod Terminals
+pub mod TextOrder
+pub mod Total
 pub mod Values
 pub mod Writings

@@ -1,5 +1,5 @@
--- The laws of tokens: with them a text has exactly one list of tokens or exactly one first fault at most.
-use Rattle.std.specs.Prelude.{◌≡◌, ℕ, List, map, All}
+-- The laws of tokens: with them a text has exactly one list of tokens or exactly one first fault.
+use Rattle.std.specs.Prelude.{◌≡◌, ◌⊎◌, ℕ, List, map, All}
 use Rattle.mls_lexer.specs.declared.token.Token.{Token}
 use Rattle.mls_lexer.specs.declared.token.LexFault.{LexFault}
 use Rattle.mls_lexer.specs.Tokens.{Terminal, IsTokens, HasTokenFault, HasTerminals}
@@ -16,6 +16,10 @@ NoFaultBesideTokens = (text : List ℕ) (tokens : List Token) (fault : LexFault)
 -- a text has one first fault
 abbrev pub OneFirstFault : Type 0
 OneFirstFault = (text : List ℕ) (fault other : LexFault) → HasTokenFault text fault → HasTokenFault text other → fault ≡ other
+
+-- and every text has the one or the other
+abbrev pub TokensOrFault : Type 0
+TokensOrFault = (text : List ℕ) → ((tokens : List Token) × IsTokens text tokens) ⊎ ((fault : LexFault) × HasTokenFault text fault)
 
 -- without their places the tokens of a text are names, numbers up to the largest, reserved words and symbols
 abbrev pub TokensAreTerminals : Type 0

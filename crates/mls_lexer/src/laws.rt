@@ -1,5 +1,5 @@
 //! Laws of tokens, each the contract of a function that does nothing.
-ghost use Rattle.mls_lexer.specs.Laws.{OneReading, NoFaultBesideTokens, OneFirstFault, TokensAreTerminals, WrittenIsRead};
+ghost use Rattle.mls_lexer.specs.Laws.{OneReading, NoFaultBesideTokens, OneFirstFault, TokensOrFault, TokensAreTerminals, WrittenIsRead};
 
 /// A text has one list of tokens.
 pub fn one_reading()
@@ -14,6 +14,11 @@ pub fn no_fault_beside_tokens()
 /// A text has one first fault.
 pub fn one_first_fault()
     ensures { OneFirstFault }
+{}
+
+/// A text has tokens or a first fault.
+pub fn tokens_or_fault()
+    ensures { TokensOrFault }
 {}
 
 /// Without their places the tokens of a text are names, numbers up to the largest, reserved words and symbols.

@@ -9,5 +9,6 @@ pub mod OneResolution
 pub mod Resolving
 pub mod Scopes
 pub mod Tasks
+pub mod UnknownsRise
 pub mod Walking
 pub mod WholeWalks

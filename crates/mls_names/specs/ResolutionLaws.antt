@@ -1,9 +1,9 @@
 -- The laws of names: with them a module has exactly one resolution, or exactly one first name without a meaning.
-use Rattle.std.specs.Prelude.{◌≡◌, ℕ, List, ◌⊎◌}
+use Rattle.std.specs.Prelude.{◌≡◌, ℕ, ◌≤◌, List, All, ◌⊎◌}
 use Rattle.mls_grammar.specs.declared.module.Module.{Module}
 use Rattle.mls_grammar.specs.declared.fault.Fault.{Fault}
 use Rattle.mls_term.specs.declared.term.Resolved.{Resolved}
-use Rattle.mls_grammar.specs.Modules.{IsModule}
+use Rattle.mls_grammar.specs.Modules.{IsModule, IsModuleText}
 use Rattle.mls_names.specs.Resolution.{Resolves, HasUnknownName}
 
 -- a module has one resolution
@@ -21,3 +21,9 @@ NoUnknownNameBesideAResolution = (m : Module) (declared : List (List (List ℕ))
 -- a module has the one or the other
 abbrev pub ResolutionOrUnknownName : Type 0
 ResolutionOrUnknownName = (m : Module) (declared : List (List (List ℕ))) → IsModule m → ((r : Resolved) × Resolves m declared r) ⊎ ((fault : Fault) × HasUnknownName m declared fault)
+
+-- of the names of a text's module that have no meaning, the first in the order of the text has the least place
+abbrev pub FirstUnknownIsLeast : Type 0
+FirstUnknownIsLeast =
+    (text : List ℕ) (m : Module) (declared : List (List (List ℕ))) (fault : Fault)
+    → IsModuleText text m → (it : HasUnknownName m declared fault) → All (λ other. it.place ≤ other) it.later

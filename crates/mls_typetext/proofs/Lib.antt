@@ -1,5 +1,6 @@
 pub mod Examples
 pub mod Fit
+pub mod FaultsRise
 pub mod FieldOrder
 pub mod FitBooks
 pub mod TypeValues
@@ -28,3 +29,6 @@ pub mod Resolves
 pub mod Resolved
 pub mod SchemesRead
 pub mod TextsRead
+pub mod Total
+pub mod LeastFaults
+pub mod ReadingsFrom

@@ -19,13 +19,13 @@ use Rattle.mls_typetext.proofs.TypeMachine.{read}
 use Rattle.mls_typetext.proofs.TypeStops.{IsRead, IsStuck, ends_before, has_stop, has_ended}
 use Rattle.mls_typetext.proofs.StackSteps.{all-can_end}
 
-take-more : (ts : List Terminal) (n : ℕ) (t : Terminal) → slice_get ts n ≡ Some t → take (suc n) ts ≡ take n ts ++ t ∷ []
+pub take-more : (ts : List Terminal) (n : ℕ) (t : Terminal) → slice_get ts n ≡ Some t → take (suc n) ts ≡ take n ts ++ t ∷ []
 take-more [] n t e = absurd (cc)
 take-more (first ∷ ts) zero t e = let same : first ≡ t = cc in ap (λ t. t ∷ []) same
 take-more (first ∷ ts) (suc n) t e = ap (λ us. first ∷ us) (take-more ts n t e)
 
 -- one terminal more is read by one step
-read-more : (ts : List Terminal) (n : ℕ) (t : Terminal) (st next : List ToCome) → IsRead ts n st → slice_get ts n ≡ Some t → step opens may_end st t ≡ Some next → IsRead ts (suc n) next
+pub read-more : (ts : List Terminal) (n : ℕ) (t : Terminal) (st next : List ToCome) → IsRead ts n st → slice_get ts n ≡ Some t → step opens may_end st t ≡ Some next → IsRead ts (suc n) next
 unfolding run
 read-more ts n t st next is at goes =
     ap (read (a whole ∷ [])) (take-more ts n t at)
@@ -33,7 +33,7 @@ read-more ts n t st next is at goes =
     ∙ (ap (λ o. onward o (λ next. read next (t ∷ []))) is
     ∙ ap (λ o. onward o (λ next. read next [])) goes))
 
-stuck-at : (ts : List Terminal) (n : ℕ) (t : Terminal) (st : List ToCome) → slice_get ts n ≡ Some t → step opens may_end st t ≡ None → IsStuck ts n st
+pub stuck-at : (ts : List Terminal) (n : ℕ) (t : Terminal) (st : List ToCome) → slice_get ts n ≡ Some t → step opens may_end st t ≡ None → IsStuck ts n st
 stuck-at ts n t st at none = λ other at'.
     let same : t ≡ other = same_some t other (sym at ∙ at') in
     ap (step opens may_end st) (sym same) ∙ none

@@ -1,17 +1,22 @@
 -- Laws of the texts of types.
-use Rattle.std.specs.Prelude.{◌≡◌, ℕ, ◌<◌, List, [], length}
+use Rattle.std.specs.Prelude.{◌≡◌, ◌⊎◌, ℕ, ◌+◌, ◌<◌, ◌≤◌, true, List, [], ◌∷◌, length, take, drop, All}
 use Rattle.mls_book.specs.declared.book.Node.TheVariants.{Var}
 use Rattle.mls_book.specs.Books.{IsClosedBook, node_at}
 use Rattle.mls_book.specs.Predicates.{Predicate}
 use Rattle.mls_book.specs.Passes.{passes_by}
 use Rattle.mls_lexer.specs.declared.token.Token.{Token}
+use Rattle.mls_lexer.specs.Tokens.{IsTokens, terminals}
 use Rattle.mls_typetext.specs.declared.scheme.ReadScheme.{ReadScheme}
 use Rattle.mls_typetext.specs.declared.scheme.TypeFault.{TypeFault}
-use Rattle.mls_typetext.specs.Stops.{EndsBefore, HasStop, HasTypeFault}
-use Rattle.mls_typetext.specs.Trees.{TypeTree}
+use Rattle.mls_typetext.specs.Phrases.{Phrase, whole, yields}
+use Rattle.mls_typetext.specs.Faults.{faults}
+use Rattle.mls_typetext.specs.Stops.{EndsBefore, HasStop, HasTypeFault, tree_place}
+use Rattle.mls_typetext.specs.Trees.{TypeTree, meaning}
 use Rattle.mls_typetext.specs.Books.{Ty, type_of}
 use Rattle.mls_typetext.specs.Values.{HasValue}
+use Rattle.mls_lexer.specs.Tokens.{place_of}
 use Rattle.mls_typetext.specs.Texts.{read_of, IsTypeOf, IsTypeText}
+use Rattle.mls_typetext.specs.TextsFrom.{ReadsFrom, HasFaultFrom}
 
 -- the book is closed, its root is there, and its variables are below their number
 pub record IsReadScheme (read : ReadScheme) : Type 0 where
@@ -44,6 +49,29 @@ NoFaultBesideReading = (text : List ℕ) (read : ReadScheme) (fault : TypeFault)
 -- a text has one first fault
 abbrev pub OneFirstFault : Type 0
 OneFirstFault = (text : List ℕ) (fault other : TypeFault) → HasTypeFault text fault → HasTypeFault text other → fault ≡ other
+
+-- every text is read or has a fault
+abbrev pub ReadingOrFault : Type 0
+ReadingOrFault = (text : List ℕ) → ((read : ReadScheme) × IsTypeText text read) ⊎ ((fault : TypeFault) × HasTypeFault text fault)
+
+-- of the faults of a tree, the first in the order of the text has the least place
+abbrev pub FirstIsLeast : Type 0
+FirstIsLeast =
+    (text : List ℕ) (tokens : List Token) (from count : ℕ) (phrase : Phrase whole) (fault : TypeFault) (later : List TypeFault)
+    → IsTokens text tokens → yields phrase [] ≡ take count (drop from (terminals text tokens))
+    → faults true [] 0 (meaning (place_of tokens) from phrase) ≡ fault ∷ later
+    → All (λ other. tree_place fault ≤ tree_place other) later
+
+-- from a token on a type is read in one way, or it has one first fault; what is read is closed
+pub record HasOneReading (text : List ℕ) (tokens : List Token) (from : ℕ) : Type 0 where
+  pub one_reading : (read other : ReadScheme) (k l : ℕ) → ReadsFrom text tokens from read k → ReadsFrom text tokens from other l → (read ≡ other) × (k ≡ l)
+  pub no_fault : (read : ReadScheme) (k : ℕ) (fault : TypeFault) → ReadsFrom text tokens from read k → HasFaultFrom text tokens from fault → ⊥
+  pub one_fault : (fault other : TypeFault) → HasFaultFrom text tokens from fault → HasFaultFrom text tokens from other → fault ≡ other
+  pub closed : (read : ReadScheme) (k : ℕ) → ReadsFrom text tokens from read k → IsReadScheme read
+  pub reading_or_fault : ((read : ReadScheme) × (k : ℕ) × ReadsFrom text tokens from read k) ⊎ ((fault : TypeFault) × HasFaultFrom text tokens from fault)
+
+abbrev pub OneReadingFrom : Type 0
+OneReadingFrom = (text : List ℕ) (tokens : List Token) (from : ℕ) → from ≤ length tokens → HasOneReading text tokens from
 
 -- from a token on a type ends before one token, or it stops for one reason
 pub record HasOneEnd (text : List ℕ) (tokens : List Token) (from : ℕ) : Type 0 where

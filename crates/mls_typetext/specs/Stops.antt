@@ -5,7 +5,7 @@ use Rattle.mls_lexer.specs.declared.token.LexFault.TheVariants as lex
 use Rattle.mls_lexer.specs.declared.token.Token.{Token}
 use Rattle.mls_lexer.specs.Tokens.{Terminal, IsTokens, HasTokenFault, terminals, place_of}
 use Rattle.mls_typetext.specs.declared.scheme.TypeFault.{TypeFault}
-use Rattle.mls_typetext.specs.declared.scheme.TypeFault.TheVariants.{BadByte, BigNumber, Unexpected, Ended, Memory}
+use Rattle.mls_typetext.specs.declared.scheme.TypeFault.TheVariants.{BadByte, BigNumber, Unexpected, Ended, NotPolar, Unguarded, Contravariant, DuplicateLabel, Memory}
 use Rattle.mls_typetext.specs.Phrases.{Phrase, whole, yields}
 use Rattle.mls_typetext.specs.Trees.{meaning}
 use Rattle.mls_typetext.specs.Faults.{faults}
@@ -41,6 +41,22 @@ pub data HasStop (text : List ℕ) (tokens : List Token) (from : ℕ) : TypeFaul
   -- all can go on, and they are no type
   stops_at_end : BeginsType (drop from (terminals text tokens)) → (IsType (drop from (terminals text tokens)) → ⊥)
       → HasStop text tokens from Ended
+
+-- the place of a fault in a text of this length
+abbrev pub fault_place : ℕ → TypeFault → ℕ
+fault_place length (BadByte at) = at
+fault_place length (BigNumber at) = at
+fault_place length (Unexpected at kind) = at
+fault_place length Ended = length
+fault_place length (NotPolar at) = at
+fault_place length (Unguarded at) = at
+fault_place length (Contravariant at) = at
+fault_place length (DuplicateLabel at) = at
+fault_place length Memory = 0
+
+-- the place of a fault of a tree
+abbrev pub tree_place : TypeFault → ℕ
+tree_place = fault_place 0
 
 -- a fault of tokens as one of types
 abbrev pub of_tokens : LexFault → TypeFault

@@ -1,5 +1,5 @@
 //! Laws of the texts of types, each the contract of a function that does nothing.
-ghost use Rattle.mls_typetext.specs.Laws.{NoFaultBesideReading, OneFirstFault, OneEnd};
+ghost use Rattle.mls_typetext.specs.Laws.{NoFaultBesideReading, OneFirstFault, OneEnd, ReadingOrFault, FirstIsLeast, OneReadingFrom};
 ghost use Rattle.mls_typetext.specs.Laws.{OneReading, ReadIsClosed, ReadHasValue};
 
 /// A text is read as a type in one way at most.
@@ -15,6 +15,21 @@ pub fn no_fault_beside_reading()
 /// A text has one first fault at most.
 pub fn one_first_fault()
     ensures { OneFirstFault }
+{}
+
+/// Every text is read as a type or has a fault.
+pub fn reading_or_fault()
+    ensures { ReadingOrFault }
+{}
+
+/// The first fault of a tree in the order of the text has the least place among its faults.
+pub fn first_is_least()
+    ensures { FirstIsLeast }
+{}
+
+/// From a token on, a type is read in one way, as a closed book, or has one first fault.
+pub fn one_reading_from()
+    ensures { OneReadingFrom }
 {}
 
 /// From a token on, a type ends before one token, or the grammar stops for one reason.
