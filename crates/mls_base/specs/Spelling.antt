@@ -15,7 +15,8 @@ is_lower byte = nat_le 97 byte && nat_le byte 122
 
 -- a letter, a digit or `_`
 abbrev pub is_name_byte : ℕ → Bool
-is_name_byte byte = is_lower byte || (nat_le 65 byte && nat_le byte 90) || (nat_le 48 byte && nat_le byte 57) || (byte == 95)
+is_name_byte byte =
+    is_lower byte || (nat_le 65 byte && nat_le byte 90) || (nat_le 48 byte && nat_le byte 57) || (byte == 95)
 
 -- the first byte is a letter `a` to `z`
 abbrev pub begins_lower : List ℕ → Bool

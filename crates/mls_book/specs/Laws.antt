@@ -17,14 +17,16 @@ IsAsTable b value = (i : ℕ) → i < length b → value i ≡ node_value var va
 abbrev pub PassesIsTable : Type 0
 PassesIsTable =
     (b : List Node) → IsClosedBook b
-    → IsAsTable b (passes b) × ((value : ℕ → Predicate) → IsAsTable b value → (i : ℕ) → i < length b → value i ≡ passes b i)
+    → IsAsTable b (passes b) × ((value : ℕ → Predicate) → IsAsTable b value → (i : ℕ) → i < length b
+    → value i ≡ passes b i)
 
 abbrev pub Reflexive : Type 0
 Reflexive = (b : List Node) (i : ℕ) → IsClosedBook b → i < length b → IsBelow b i b i
 
 abbrev pub Transitive : Type 0
 Transitive =
-    (b c d : List Node) (i j k : ℕ) → IsClosedBook b → IsClosedBook c → IsClosedBook d → i < length b → j < length c → k < length d
+    (b c d : List Node) (i j k : ℕ) → IsClosedBook b → IsClosedBook c → IsClosedBook d → i < length b → j < length c
+    → k < length d
     → IsBelow b i c j → IsBelow c j d k → IsBelow b i d k
 
 abbrev pub BotLeast : Type 0
@@ -42,14 +44,16 @@ JoinLeastUpper =
     (b : List Node) (n : ℕ) (i j : NodeId) → IsClosedBook b → node_at b n ≡ Join i j
     → IsBelow b i.0 b n
     × IsBelow b j.0 b n
-    × ((c : List Node) (m : ℕ) → IsClosedBook c → m < length c → IsBelow b i.0 c m → IsBelow b j.0 c m → IsBelow b n c m)
+    × ((c : List Node) (m : ℕ) → IsClosedBook c → m < length c → IsBelow b i.0 c m → IsBelow b j.0 c m
+    → IsBelow b n c m)
 
 abbrev pub MeetGreatestLower : Type 0
 MeetGreatestLower =
     (b : List Node) (n : ℕ) (i j : NodeId) → IsClosedBook b → node_at b n ≡ Meet i j
     → IsBelow b n b i.0
     × IsBelow b n b j.0
-    × ((c : List Node) (m : ℕ) → IsClosedBook c → m < length c → IsBelow c m b i.0 → IsBelow c m b j.0 → IsBelow c m b n)
+    × ((c : List Node) (m : ℕ) → IsClosedBook c → m < length c → IsBelow c m b i.0 → IsBelow c m b j.0
+    → IsBelow c m b n)
 
 -- i & (j | k) is (i & j) | (i & k)
 abbrev pub Distributive : Type 0
@@ -85,7 +89,8 @@ abbrev pub RecordJoin : Type 0
 RecordJoin =
     (b : List Node) (join both : ℕ) (first second : NodeId) (f g h : List Field) → IsClosedBook b
     → node_at b join ≡ Join first second → node_at b first.0 ≡ Rcd f → node_at b second.0 ≡ Rcd g
-    → node_at b both ≡ Rcd h → ((label : List ℕ) → IsJoinedField b (field_at label f) (field_at label g) (field_at label h))
+    → node_at b both ≡ Rcd h → ((label : List ℕ)
+    → IsJoinedField b (field_at label f) (field_at label g) (field_at label h))
     → AreEqual b join b both
 
 -- a field of the meet of two records: one of them has the label, and where both have it, it is the meet of their fields
@@ -99,7 +104,8 @@ abbrev pub RecordMeet : Type 0
 RecordMeet =
     (b : List Node) (meet both : ℕ) (first second : NodeId) (f g h : List Field) → IsClosedBook b
     → node_at b meet ≡ Meet first second → node_at b first.0 ≡ Rcd f → node_at b second.0 ≡ Rcd g
-    → node_at b both ≡ Rcd h → ((label : List ℕ) → IsMetField b (field_at label f) (field_at label g) (field_at label h))
+    → node_at b both ≡ Rcd h → ((label : List ℕ)
+    → IsMetField b (field_at label f) (field_at label g) (field_at label h))
     → AreEqual b meet b both
 
 -- i -> j is below k -> l exactly where k is below i, and j below l
@@ -115,7 +121,8 @@ RecordOrder =
     (b c : List Node) (n m : ℕ) (f g : List Field) → IsClosedBook b → IsClosedBook c
     → node_at b n ≡ Rcd f → node_at c m ≡ Rcd g
     → IsBelow b n c m
-    ↔ ((label : List ℕ) (k : NodeId) → field_at label g ≡ Some k → (j : NodeId) × (field_at label f ≡ Some j) × IsBelow b j.0 c k.0)
+    ↔ ((label : List ℕ) (k : NodeId) → field_at label g ≡ Some k → (j : NodeId) × (field_at label f ≡ Some j)
+    × IsBelow b j.0 c k.0)
 
 -- top -> bot is not bot
 abbrev pub FunctionNotBot : Type 0

@@ -1,11 +1,13 @@
 -- When a node of a book passes a test.
-use Rattle.std.specs.Prelude.{ℕ, zero, suc, Bool, true, false, not, ◌&&◌, ◌||◌, List, option_map, Option, Some, None, is_none}
+use Rattle.std.specs.Prelude.{ℕ, zero, suc, Bool, true, false, not, ◌&&◌, ◌||◌, List, option_map, Option, Some, None}
+use Rattle.std.specs.Prelude.{is_none}
 use Rattle.mls_book.specs.declared.book.Field.{Field}
 use Rattle.mls_book.specs.declared.book.NodeId.{NodeId}
 use Rattle.mls_book.specs.declared.book.Node.{Node}
 use Rattle.mls_book.specs.declared.book.Node.TheVariants as node
 use Rattle.mls_book.specs.Books.{node_at, field_at}
-use Rattle.mls_book.specs.Tests.{Test, test, FunctionPart, never_function, always_function, dom, cod, RecordPart, never_record, always_record, lacks, at}
+use Rattle.mls_book.specs.Tests.{Test, test, FunctionPart, never_function, always_function, dom, cod, RecordPart}
+use Rattle.mls_book.specs.Tests.{never_record, always_record, lacks, at}
 use Rattle.mls_book.specs.Predicates.{Predicate, bot, top, var, bool, int, arrow, rcd, join, meet}
 
 -- the fields of a record, where `value` says what the nodes pass
@@ -79,7 +81,8 @@ unfoldable mutual
   record_passes variable nodes never_record fields = false
   record_passes variable nodes always_record fields = true
   record_passes variable nodes (lacks label) fields = is_none (field_at label fields)
-  record_passes variable nodes (at label q) fields = field_passes (λ i. passes_by variable nodes i q) (field_at label fields)
+  record_passes variable nodes (at label q) fields =
+      field_passes (λ i. passes_by variable nodes i q) (field_at label fields)
 
 -- whether a node passes a test
 abbrev pub passes : List Node → ℕ → Test → Bool

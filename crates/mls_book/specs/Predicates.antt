@@ -1,7 +1,9 @@
 -- Types as predicates: a type is known by the tests that it passes.
-use Rattle.std.specs.Prelude.{◌≡◌, ℕ, Bool, true, false, not, ◌&&◌, ◌||◌, ◌==◌, List, [], ◌∷◌, Option, Some, None, is_none}
+use Rattle.std.specs.Prelude.{◌≡◌, ℕ, Bool, true, false, not, ◌&&◌, ◌||◌, ◌==◌, List, [], ◌∷◌, Option, Some, None}
+use Rattle.std.specs.Prelude.{is_none}
 use Rattle.std.specs.List.{list_any}
-use Rattle.mls_book.specs.Tests.{Test, test, FunctionPart, never_function, always_function, dom, cod, RecordPart, never_record, always_record, lacks, at}
+use Rattle.mls_book.specs.Tests.{Test, test, FunctionPart, never_function, always_function, dom, cod, RecordPart}
+use Rattle.mls_book.specs.Tests.{never_record, always_record, lacks, at}
 
 -- which tests a type passes
 abbrev pub Predicate : Type 0

@@ -43,7 +43,8 @@ passes_at r nodes = passes_under r.book r.node_of nodes
 -- the first scheme subsumes the second by this substitution
 pub record SubsumesBy (first second : Scheme) (r : Substitution) : Type 0 where
   pub root : Implies (passes_at r first.book first.root) (passes second.book second.root)
-  pub env : (x : ℕ) → Implies (binder_passes (passes second.book) (map.get second.env x)) (binder_passes (passes_at r first.book) (map.get first.env x))
+  pub env : (x : ℕ) → Implies (binder_passes (passes second.book) (map.get second.env x))
+      (binder_passes (passes_at r first.book) (map.get first.env x))
 
 -- the second scheme is an instance of the first
 abbrev pub Subsumes : Scheme → Scheme → Type 0

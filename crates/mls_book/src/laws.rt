@@ -2,7 +2,8 @@
 //!
 //! They are the laws of subtyping of Dolan and Mycroft, Polymorphism, Subtyping, and Type Inference in MLsub, 2017,
 //! proved of the order by finite tests.
-ghost use Rattle.mls_book.specs.Laws.{PassesIsTable, Reflexive, Transitive, BotLeast, TopGreatest, JoinLeastUpper, MeetGreatestLower, Distributive};
+ghost use Rattle.mls_book.specs.Laws.{PassesIsTable, Reflexive, Transitive, BotLeast, TopGreatest, JoinLeastUpper};
+ghost use Rattle.mls_book.specs.Laws.{MeetGreatestLower, Distributive};
 ghost use Rattle.mls_book.specs.Laws.{FunctionJoin, FunctionMeet, RecordJoin, RecordMeet, FunctionOrder, RecordOrder};
 ghost use Rattle.mls_book.specs.Laws.{FunctionNotBot, TopNotFunction, HeadsUnlike, PrimeInJoin};
 

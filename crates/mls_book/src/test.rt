@@ -74,7 +74,7 @@ pub enum RecordPart {
 
 impl Model for Test {
     ghost use Rattle.mls_book.specs.Tests.{Test as AnyTest, depth};
-    ghost use Rattle.mls_book.specs.TestCode.{test_code};
+    ghost use Rattle.mls_book.specs.steps.TestCode.{test_code};
 
     ghost Value = { AnyTest };
 
@@ -86,7 +86,7 @@ impl Model for Test {
 
     ghost size = { depth };
 
-    ghost use Rattle.mls_book.specs.TestFalls.{test_falls};
+    ghost use Rattle.mls_book.specs.steps.TestFalls.{test_falls};
 
     ghost size_decreases = { λ a h. test_falls a };
 }

@@ -1,7 +1,9 @@
 -- The places of faults.
 use Rattle.std.specs.Prelude.{ℕ}
 use Rattle.mls_grammar.specs.declared.fault.Fault.{Fault}
-use Rattle.mls_grammar.specs.declared.fault.Fault.TheVariants.{BadByte, BigNumber, Unexpected, Ended, TooDeep, DuplicateBinding, DuplicateLabel, DuplicateImport, UnknownName, NotBuilt, Memory}
+use Rattle.mls_grammar.specs.declared.fault.Fault.TheVariants.{BadByte, BigNumber, Unexpected, Ended, TooDeep}
+use Rattle.mls_grammar.specs.declared.fault.Fault.TheVariants.{DuplicateBinding, DuplicateLabel, DuplicateImport}
+use Rattle.mls_grammar.specs.declared.fault.Fault.TheVariants.{UnknownName, NotBuilt, Memory}
 
 -- the place of a fault of a text of this length
 abbrev pub fault_place : ℕ → Fault → ℕ

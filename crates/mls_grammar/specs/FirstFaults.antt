@@ -16,7 +16,8 @@ of_tokens (lex.BadByte at) = BadByte at
 of_tokens (lex.BigNumber at) = BigNumber at
 of_tokens lex.Memory = Memory
 
--- this is the first fault of the text: of its tokens, then of the grammar, then the first name or label that is given twice
+-- this is the first fault of the text: of its tokens, then of the grammar, then the first name or label that is given
+-- twice
 pub data HasFirstFault (text : List ℕ) : Fault → Type 0 where
   in_tokens : (fault : LexFault) → HasTokenFault text fault → HasFirstFault text (of_tokens fault)
   in_grammar : (tokens : List Token) → IsTokens text tokens

@@ -4,7 +4,11 @@ use Rattle.mls_lexer.specs.declared.token.Token.{Token}
 use Rattle.mls_lexer.specs.Tokens.{Terminal, terminals}
 use Rattle.mls_grammar.specs.declared.fault.Fault.{Fault}
 use Rattle.mls_grammar.specs.declared.fault.Fault.TheVariants.{Unexpected, Ended, TooDeep}
-use Rattle.mls_grammar.specs.Phrases.{Sort, source, Phrase, whole, no_import, importing, no_binding, binding, simple, recursive, fun, fix, local, choice, plain, simple_in, recursive_in, no_compare, less, equal, summed, no_sum, plus, minus, multiplied, no_product, times, applied, no_argument, argument, posted, no_dot, dot, variable, literal, truth, parens, braces, no_part, first_part, last_part, next_part, yields}
+use Rattle.mls_grammar.specs.Phrases.{Sort, source, Phrase, whole, no_import, importing, no_binding, binding, simple}
+use Rattle.mls_grammar.specs.Phrases.{recursive, fun, fix, local, choice, plain, simple_in, recursive_in, no_compare}
+use Rattle.mls_grammar.specs.Phrases.{less, equal, summed, no_sum, plus, minus, multiplied, no_product, times, applied}
+use Rattle.mls_grammar.specs.Phrases.{no_argument, argument, posted, no_dot, dot, variable, literal, truth, parens}
+use Rattle.mls_grammar.specs.Phrases.{braces, no_part, first_part, last_part, next_part, yields}
 
 -- terminals are a module, nested however deep
 abbrev pub IsSource : List Terminal → Type 0
@@ -21,7 +25,8 @@ begin_first n (m ∷ ms) = n ∷ ms
 
 -- For each terminal that a phrase spells, the nesting of the expression that begins there, and 0 where none begins;
 -- before those of the terminals that follow it.
--- The first argument is the nesting of the nearest expression around the phrase, and 0 if there is none: one within has one more.
+-- The first argument is the nesting of the nearest expression around the phrase, and 0 if there is none: one within has
+-- one more.
 unfoldable pub nestings : ℕ → {s : Sort} → Phrase s → List ℕ → List ℕ
 nestings n (whole i b) rest = nestings n i (nestings n b rest)
 nestings n no_import rest = rest

@@ -19,12 +19,15 @@ OneTree = (text : List ℕ) (s t : SourceTree) → IsTextOf text s → IsTextOf 
 -- the tokens of a module have no fault of the grammar
 abbrev pub NoGrammarFault : Type 0
 NoGrammarFault =
-    (text : List ℕ) (tree : SourceTree) (tokens : List Token) (fault : Fault) → IsTextOf text tree → IsTokens text tokens
+    (text : List ℕ) (tree : SourceTree) (tokens : List Token) (fault : Fault) → IsTextOf text tree
+    → IsTokens text tokens
     → HasGrammarFault text tokens fault → ⊥
 
 -- tokens have one fault of the grammar at most
 abbrev pub OneGrammarFault : Type 0
-OneGrammarFault = (text : List ℕ) (tokens : List Token) (fault other : Fault) → HasGrammarFault text tokens fault → HasGrammarFault text tokens other → fault ≡ other
+OneGrammarFault =
+    (text : List ℕ) (tokens : List Token) (fault other : Fault) → HasGrammarFault text tokens fault
+    → HasGrammarFault text tokens other → fault ≡ other
 
 -- tokens are spelled by a phrase that is nested at most 200 deep, or have a fault of the grammar
 abbrev pub IsPhraseOrFault : List ℕ → List Token → Type 0
@@ -37,11 +40,13 @@ PhraseOrFault = (text : List ℕ) (tokens : List Token) → IsPhraseOrFault text
 
 -- a text that is a module has no fault before its names are looked at
 abbrev pub NoFaultBesideATree : Type 0
-NoFaultBesideATree = (text : List ℕ) (tree : SourceTree) (fault : Fault) → IsTextOf text tree → HasFirstFault text fault → ⊥
+NoFaultBesideATree =
+    (text : List ℕ) (tree : SourceTree) (fault : Fault) → IsTextOf text tree → HasFirstFault text fault → ⊥
 
 -- a text has one such first fault at most
 abbrev pub OneFaultBeforeNames : Type 0
-OneFaultBeforeNames = (text : List ℕ) (fault other : Fault) → HasFirstFault text fault → HasFirstFault text other → fault ≡ other
+OneFaultBeforeNames =
+    (text : List ℕ) (fault other : Fault) → HasFirstFault text fault → HasFirstFault text other → fault ≡ other
 
 -- and every text has one of the two: it is a module or has a first fault
 abbrev pub IsTreeOrFault : List ℕ → Type 0

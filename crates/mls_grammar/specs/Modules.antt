@@ -6,7 +6,9 @@ use Rattle.mls_grammar.specs.declared.module.Module.{Module}
 use Rattle.mls_grammar.specs.declared.module.Import.{Import}
 use Rattle.mls_grammar.specs.declared.module.Binding.{Binding}
 use Rattle.mls_grammar.specs.Phrases.{source, Phrase, yields, nesting}
-use Rattle.mls_grammar.specs.Trees.{Tree, a_name, an_operator, a_number, a_truth, a_fun, a_fix, a_let, an_if, an_apply, a_make, a_project, Fields, no_field, a_field, ImportTree, BindingTree, SourceTree, meaning, postorder}
+use Rattle.mls_grammar.specs.Trees.{Tree, a_name, an_operator, a_number, a_truth, a_fun, a_fix, a_let, an_if, an_apply}
+use Rattle.mls_grammar.specs.Trees.{a_make, a_project, Fields, no_field, a_field, ImportTree, BindingTree, SourceTree}
+use Rattle.mls_grammar.specs.Trees.{meaning, postorder}
 
 -- no two of these names are equal
 abbrev pub AreDistinct : List (List ℕ) → Type 0

@@ -20,7 +20,8 @@ pub data Phrase : Sort → Type 0 where
   -- bind_rest := NAME '=' expr bindings | 'rec' NAME '=' expr bindings
   simple : (x : List ℕ) → Phrase expr → Phrase bindings → Phrase bind_rest
   recursive : (x : List ℕ) → Phrase expr → Phrase bindings → Phrase bind_rest
-  -- expr := 'fun' NAME '->' expr | 'rec' NAME '->' expr | 'let' let_rest | 'if' expr 'then' expr 'else' expr | sum compare_tail
+  -- expr := 'fun' NAME '->' expr | 'rec' NAME '->' expr | 'let' let_rest
+  --   | 'if' expr 'then' expr 'else' expr | sum compare_tail
   fun : (x : List ℕ) → Phrase expr → Phrase expr
   fix : (x : List ℕ) → Phrase expr → Phrase expr
   local : Phrase let_rest → Phrase expr
@@ -77,10 +78,12 @@ yields (recursive x e b) rest = word kind.WordRec ∷ name x ∷ word kind.Equal
 yields (fun x e) rest = word kind.WordFun ∷ name x ∷ word kind.Arrow ∷ yields e rest
 yields (fix x e) rest = word kind.WordRec ∷ name x ∷ word kind.Arrow ∷ yields e rest
 yields (local r) rest = word kind.WordLet ∷ yields r rest
-yields (choice c e f) rest = word kind.WordIf ∷ yields c (word kind.WordThen ∷ yields e (word kind.WordElse ∷ yields f rest))
+yields (choice c e f) rest =
+    word kind.WordIf ∷ yields c (word kind.WordThen ∷ yields e (word kind.WordElse ∷ yields f rest))
 yields (plain s t) rest = yields s (yields t rest)
 yields (simple_in x e f) rest = name x ∷ word kind.Equals ∷ yields e (word kind.WordIn ∷ yields f rest)
-yields (recursive_in x e f) rest = word kind.WordRec ∷ name x ∷ word kind.Equals ∷ yields e (word kind.WordIn ∷ yields f rest)
+yields (recursive_in x e f) rest =
+    word kind.WordRec ∷ name x ∷ word kind.Equals ∷ yields e (word kind.WordIn ∷ yields f rest)
 yields no_compare rest = rest
 yields (less s) rest = word kind.Less ∷ yields s rest
 yields (equal s) rest = word kind.DoubleEquals ∷ yields s rest

@@ -5,7 +5,13 @@ use Rattle.mls_grammar.specs.declared.module.Op.TheVariants as op
 use Rattle.mls_term.specs.declared.term.Part.{Part}
 use Rattle.mls_grammar.specs.declared.module.ExprNode.{ExprNode}
 use Rattle.mls_grammar.specs.declared.module.Form.TheVariants as form
-use Rattle.mls_grammar.specs.Phrases.{Sort, source, imports, bindings, bind_rest, expr, let_rest, compare_tail, sum, sum_tail, product, product_tail, apply, arguments, post, dots, atom, parts, more_parts, Phrase, whole, no_import, importing, no_binding, binding, simple, recursive, fun, fix, local, choice, plain, simple_in, recursive_in, no_compare, less, equal, summed, no_sum, plus, minus, multiplied, no_product, times, applied, no_argument, argument, posted, no_dot, dot, variable, literal, truth, parens, braces, no_part, first_part, last_part, next_part, width}
+use Rattle.mls_grammar.specs.Phrases.{Sort, source, imports, bindings, bind_rest, expr, let_rest, compare_tail, sum}
+use Rattle.mls_grammar.specs.Phrases.{sum_tail, product, product_tail, apply, arguments, post, dots, atom, parts}
+use Rattle.mls_grammar.specs.Phrases.{more_parts, Phrase, whole, no_import, importing, no_binding, binding, simple}
+use Rattle.mls_grammar.specs.Phrases.{recursive, fun, fix, local, choice, plain, simple_in, recursive_in, no_compare}
+use Rattle.mls_grammar.specs.Phrases.{less, equal, summed, no_sum, plus, minus, multiplied, no_product, times, applied}
+use Rattle.mls_grammar.specs.Phrases.{no_argument, argument, posted, no_dot, dot, variable, literal, truth, parens}
+use Rattle.mls_grammar.specs.Phrases.{braces, no_part, first_part, last_part, next_part, width}
 
 -- an expression, each part with its place, which is a number of bytes before it
 mutual
@@ -75,25 +81,34 @@ meaning place k no_import = []
 meaning place k (importing x i) = record { x = x; at = place (k + 1) } ∷ meaning place (k + 2) i
 meaning place k no_binding = []
 meaning place k (binding r) = meaning place (k + 1) r
-meaning place k (simple x e b) = record { x = x; at = place k; body = meaning place (k + 2) e } ∷ meaning place (k + 2 + width e) b
-meaning place k (recursive x e b) = record { x = x; at = place (k + 1); body = a_fix (place k) x (meaning place (k + 3) e) } ∷ meaning place (k + 3 + width e) b
+meaning place k (simple x e b) =
+    record { x = x; at = place k; body = meaning place (k + 2) e } ∷ meaning place (k + 2 + width e) b
+meaning place k (recursive x e b) =
+    record { x = x; at = place (k + 1); body = a_fix (place k) x (meaning place (k + 3) e) }
+    ∷ meaning place (k + 3 + width e) b
 meaning place k (fun x e) = a_fun (place k) x (meaning place (k + 3) e)
 meaning place k (fix x e) = a_fix (place k) x (meaning place (k + 3) e)
 meaning place k (local r) = meaning place (k + 1) r (place k)
-meaning place k (choice c e f) = an_if (place k) (meaning place (k + 1) c) (meaning place (k + 2 + width c) e) (meaning place (k + 3 + width c + width e) f)
+meaning place k (choice c e f) =
+    an_if (place k) (meaning place (k + 1) c) (meaning place (k + 2 + width c) e)
+    (meaning place (k + 3 + width c + width e) f)
 meaning place k (plain s t) = meaning place (k + width s) t (meaning place k s)
 meaning place k (simple_in x e f) = λ at. a_let at x (meaning place (k + 2) e) (meaning place (k + 3 + width e) f)
-meaning place k (recursive_in x e f) = λ at. a_let at x (a_fix (place k) x (meaning place (k + 3) e)) (meaning place (k + 4 + width e) f)
+meaning place k (recursive_in x e f) =
+    λ at. a_let at x (a_fix (place k) x (meaning place (k + 3) e)) (meaning place (k + 4 + width e) f)
 meaning place k no_compare = λ left. left
 meaning place k (less s) = λ left. binary (place k) op.Less left (meaning place (k + 1) s)
 meaning place k (equal s) = λ left. binary (place k) op.Equal left (meaning place (k + 1) s)
 meaning place k (summed p t) = meaning place (k + width p) t (meaning place k p)
 meaning place k no_sum = λ left. left
-meaning place k (plus p t) = λ left. meaning place (k + 1 + width p) t (binary (place k) op.Plus left (meaning place (k + 1) p))
-meaning place k (minus p t) = λ left. meaning place (k + 1 + width p) t (binary (place k) op.Minus left (meaning place (k + 1) p))
+meaning place k (plus p t) =
+    λ left. meaning place (k + 1 + width p) t (binary (place k) op.Plus left (meaning place (k + 1) p))
+meaning place k (minus p t) =
+    λ left. meaning place (k + 1 + width p) t (binary (place k) op.Minus left (meaning place (k + 1) p))
 meaning place k (multiplied a t) = meaning place (k + width a) t (meaning place k a)
 meaning place k no_product = λ left. left
-meaning place k (times a t) = λ left. meaning place (k + 1 + width a) t (binary (place k) op.Times left (meaning place (k + 1) a))
+meaning place k (times a t) =
+    λ left. meaning place (k + 1 + width a) t (binary (place k) op.Times left (meaning place (k + 1) a))
 meaning place k (applied p a) = meaning place (k + width p) a (place k) (meaning place k p)
 meaning place k no_argument = λ at f. f
 meaning place k (argument p a) = λ at f. meaning place (k + width p) a at (an_apply at f (meaning place k p))
@@ -133,7 +148,8 @@ unfoldable mutual
 -- the label of each part of a record and the number of its root, where the first node has the number n
 unfoldable pub field_roots : ℕ → Fields → List Part
 field_roots n no_field = []
-field_roots n (a_field label e rest) = record { label = label; child = n + before e } ∷ field_roots (n + suc (before e)) rest
+field_roots n (a_field label e rest) =
+    record { label = label; child = n + before e } ∷ field_roots (n + suc (before e)) rest
 
 -- the nodes of a tree in postorder, children in the order of the text, where the first node has the number n
 unfoldable mutual
@@ -150,12 +166,15 @@ unfoldable mutual
   postorder n (an_if at c e f) =
       let m = n + suc (before c) in
       let l = m + suc (before e) in
-      postorder n c ++ postorder m e ++ postorder l f ++ record { at = at; form = form.If (n + before c) (m + before e) (l + before f) } ∷ []
+      postorder n c ++ postorder m e ++ postorder l f
+      ++ record { at = at; form = form.If (n + before c) (m + before e) (l + before f) } ∷ []
   postorder n (an_apply at f a) =
       let m = n + suc (before f) in
       postorder n f ++ postorder m a ++ record { at = at; form = form.Apply (n + before f) (m + before a) } ∷ []
-  postorder n (a_make at fields) = field_postorder n fields ++ record { at = at; form = form.Make (field_roots n fields) } ∷ []
-  postorder n (a_project at e label) = postorder n e ++ record { at = at; form = form.Project (n + before e) label } ∷ []
+  postorder n (a_make at fields) =
+      field_postorder n fields ++ record { at = at; form = form.Make (field_roots n fields) } ∷ []
+  postorder n (a_project at e label) =
+      postorder n e ++ record { at = at; form = form.Project (n + before e) label } ∷ []
 
   -- the nodes of the parts of a record
   pub field_postorder : ℕ → Fields → List ExprNode

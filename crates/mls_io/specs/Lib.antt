@@ -4,3 +4,4 @@ pub mod Memory
 pub mod Output
 pub mod Sinks
 pub mod Stores
+pub mod steps

@@ -26,10 +26,12 @@ pub record GivesFound (old : Holdings) (name : List ℕ) (limit : ℕ) (before a
   pub within : length bytes ≤ limit
   pub told : IfSome old.files (λ files. bytes_at files name ≡ Some bytes)
 
--- the misses rose, and where told the answer Missing comes exactly if there is no such file, unless Failed or Memory comes
+-- the misses rose, and where told the answer Missing comes exactly if there is no such file, unless Failed or Memory
+-- comes
 pub record GivesMissing (old new : Holdings) (name : List ℕ) (answer : Fetch) : Type 0 where
   pub counted : answer ≡ Missing → Rose old.misses new.misses
-  pub told : IfSome old.files (λ files. answer ≢ Failed → answer ≢ Memory → (answer ≡ Missing) ↔ (bytes_at files name ≡ None))
+  pub told : IfSome old.files (λ files. answer ≢ Failed → answer ≢ Memory
+      → (answer ≡ Missing) ↔ (bytes_at files name ≡ None))
 
 -- the longs rose, and where told the file has more than `limit` bytes
 pub record GivesLong (old new : Holdings) (name : List ℕ) (limit : ℕ) : Type 0 where

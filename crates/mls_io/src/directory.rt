@@ -94,7 +94,8 @@ impl<R: Files + Clone + Drop> DirStore<R> {
 fn read_whole<F: Read + Drop>(reader: F, limit: usize, into: &mut Vec<u8>) -> Fetch
     ensures kept { StartsWith into.new.items into.old.items }
     ensures within { result ≡ Fetch.Found → vec_len into.new ≤ vec_len into.old + limit }
-    ensures found { result ≡ Fetch.Found → IfSome (F.remaining reader) (λ bytes. into.new.items ≡ into.old.items ++ bytes) }
+    ensures found { result ≡ Fetch.Found → IfSome (F.remaining reader) (λ bytes. into.new.items ≡ into.old.items
+        ++ bytes) }
     ensures long { result ≡ Fetch.Long → IfSome (F.remaining reader) (λ bytes. limit < length bytes) }
     ensures open { result ≢ Fetch.Missing }
 {

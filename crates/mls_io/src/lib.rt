@@ -1,4 +1,5 @@
-//! Where texts come from, and where answers go: traits for both, and what reads and writes in memory, in a directory and on standard output.
+//! Where texts come from, and where answers go: traits for both, and what reads and writes in memory, in a directory
+//! and on standard output.
 #![tactic(auto)]
 
 mod count;

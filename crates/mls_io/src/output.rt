@@ -2,7 +2,7 @@
 ghost use Rattle.std.specs.Prelude.{◌≡◌, [], IsTrue};
 ghost use Rattle.std.specs.Io.KnownBytes.{Appends};
 ghost use Rattle.mls_io.specs.Counts.{no_count};
-ghost use Rattle.mls_io.specs.Output.{AppendsPart};
+ghost use Rattle.mls_io.specs.steps.Writing.{AppendsPart};
 
 use crate::count::Counter;
 use crate::sink::{Put, Sink};

@@ -21,7 +21,8 @@ pub enum Fetch {
 /// failed, were missing and were too long. No call changes the files, and no count falls.
 pub trait Store: Drop {
     ghost use Rattle.std.specs.Prelude.{◌≡◌};
-    ghost use Rattle.mls_io.specs.Stores.{Holdings, Follows, GivesFound, GivesMissing, GivesLong, GivesFailed, KeepsUnlessFound};
+    ghost use Rattle.mls_io.specs.Stores.{Holdings, Follows, GivesFound, GivesMissing, GivesLong, GivesFailed};
+    ghost use Rattle.mls_io.specs.Stores.{KeepsUnlessFound};
 
     /// The files, where they are told, and the counts.
     ghost holdings: { Self → Holdings };
@@ -34,7 +35,8 @@ pub trait Store: Drop {
     /// file of this name, save that Failed and Memory may stand in its place.
     fn fetch(&mut self, name: &str, limit: usize, into: &mut Vec<u8>) -> Fetch
         ensures follows { Follows (holdings self.old) (holdings self.new) }
-        ensures found { result ≡ Fetch.Found → GivesFound (holdings self.old) name.now limit into.old.items into.new.items }
+        ensures found { result ≡ Fetch.Found → GivesFound
+            (holdings self.old) name.now limit into.old.items into.new.items }
         ensures missing { GivesMissing (holdings self.old) (holdings self.new) name.now result }
         ensures long { result ≡ Fetch.Long → GivesLong (holdings self.old) (holdings self.new) name.now limit }
         ensures failed { result ≡ Fetch.Failed → GivesFailed (holdings self.old) (holdings self.new) }

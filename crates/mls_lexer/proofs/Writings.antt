@@ -75,7 +75,7 @@ pub HasTerminals-last : (bytes : List ℕ) (kind : Kind) → shape bytes ≡ Som
 HasTerminals-last bytes kind shaped value =
     subst (λ text. HasTerminals text (terminal_of kind bytes ∷ [])) (append-nil bytes) (HasTerminals-token bytes [] kind [] shaped value tt HasTerminals-nil)
 
--- the same for terminals as they are written
+-- a terminal as it is written, with a space behind it
 terminal_then_space : (x : Terminal) (rest : List ℕ) (xs : List Terminal) → IsTerminal x → HasTerminals rest xs → HasTerminals (spelled x ++ (32 ∷ rest)) (x ∷ xs)
 terminal_then_space x rest xs is h =
     let it = written_of x is in

@@ -2,7 +2,12 @@
 use Rattle.std.specs.Prelude.{ℕ, ◌≤◌, Bool, true, false, List, [], ◌∷◌, ◌++◌, codes, decimal, IsTrue}
 use Rattle.mls_base.specs.Spelling.{IsName}
 use Rattle.mls_lexer.specs.declared.token.Kind.{Kind}
-use Rattle.mls_lexer.specs.declared.token.Kind.TheVariants.{Name, Number, WordAnd, WordBool, WordBot, WordElse, WordFalse, WordFormat, WordFun, WordIf, WordImport, WordIn, WordInt, WordLet, WordRec, WordThen, WordTop, WordTrue, WordType, WordVal, Equals, DoubleEquals, Arrow, BraceLeft, BraceRight, ParenLeft, ParenRight, Comma, Dot, Colon, Plus, Minus, Star, Less, Bar, Amp}
+use Rattle.mls_lexer.specs.declared.token.Kind.TheVariants.{Name, Number, WordAnd, WordBool, WordBot, WordElse}
+use Rattle.mls_lexer.specs.declared.token.Kind.TheVariants.{WordFalse, WordFormat, WordFun, WordIf, WordImport, WordIn}
+use Rattle.mls_lexer.specs.declared.token.Kind.TheVariants.{WordInt, WordLet, WordRec, WordThen, WordTop, WordTrue}
+use Rattle.mls_lexer.specs.declared.token.Kind.TheVariants.{WordType, WordVal, Equals, DoubleEquals, Arrow, BraceLeft}
+use Rattle.mls_lexer.specs.declared.token.Kind.TheVariants.{BraceRight, ParenLeft, ParenRight, Comma, Dot, Colon, Plus}
+use Rattle.mls_lexer.specs.declared.token.Kind.TheVariants.{Minus, Star, Less, Bar, Amp}
 use Rattle.mls_lexer.specs.Tokens.{Terminal, name, number, word, largest_number}
 
 -- the kinds whose tokens have one spelling: all but names and numbers

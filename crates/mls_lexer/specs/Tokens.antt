@@ -1,12 +1,20 @@
 -- The tokens of a text, its first fault, and the places of its bytes.
-use Rattle.std.specs.Prelude.{◌≡◌, ℕ, ◌+◌, ◌-◌, ◌*◌, ◌<◌, ◌≤◌, Bool, true, false, not, ◌&&◌, ◌||◌, nat_le, ◌==◌, if◌then◌else◌, List, [], ◌∷◌, map, length, reverse, take, drop, slice_range, slice_index, slice_get, fold, find, take_while, count_by, codes, bytes_eq, Option, Some, None, unwrap_or, option_map, IsSome, IsTrue, IsFalse}
+use Rattle.std.specs.Prelude.{◌≡◌, ℕ, ◌+◌, ◌-◌, ◌*◌, ◌<◌, ◌≤◌, Bool, true, false, not, ◌&&◌, ◌||◌, nat_le, ◌==◌}
+use Rattle.std.specs.Prelude.{if◌then◌else◌, List, [], ◌∷◌, map, length, reverse, take, drop, slice_range, slice_index}
+use Rattle.std.specs.Prelude.{slice_get, fold, find, take_while, count_by, codes, bytes_eq, Option, Some, None}
+use Rattle.std.specs.Prelude.{unwrap_or, option_map, IsSome, IsTrue, IsFalse}
 use Rattle.std.specs.List.{list_all, zip}
 use Rattle.mls_base.specs.Spelling.{reserved_words, is_spelled}
 use Rattle.mls_lexer.specs.declared.token.Token.{Token}
 use Rattle.mls_lexer.specs.declared.token.LexFault.{LexFault}
 use Rattle.mls_lexer.specs.declared.token.LexFault.TheVariants.{BadByte, BigNumber}
 use Rattle.mls_lexer.specs.declared.token.Kind.{Kind}
-use Rattle.mls_lexer.specs.declared.token.Kind.TheVariants.{Name, Number, WordAnd, WordBool, WordBot, WordElse, WordFalse, WordFormat, WordFun, WordIf, WordImport, WordIn, WordInt, WordLet, WordRec, WordThen, WordTop, WordTrue, WordType, WordVal, Equals, DoubleEquals, Arrow, BraceLeft, BraceRight, ParenLeft, ParenRight, Comma, Dot, Colon, Plus, Minus, Star, Less, Bar, Amp}
+use Rattle.mls_lexer.specs.declared.token.Kind.TheVariants.{Name, Number, WordAnd, WordBool, WordBot, WordElse}
+use Rattle.mls_lexer.specs.declared.token.Kind.TheVariants.{WordFalse, WordFormat, WordFun, WordIf, WordImport, WordIn}
+use Rattle.mls_lexer.specs.declared.token.Kind.TheVariants.{WordInt, WordLet, WordRec, WordThen, WordTop, WordTrue}
+use Rattle.mls_lexer.specs.declared.token.Kind.TheVariants.{WordType, WordVal, Equals, DoubleEquals, Arrow, BraceLeft}
+use Rattle.mls_lexer.specs.declared.token.Kind.TheVariants.{BraceRight, ParenLeft, ParenRight, Comma, Dot, Colon, Plus}
+use Rattle.mls_lexer.specs.declared.token.Kind.TheVariants.{Minus, Star, Less, Bar, Amp}
 
 -- a space, a tab, a newline or a carriage return
 abbrev pub is_space : ℕ → Bool
@@ -45,14 +53,18 @@ reserved_kinds =
 
 -- the kind of a reserved word, and of any other word the kind of a name
 unfoldable pub word_kind : List ℕ → Kind
-word_kind bytes = unwrap_or (option_map (λ word. word.1) (find (λ word. bytes_eq bytes word.0) (zip reserved_words reserved_kinds))) Name
+word_kind bytes =
+    unwrap_or (option_map (λ word. word.1) (find (λ word. bytes_eq bytes word.0) (zip reserved_words reserved_kinds)))
+    Name
 
 -- the symbols with their kinds
 abbrev pub symbols : List (List ℕ × Kind)
 symbols =
-    (codes "=", Equals) ∷ (codes "==", DoubleEquals) ∷ (codes "->", Arrow) ∷ (codes "{", BraceLeft) ∷ (codes "}", BraceRight)
+    (codes "=", Equals) ∷ (codes "==", DoubleEquals) ∷ (codes "->", Arrow) ∷ (codes "{", BraceLeft)
+    ∷ (codes "}", BraceRight)
     ∷ (codes "(", ParenLeft) ∷ (codes ")", ParenRight) ∷ (codes ",", Comma) ∷ (codes ".", Dot) ∷ (codes ":", Colon)
-    ∷ (codes "+", Plus) ∷ (codes "-", Minus) ∷ (codes "*", Star) ∷ (codes "<", Less) ∷ (codes "|", Bar) ∷ (codes "&", Amp) ∷ []
+    ∷ (codes "+", Plus) ∷ (codes "-", Minus) ∷ (codes "*", Star) ∷ (codes "<", Less) ∷ (codes "|", Bar)
+    ∷ (codes "&", Amp) ∷ []
 
 -- the kind of a symbol
 unfoldable pub symbol_kind : List ℕ → Option Kind
@@ -65,7 +77,8 @@ is_number (first ∷ rest) = list_all is_digit (first ∷ rest)
 
 -- the kind of these bytes as one token, whatever a number's value; none where they are no token
 abbrev pub shape : List ℕ → Option Kind
-shape bytes = if is_spelled bytes then Some (word_kind bytes) else (if is_number bytes then Some Number else symbol_kind bytes)
+shape bytes =
+    if is_spelled bytes then Some (word_kind bytes) else (if is_number bytes then Some Number else symbol_kind bytes)
 
 -- the value of digits, the first of which counts most
 abbrev pub digits_value : List ℕ → ℕ
@@ -77,7 +90,8 @@ largest_number = 9223372036854775807
 
 -- no longer piece of the text from `start` on than the one up to `end` is a token
 abbrev pub IsLongest : List ℕ → ℕ → ℕ → Type 0
-IsLongest text start end = (further : ℕ) → end < further → further ≤ length text → shape (slice_range text start further) ≡ None
+IsLongest text start end =
+    (further : ℕ) → end < further → further ≤ length text → shape (slice_range text start further) ≡ None
 
 -- a token of a text, which is the longest from its place
 pub record IsToken (text : List ℕ) (token : Token) : Type 0 where
@@ -90,7 +104,8 @@ pub record IsToken (text : List ℕ) (token : Token) : Type 0 where
 abbrev pub Follow : List ℕ → ℕ → List Token → (ℕ → Type 0) → Type 0
 Follow text place [] Rest = Rest place
 Follow text place (token ∷ tokens) Rest =
-    (place ≤ token.start) × IsGap (slice_range text place token.start) × IsToken text token × Follow text token.end tokens Rest
+    (place ≤ token.start) × IsGap (slice_range text place token.start) × IsToken text token
+    × Follow text token.end tokens Rest
 
 -- these are the tokens of the text
 abbrev pub IsTokens : List ℕ → List Token → Type 0
@@ -98,7 +113,8 @@ IsTokens text tokens = Follow text 0 tokens (λ place. IsLastGap (drop place tex
 
 -- after these tokens and separators comes the byte with this number
 abbrev pub Reaches : List ℕ → List Token → ℕ → Type 0
-Reaches text tokens at = Follow text 0 tokens (λ place. (place ≤ at) × (at < length text) × IsGap (slice_range text place at))
+Reaches text tokens at =
+    Follow text 0 tokens (λ place. (place ≤ at) × (at < length text) × IsGap (slice_range text place at))
 
 -- this is the first fault of the text: what stands before it are tokens and separators
 pub data HasTokenFault (text : List ℕ) : LexFault → Type 0 where

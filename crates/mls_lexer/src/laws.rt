@@ -1,5 +1,6 @@
 //! Laws of tokens, each the contract of a function that does nothing.
-ghost use Rattle.mls_lexer.specs.Laws.{OneReading, NoFaultBesideTokens, OneFirstFault, TokensOrFault, TokensAreTerminals, WrittenIsRead};
+ghost use Rattle.mls_lexer.specs.Laws.{OneReading, NoFaultBesideTokens, OneFirstFault, TokensOrFault};
+ghost use Rattle.mls_lexer.specs.Laws.{TokensAreTerminals, WrittenIsRead};
 
 /// A text has one list of tokens.
 pub fn one_reading()

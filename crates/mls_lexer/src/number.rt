@@ -20,7 +20,8 @@ pub fn number_of(text: &[u8], token: &Token) -> u64
 // The value of digits, if it is at most 9223372036854775807.
 pub(crate) fn value_of(digits: &[u8]) -> Option<u64>
     requires { IsTrue (list_all is_digit digits.now) }
-    ensures { MatchOption result (largest_number < digits_value digits.now) (λ value. (value ≡ digits_value digits.now) × (value ≤ largest_number)) }
+    ensures { MatchOption result (largest_number < digits_value digits.now) (λ value. (value ≡ digits_value digits.now)
+        × (value ≤ largest_number)) }
 {
     let mut value = 0;
     for byte in digits {

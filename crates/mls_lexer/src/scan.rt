@@ -1,7 +1,9 @@
 //! From a text to its tokens.
-ghost use Rattle.std.specs.Prelude.{◌≡◌, ◌≢◌, ◌<◌, ◌≤◌, ◌+◌, length, drop, slice_range, slice_index, take_while, All, IfOk, IfErr, MatchOption, IsTrue, IsFalse};
+ghost use Rattle.std.specs.Prelude.{◌≡◌, ◌≢◌, ◌<◌, ◌≤◌, ◌+◌, length, drop, slice_range, slice_index, take_while, All};
+ghost use Rattle.std.specs.Prelude.{IfOk, IfErr, MatchOption, IsTrue, IsFalse};
 ghost use Rattle.mls_base.specs.Spelling.{is_lower, is_name_byte};
-ghost use Rattle.mls_lexer.specs.Tokens.{is_space, is_digit, word_kind, symbol_kind, shape, digits_value, largest_number, IsLongest, IsLastGap, IsTokens, IsToken, HasTokenFault};
+ghost use Rattle.mls_lexer.specs.Tokens.{is_space, is_digit, word_kind, symbol_kind, shape, digits_value};
+ghost use Rattle.mls_lexer.specs.Tokens.{largest_number, IsLongest, IsLastGap, IsTokens, IsToken, HasTokenFault};
 ghost use Rattle.mls_lexer.specs.steps.Scanning.{ComesNext, StandsAt};
 
 use crate::kinds::{one_byte_symbol, two_byte_symbol, word_kind};
@@ -15,7 +17,8 @@ use std::alloc::Global;
 pub fn tokens(alloc: Global, text: &[u8]) -> Result<Vec<Token>, LexFault>
     ensures found { IfOk result (λ tokens. IsTokens text.now tokens.items) }
     ensures each { IfOk result (λ tokens. All (IsToken text.now) tokens.items) }
-    ensures places { IfOk result (λ tokens. All (λ token. (token.start < token.end) × (token.end ≤ length text.now)) tokens.items) }
+    ensures places { IfOk result (λ tokens. All (λ token. (token.start < token.end)
+        × (token.end ≤ length text.now)) tokens.items) }
     ensures count { IfOk result (λ tokens. length tokens.items ≤ length text.now) }
     ensures fault { IfErr result (λ fault. fault ≢ LexFault.Memory → HasTokenFault text.now fault) }
 {
@@ -102,7 +105,8 @@ fn symbol_at(text: &[u8], start: usize) -> Option<Token>
     requires in_text { start < length text.now }
     requires no_letter { IsFalse (is_lower (slice_index text.now start)) }
     requires no_digit { IsFalse (is_digit (slice_index text.now start)) }
-    ensures { MatchOption result (IsLongest text.now start start) (λ token. (token.start ≡ start) × IsToken text.now token) }
+    ensures { MatchOption result (IsLongest text.now start start) (λ token. (token.start ≡ start)
+        × IsToken text.now token) }
 {
     if start + 1 < text.len() {
         if let Some(kind) = two_byte_symbol(text[start], text[start + 1]) {

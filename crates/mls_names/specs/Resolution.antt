@@ -1,5 +1,6 @@
 -- What the names of a module mean.
-use Rattle.std.specs.Prelude.{◌≡◌, ℕ, suc, ◌+◌, ◌<◌, List, [], ◌∷◌, ◌++◌, map, length, sum_by, find, bytes_eq, if◌then◌else◌, Bool, Option, Some, option_map}
+use Rattle.std.specs.Prelude.{◌≡◌, ℕ, suc, ◌+◌, ◌<◌, List, [], ◌∷◌, ◌++◌, map, length, sum_by, find, bytes_eq}
+use Rattle.std.specs.Prelude.{if◌then◌else◌, Bool, Option, Some, option_map}
 use Rattle.std.specs.List.{list_any}
 use Rattle.mls_grammar.specs.declared.module.Module.{Module}
 use Rattle.mls_grammar.specs.declared.module.Op.{Op}
@@ -8,9 +9,11 @@ use Rattle.mls_term.specs.declared.term.Resolved.{Resolved}
 use Rattle.mls_term.specs.declared.term.ResolvedBinding.{ResolvedBinding}
 use Rattle.mls_grammar.specs.declared.fault.Fault.{Fault}
 use Rattle.mls_grammar.specs.declared.fault.Fault.TheVariants.{UnknownName}
-use Rattle.mls_grammar.specs.Trees.{Tree, a_name, an_operator, a_number, a_truth, a_fun, a_fix, a_let, an_if, an_apply, a_make, a_project, Fields, no_field, a_field, BindingTree, SourceTree}
+use Rattle.mls_grammar.specs.Trees.{Tree, a_name, an_operator, a_number, a_truth, a_fun, a_fix, a_let, an_if, an_apply}
+use Rattle.mls_grammar.specs.Trees.{a_make, a_project, Fields, no_field, a_field, BindingTree, SourceTree}
 use Rattle.mls_grammar.specs.Modules.{module_of}
-use Rattle.mls_term.specs.Terms.{TermTree, TermFields, bound, inner, global, number, truth, fun, apply, make, project, choice, local, fix, postorder}
+use Rattle.mls_term.specs.Terms.{TermTree, TermFields, bound, inner, global, number, truth, fun, apply, make, project}
+use Rattle.mls_term.specs.Terms.{choice, local, fix, postorder}
 use Rattle.mls_term.specs.Terms as term
 
 -- what a name can mean: a binder number, a let number, or a scheme of the environment
@@ -86,8 +89,10 @@ abbrev mutual
   Means scope b l (an_operator at o) t = t ≡ global at (operator_number o)
   Means scope b l (a_number at value) t = t ≡ number at value
   Means scope b l (a_truth at value) t = t ≡ truth at value
-  Means scope b l (a_fun at x e) t = (body : TermTree) × Means ((x, binder b) ∷ scope) (suc b) l e body × (t ≡ fun at b body)
-  Means scope b l (a_fix at x e) t = (body : TermTree) × Means ((x, binder b) ∷ scope) (suc b) l e body × (t ≡ fix at b body)
+  Means scope b l (a_fun at x e) t =
+      (body : TermTree) × Means ((x, binder b) ∷ scope) (suc b) l e body × (t ≡ fun at b body)
+  Means scope b l (a_fix at x e) t =
+      (body : TermTree) × Means ((x, binder b) ∷ scope) (suc b) l e body × (t ≡ fix at b body)
   Means scope b l (a_let at x e f) t =
       (first second : TermTree)
       × Means scope b (suc l) e first
@@ -120,7 +125,8 @@ abbrev pub schemes_from : ℕ → List (List ℕ) → Scope
 schemes_from g [] = []
 schemes_from g (x ∷ xs) = (x, scheme g) ∷ schemes_from (suc g) xs
 
--- what the imports declare, the latest import first; the environment has their schemes in the order of the imports, from number g on
+-- what the imports declare, the latest import first; the environment has their schemes in the order of the imports,
+-- from number g on
 abbrev pub declared_from : ℕ → List (List (List ℕ)) → Scope
 declared_from g [] = []
 declared_from g (names ∷ rest) = declared_from (g + length names) rest ++ schemes_from g names
@@ -145,7 +151,8 @@ pub record IsTermOf (scope : Scope) (b : BindingTree) (r : ResolvedBinding) : Ty
   pub lets : r.term.lets ≡ lets b.body
 
 -- each binding has its term, where the names of these bindings are in scope
-abbrev pub AreTermsOf : List (List (List ℕ)) → (earlier : List (List ℕ)) → List BindingTree → List ResolvedBinding → Type 0
+abbrev pub AreTermsOf : List (List (List ℕ)) → (earlier : List (List ℕ)) → List BindingTree → List ResolvedBinding
+    → Type 0
 AreTermsOf declared earlier [] rs = rs ≡ []
 AreTermsOf declared earlier (b ∷ bs) rs =
     (first : ResolvedBinding) × (rest : List ResolvedBinding)
@@ -167,8 +174,8 @@ names_of scope = map (λ entry. entry.0) scope
 abbrev pub is_known : List (List ℕ) → List ℕ → Bool
 is_known known x = list_any (λ y. bytes_eq y x) known
 
--- the places of the names of a tree that have no meaning, in the order of the text, where these names have one around the tree:
--- a function and a recursion give their name a meaning in their bodies, and a let in its second part alone
+-- the places of the names of a tree that have no meaning, in the order of the text, where these names have one around
+-- the tree: a function and a recursion give their name a meaning in their bodies, and a let in its second part alone
 abbrev mutual
   pub unknowns : List (List ℕ) → Tree → List ℕ
   unknowns known (a_name at x) = if is_known known x then [] else at ∷ []
@@ -190,7 +197,8 @@ abbrev mutual
 -- the same of bindings, where the names of these earlier bindings are in scope
 abbrev pub unknown_names : List (List (List ℕ)) → (earlier : List (List ℕ)) → List BindingTree → List ℕ
 unknown_names declared earlier [] = []
-unknown_names declared earlier (b ∷ bs) = unknowns (names_of (scope_after declared earlier)) b.body ++ unknown_names declared (earlier ++ b.x ∷ []) bs
+unknown_names declared earlier (b ∷ bs) =
+    unknowns (names_of (scope_after declared earlier)) b.body ++ unknown_names declared (earlier ++ b.x ∷ []) bs
 
 -- the fault is the first name of the module that has no meaning, where the imports declare these names
 pub record HasUnknownName (m : Module) (declared : List (List (List ℕ))) (fault : Fault) : Type 0 where
@@ -201,7 +209,8 @@ pub record HasUnknownName (m : Module) (declared : List (List (List ℕ))) (faul
   pub first : unknown_names declared [] tree.bound ≡ place ∷ later
   pub fault_is : fault ≡ UnknownName place
 
--- functions around a use of a binder, a number or a truth value; the functions bind the numbers from b on, from outside in
+-- functions around a use of a binder, a number or a truth value; the functions bind the numbers from b on, from outside
+-- in
 abbrev pub IsChain : ℕ → TermTree → Type 0
 IsChain b (fun at x e) = (x ≡ b) × IsChain (suc b) e
 IsChain b (bound at x) = x < b

@@ -1,5 +1,6 @@
 -- The forms of terms that are not built yet.
-use Rattle.std.specs.Prelude.{◌≡◌, ℕ, ◌≤◌, Bool, true, false, not, IsTrue, List, [], ◌∷◌, ◌++◌, map, filter, All, Contains, Option, Some, None}
+use Rattle.std.specs.Prelude.{◌≡◌, ℕ, ◌≤◌, Bool, true, false, not, IsTrue, List, [], ◌∷◌, ◌++◌, map, filter, All}
+use Rattle.std.specs.Prelude.{Contains, Option, Some, None}
 use Rattle.std.specs.List.{flat_map}
 use Rattle.mls_term.specs.declared.term.Resolved.{Resolved}
 use Rattle.mls_term.specs.declared.term.ResolvedBinding.{ResolvedBinding}

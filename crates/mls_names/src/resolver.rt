@@ -1,12 +1,16 @@
 //! The reader of expressions that knows what their names mean.
-ghost use Rattle.std.specs.Prelude.{◌≡◌, ◌≢◌, ℕ, ◌+◌, ◌++◌, ◌∷◌, ◌<◌, ◌^◌, [], List, IfOk, IfErr, OnOk, All, length, option_map, bytes_eq};
+ghost use Rattle.std.specs.Prelude.{◌≡◌, ◌≢◌, ℕ, ◌+◌, ◌++◌, ◌∷◌, ◌<◌, ◌^◌, [], List, IfOk, IfErr, OnOk, All, length};
+ghost use Rattle.std.specs.Prelude.{option_map, bytes_eq};
 ghost use Rattle.indexmap.specs.IndexMap.{get};
 ghost use Rattle.mls_grammar.specs.Modules.{AreDistinct};
-ghost use Rattle.mls_names.specs.Resolution.{Scope, scheme, schemes_from, declared_from, declared_count, operator_number, meant_by};
+ghost use Rattle.mls_names.specs.Resolution.{Scope, scheme, schemes_from, declared_from, declared_count};
+ghost use Rattle.mls_names.specs.Resolution.{operator_number, meant_by};
 ghost use Rattle.mls_names.specs.steps.Counts.{AreCounts};
 ghost use Rattle.mls_names.specs.steps.Meanings.{IsExpression};
-ghost use Rattle.mls_names.specs.steps.Walks.{after, next_numbers, form_in, HasPartsBelow, IsWithin, IsCountBelow, HasWithin, Knows, IsReady, IsIdle, use_form, meant_of};
-ghost use Rattle.mls_names.specs.steps.Walks.{Pushes, Binds, Enters, Takes, EntersBinder, EntersLet, EntersFields, Restores, ReadsNode, ReadsNodes, HasTerm, HasUnknown};
+ghost use Rattle.mls_names.specs.steps.Walks.{after, next_numbers, form_in, HasPartsBelow, IsWithin, IsCountBelow};
+ghost use Rattle.mls_names.specs.steps.Walks.{HasWithin, Knows, IsReady, IsIdle, use_form, meant_of};
+ghost use Rattle.mls_names.specs.steps.Walks.{Pushes, Binds, Enters, Takes, EntersBinder, EntersLet, EntersFields};
+ghost use Rattle.mls_names.specs.steps.Walks.{Restores, ReadsNode, ReadsNodes, HasTerm, HasUnknown};
 
 use crate::counts::{Count, counts};
 use crate::resolve::NameList;
@@ -77,7 +81,8 @@ impl Resolver {
     fn declare_all(&mut self, names: &[Name], first: usize) -> Result<usize, Memory>
         requires { AreDistinct names.now }
         ensures next { IfOk result (λ next. next ≡ first + length names.now) }
-        ensures ready { OnOk result ((scope : Scope) → IsReady self.old scope → IsReady self.new (schemes_from first names.now ++ scope)) }
+        ensures ready { OnOk result ((scope : Scope) → IsReady self.old scope
+            → IsReady self.new (schemes_from first names.now ++ scope)) }
     {
         let mut schemes = first;
         for name in names {
@@ -89,7 +94,8 @@ impl Resolver {
     // Gives a name the scheme of this number, and says which is the next one.
     pub fn declare(&mut self, name: &Name, number: usize) -> Result<usize, Memory>
         ensures next { IfOk result (λ next. next ≡ number + 1) }
-        ensures ready { OnOk result ((scope : Scope) → IsReady self.old scope → IsReady self.new ((name.now, scheme number) ∷ scope)) }
+        ensures ready { OnOk result ((scope : Scope) → IsReady self.old scope
+            → IsReady self.new ((name.now, scheme number) ∷ scope)) }
     {
         self.meanings
             .insert(name.clone()?, Meaning::Scheme(number))?;
@@ -177,7 +183,8 @@ impl Resolver {
         requires room { length counts.now < 2 ^ 62 }
         requires parts { HasPartsBelow (length counts.now) node.now.form }
         requires within { HasWithin (length counts.now) self.old }
-        ensures { IfOk result (λ first. ReadsNode counts.now node.now self.old self.new terms.old terms.new unknown first) }
+        ensures { IfOk result (λ first. ReadsNode counts.now node.now self.old self.new terms.old terms.new unknown
+            first) }
     {
         let Some(stretch) = self.next_stretch()? else {
             return Ok(unknown);
@@ -228,7 +235,8 @@ impl Resolver {
     // What a node becomes, where the next binder and the next let have these numbers; a name that means nothing becomes
     // nothing.
     fn form(&self, next: Count, form: &Form) -> Result<Option<TermForm>, Memory>
-        ensures { IfOk result (λ became. (scope : Scope) → Knows self.now scope → became ≡ form_in scope next form.now) }
+        ensures { IfOk result (λ became. (scope : Scope) → Knows self.now scope
+            → became ≡ form_in scope next form.now) }
     {
         Ok(Some(match form {
             Form::Var(name) => return Ok(self.use_of(name)),

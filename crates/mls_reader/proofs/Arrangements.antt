@@ -47,7 +47,7 @@ leaves-tell {p} {row} {out} {back} behind = record {
       ∙ sym (reverse-both (p ∷ []) back (arrangement (row ++ st) rest)));
 }
 
--- the same for equal pieces
+-- pieces that are equal leave equal lists
 leaves-same : {out out' back back' : List Piece} → out ≡ out' → back ≡ back' → Leaves [] out' back' → Leaves [] out back
 leaves-same {out} {out'} {back} {back'} e f there = record {
   turns = λ st rest.

@@ -40,7 +40,7 @@ makes-parts {n} {out} {nodes} {k} {roots} e it = record {
 makes-nothing : (n : ℕ) → Makes n [] [] 0 [] []
 makes-nothing n = record { count = refl; turns = λ s rest e. ap (λ l. linked (record s { nodes = l }) rest) (sym (append-nil s.nodes)) }
 
--- the same for equal pieces
+-- pieces that are equal make equal nodes
 makes-same : {n : ℕ} {out out' : List Piece} {nodes : List ExprNode} {k : ℕ} {roots : List ℕ} {records : List (List Part)} → out ≡ out' → Makes n out' nodes k roots records → Makes n out nodes k roots records
 makes-same e it = record { count = it.count; turns = λ s rest h. ap (λ l. linked s (l ++ rest)) e ∙ it.turns s rest h }
 

@@ -59,7 +59,9 @@ struct Given {
 impl Given {
     // Takes what is given next, and tells the fault if it was given before.
     fn take(&mut self, alloc: Global, event: Event) -> Result<Option<Fault>, Memory>
-        ensures { IfOk result (λ fault. (rest : List Next) → doubles_in self.old.imports self.old.bindings (reverse self.old.records.items) (event ∷ rest) ≡ fault_before fault (doubles_in self.new.imports self.new.bindings (reverse self.new.records.items) rest)) }
+        ensures { IfOk result (λ fault. (rest : List Next)
+            → doubles_in self.old.imports self.old.bindings (reverse self.old.records.items) (event ∷ rest)
+            ≡ fault_before fault (doubles_in self.new.imports self.new.bindings (reverse self.new.records.items) rest)) }
     {
         match event {
             Event::Import(at, name) => {

@@ -1,7 +1,8 @@
 //! From the pieces that tell a module to the module, with the nodes of each binding in order.
 ghost use Rattle.std.specs.Prelude.{◌≡◌, ◌∷◌, ◌++◌, [], reverse, IfOk, OnOk};
 ghost use Rattle.mls_reader.specs.steps.Arranging.{node_piece, fronts, told, left, part_count, parts, arrangement};
-ghost use Rattle.mls_reader.specs.steps.Linking.{grown, root_of, without_root, parts_of, without_parts, with_record, joined, linked, link_start, module_linked};
+ghost use Rattle.mls_reader.specs.steps.Linking.{grown, root_of, without_root, parts_of, without_parts, with_record};
+ghost use Rattle.mls_reader.specs.steps.Linking.{joined, linked, link_start, module_linked};
 ghost use Rattle.mls_grammar.specs.Modules.{module_of};
 ghost use Rattle.mls_reader.specs.steps.Told.{TellsSource};
 ghost use Rattle.mls_grammar.specs.Trees.{SourceTree};

@@ -1,6 +1,6 @@
--- The rules of typing: which schemes an expression has. The rules are those of Dolan and Mycroft, Polymorphism, Subtyping, and Type
--- Inference in MLsub, 2017, in their reformulated form, where a scheme carries the types of the binders that it needs. The literals
--- of numbers and the rule of recursion are this project's own.
+-- The rules of typing: which schemes an expression has. The rules are those of Dolan and Mycroft, Polymorphism,
+-- Subtyping, and Type Inference in MLsub, 2017, in their reformulated form, where a scheme carries the types of the
+-- binders that it needs. The literals of numbers and the rule of recursion are this project's own.
 use Rattle.std.specs.Prelude.{◌≡◌, ◌⊎◌, ◌↔◌, ℕ, Bool, List, [], ◌∷◌, slice_get, Contains, IsSome, Option, Some, None}
 use Rattle.std.specs.FinMap as env
 use Rattle.std.specs.FinMap.{FinMap}
@@ -11,7 +11,8 @@ use Rattle.mls_book.specs.declared.book.Node.{Node}
 use Rattle.mls_book.specs.declared.book.Node.TheVariants as node
 use Rattle.mls_book.specs.Books.{node_at, field_at}
 use Rattle.mls_book.specs.Schemes.{Env, Scheme, IsScheme, Subsumes}
-use Rattle.mls_term.specs.Terms.{TermTree, TermFields, bound, inner, global, number, truth, fun, apply, make, project, choice, local, fix, no_field, a_field}
+use Rattle.mls_term.specs.Terms.{TermTree, TermFields, bound, inner, global, number, truth, fun, apply, make, project}
+use Rattle.mls_term.specs.Terms.{choice, local, fix, no_field, a_field}
 
 -- the schemes of the names that are in scope: those of the environment by number, and those of the let numbers
 pub record Known : Type 0 where
@@ -30,11 +31,13 @@ over s d root = record { book = s.book; env = d; root = root }
 abbrev pub Takes : List Node → Env → ℕ → NodeId → Type 0
 Takes book d x i = (env.get d x ≡ Some i.0) ⊎ ((env.get d x ≡ None) × (node_at book i.0 ≡ node.Top))
 
--- what the meet of two environments has for a binder: a meet node of both, in this order, or the node of the one that has it
+-- what the meet of two environments has for a binder: a meet node of both, in this order, or the node of the one that
+-- has it
 abbrev pub IsMeetAt : List Node → Option ℕ → Option ℕ → Option ℕ → Type 0
 IsMeetAt book None right both = both ≡ right
 IsMeetAt book (Some i) None both = both ≡ Some i
-IsMeetAt book (Some i) (Some j) both = (n : ℕ) × (both ≡ Some n) × (node_at book n ≡ node.Meet (record { 0 = i }) (record { 0 = j }))
+IsMeetAt book (Some i) (Some j) both =
+    (n : ℕ) × (both ≡ Some n) × (node_at book n ≡ node.Meet (record { 0 = i }) (record { 0 = j }))
 
 abbrev pub IsMeet : List Node → Env → Env → Env → Type 0
 IsMeet book left right both = (x : ℕ) → IsMeetAt book (env.get left x) (env.get right x) (env.get both x)
@@ -48,8 +51,8 @@ labels_of (a_field label e rest) = label ∷ labels_of rest
 abbrev pub HaveLabels : TermFields → List Field → Type 0
 HaveLabels parts fields = (label : List ℕ) → IsSome (field_at label fields) ↔ Contains (labels_of parts) label
 
--- The expression has the scheme: a tree of rules. Apart from `sub` the premises and the conclusion of a rule stand over one closed book,
--- and apart from `sub` and `let_in` in one environment; equality of types is equality of node numbers.
+-- The expression has the scheme: a tree of rules. Apart from `sub` the premises and the conclusion of a rule stand over
+-- one closed book, and apart from `sub` and `let_in` in one environment; equality of types is equality of node numbers.
 mutual
   pub data Derives : Known → TermTree → Scheme → Type 0 where
     -- a let-bound name has its scheme
@@ -71,9 +74,11 @@ mutual
     lit_number : {known : Known} {t : TermTree} {s : Scheme} (at value : ℕ)
         → t ≡ number at value → IsScheme s → s.env ≡ env.empty → node_at s.book s.root ≡ node.Int
         → Derives known t s
-    -- a function goes from the type that its body needs of the binder, or from `top` if it needs none, to the type of the body
+    -- a function goes from the type that its body needs of the binder, or from `top` if it needs none, to the type of
+    -- the body
     abs : {known : Known} {t : TermTree} {s : Scheme} (at x : ℕ) (body : TermTree) (d : Env) (i j : NodeId)
-        → t ≡ fun at x body → IsScheme s → s.env ≡ env.remove d x → Takes s.book d x i → node_at s.book s.root ≡ node.Arrow i j
+        → t ≡ fun at x body → IsScheme s → s.env ≡ env.remove d x → Takes s.book d x i
+        → node_at s.book s.root ≡ node.Arrow i j
         → Derives known body (over s d j.0)
         → Derives known t s
     -- an application has the codomain of the function, whose domain is the type of the argument
@@ -88,7 +93,8 @@ mutual
         → AllDerive known parts s fields
         → Derives known t s
     -- a projection has the type of the field
-    proj : {known : Known} {t : TermTree} {s : Scheme} (at : ℕ) (body : TermTree) (label : List ℕ) (i : ℕ) (field : Field)
+    proj : {known : Known} {t : TermTree} {s : Scheme} (at : ℕ) (body : TermTree) (label : List ℕ) (i : ℕ)
+        (field : Field)
         → t ≡ project at body label → IsScheme s
         → node_at s.book i ≡ node.Rcd (field ∷ []) → field.label ≡ label → field.node.0 ≡ s.root
         → Derives known body (over s s.env i)
@@ -115,8 +121,10 @@ mutual
 
   -- each part of a record has the type of the field of its label
   pub data AllDerive : Known → TermFields → Scheme → List Field → Type 0 where
-    none : {known : Known} {parts : TermFields} {s : Scheme} {fields : List Field} → parts ≡ no_field → AllDerive known parts s fields
-    more : {known : Known} {parts : TermFields} {s : Scheme} {fields : List Field} (label : List ℕ) (body : TermTree) (rest : TermFields) (i : NodeId)
+    none : {known : Known} {parts : TermFields} {s : Scheme} {fields : List Field} → parts ≡ no_field
+        → AllDerive known parts s fields
+    more : {known : Known} {parts : TermFields} {s : Scheme} {fields : List Field} (label : List ℕ) (body : TermTree)
+        (rest : TermFields) (i : NodeId)
         → parts ≡ a_field label body rest → field_at label fields ≡ Some i
         → Derives known body (over s s.env i.0)
         → AllDerive known rest s fields

@@ -4,7 +4,8 @@ use Rattle.mls_term.specs.declared.term.Part.{Part}
 use Rattle.mls_term.specs.declared.term.TermNode.{TermNode}
 use Rattle.mls_term.specs.declared.term.TermForm.TheVariants as form
 
--- an expression whose binders and lets have numbers, and whose names are replaced by what they mean, each part with its place
+-- an expression whose binders and lets have numbers, and whose names are replaced by what they mean, each part with its
+-- place
 mutual
   pub data TermTree : Type 0 where
     bound : (at x : ℕ) → TermTree
@@ -49,7 +50,8 @@ unfoldable mutual
 -- the label of each part of a record and the number of its root, where the first node has the number n
 unfoldable pub field_roots : ℕ → TermFields → List Part
 field_roots n no_field = []
-field_roots n (a_field label e rest) = record { label = label; child = n + before e } ∷ field_roots (n + suc (before e)) rest
+field_roots n (a_field label e rest) =
+    record { label = label; child = n + before e } ∷ field_roots (n + suc (before e)) rest
 
 -- the nodes of a tree in postorder, children in the order of the text, where the first node has the number n
 unfoldable mutual
@@ -63,12 +65,14 @@ unfoldable mutual
   postorder n (apply at f a) =
       let m = n + suc (before f) in
       postorder n f ++ postorder m a ++ record { at = at; form = form.Apply (n + before f) (m + before a) } ∷ []
-  postorder n (make at fields) = field_postorder n fields ++ record { at = at; form = form.Make (field_roots n fields) } ∷ []
+  postorder n (make at fields) =
+      field_postorder n fields ++ record { at = at; form = form.Make (field_roots n fields) } ∷ []
   postorder n (project at e label) = postorder n e ++ record { at = at; form = form.Project (n + before e) label } ∷ []
   postorder n (choice at c e f) =
       let m = n + suc (before c) in
       let l = m + suc (before e) in
-      postorder n c ++ postorder m e ++ postorder l f ++ record { at = at; form = form.If (n + before c) (m + before e) (l + before f) } ∷ []
+      postorder n c ++ postorder m e ++ postorder l f
+      ++ record { at = at; form = form.If (n + before c) (m + before e) (l + before f) } ∷ []
   postorder n (local at k e f) =
       let m = n + suc (before e) in
       postorder n e ++ postorder m f ++ record { at = at; form = form.Let k (n + before e) (m + before f) } ∷ []

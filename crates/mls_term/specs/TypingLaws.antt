@@ -12,12 +12,15 @@ pub record AreSchemes (known : Known) : Type 0 where
 
 -- each scheme that the second knows is subsumed by one that the first knows under the same number
 pub record IsMoreGeneral (first second : Known) : Type 0 where
-  pub globals : (g : ℕ) (s : Scheme) → slice_get second.globals g ≡ Some s → (u : Scheme) × (slice_get first.globals g ≡ Some u) × Subsumes u s
-  pub lets : (k : ℕ) (s : Scheme) → env.get second.lets k ≡ Some s → (u : Scheme) × (env.get first.lets k ≡ Some u) × Subsumes u s
+  pub globals : (g : ℕ) (s : Scheme) → slice_get second.globals g ≡ Some s → (u : Scheme)
+      × (slice_get first.globals g ≡ Some u) × Subsumes u s
+  pub lets : (k : ℕ) (s : Scheme) → env.get second.lets k ≡ Some s → (u : Scheme) × (env.get first.lets k ≡ Some u)
+      × Subsumes u s
 
 -- every instance of a derivable scheme is derivable
 abbrev pub InstancesDerive : Type 0
-InstancesDerive = (known : Known) (t : TermTree) (s u : Scheme) → Derives known t s → Subsumes s u → IsScheme u → Derives known t u
+InstancesDerive =
+    (known : Known) (t : TermTree) (s u : Scheme) → Derives known t s → Subsumes s u → IsScheme u → Derives known t u
 
 -- a more general environment derives everything that a more special one does
 abbrev pub MoreGeneralDerives : Type 0
@@ -27,7 +30,8 @@ MoreGeneralDerives =
 
 -- best schemes of one expression are equivalent
 abbrev pub BestAreEquivalent : Type 0
-BestAreEquivalent = (known : Known) (t : TermTree) (s u : Scheme) → IsBest known t s → IsBest known t u → AreEquivalent s u
+BestAreEquivalent =
+    (known : Known) (t : TermTree) (s u : Scheme) → IsBest known t s → IsBest known t u → AreEquivalent s u
 
 -- and they are best in every environment that is as general
 abbrev pub BestStays : Type 0

@@ -4,7 +4,8 @@ use Rattle.std.specs.List.{AllPairs}
 use Rattle.std.specs.FinMap as env
 use Rattle.mls_book.specs.Schemes.{Scheme}
 use Rattle.mls_term.specs.declared.term.TermNode.{TermNode}
-use Rattle.mls_term.specs.Terms.{TermTree, TermFields, bound, inner, global, number, truth, fun, apply, make, project, choice, local, fix, no_field, a_field, before, postorder}
+use Rattle.mls_term.specs.Terms.{TermTree, TermFields, bound, inner, global, number, truth, fun, apply, make, project}
+use Rattle.mls_term.specs.Terms.{choice, local, fix, no_field, a_field, before, postorder}
 use Rattle.mls_term.specs.Derivations.{Known, with_let, labels_of, IsBest, HasNone}
 
 -- the numbers of the functions and recursions of a tree
@@ -47,8 +48,9 @@ abbrev mutual
   field_lets_of no_field = []
   field_lets_of (a_field label e rest) = lets_of e ++ field_lets_of rest
 
--- A binder is used in the body of its function or recursion alone, a let number in the second part of its let alone, a scheme of the
--- environment is one of so many, and no record has a label twice. These binders and lets are around the tree.
+-- A binder is used in the body of its function or recursion alone, a let number in the second part of its let alone, a
+-- scheme of the environment is one of so many, and no record has a label twice. These binders and lets are around the
+-- tree.
 abbrev mutual
   pub IsScoped : (binders lets : List ℕ) (globals : ℕ) → TermTree → Type 0
   IsScoped binders lets globals (bound at x) = Contains binders x
@@ -58,15 +60,19 @@ abbrev mutual
   IsScoped binders lets globals (truth at value) = Unit {0}
   IsScoped binders lets globals (fun at x e) = IsScoped (x ∷ binders) lets globals e
   IsScoped binders lets globals (apply at f a) = IsScoped binders lets globals f × IsScoped binders lets globals a
-  IsScoped binders lets globals (make at fields) = AllPairs (λ x y. x ≢ y) (labels_of fields) × AreScoped binders lets globals fields
+  IsScoped binders lets globals (make at fields) =
+      AllPairs (λ x y. x ≢ y) (labels_of fields) × AreScoped binders lets globals fields
   IsScoped binders lets globals (project at e label) = IsScoped binders lets globals e
-  IsScoped binders lets globals (choice at c e f) = IsScoped binders lets globals c × IsScoped binders lets globals e × IsScoped binders lets globals f
-  IsScoped binders lets globals (local at k e f) = IsScoped binders lets globals e × IsScoped binders (k ∷ lets) globals f
+  IsScoped binders lets globals (choice at c e f) =
+      IsScoped binders lets globals c × IsScoped binders lets globals e × IsScoped binders lets globals f
+  IsScoped binders lets globals (local at k e f) =
+      IsScoped binders lets globals e × IsScoped binders (k ∷ lets) globals f
   IsScoped binders lets globals (fix at x e) = IsScoped (x ∷ binders) lets globals e
 
   pub AreScoped : (binders lets : List ℕ) (globals : ℕ) → TermFields → Type 0
   AreScoped binders lets globals no_field = Unit {0}
-  AreScoped binders lets globals (a_field label e rest) = IsScoped binders lets globals e × AreScoped binders lets globals rest
+  AreScoped binders lets globals (a_field label e rest) =
+      IsScoped binders lets globals e × AreScoped binders lets globals rest
 
 -- these are so many numbers, from 0 on, each once
 pub record AreNumbersBelow (count : ℕ) (numbers : List ℕ) : Type 0 where
@@ -82,7 +88,8 @@ pub record IsTerm (globals : ℕ) (nodes : List TermNode) (binders lets : ℕ) :
   pub binder_numbers : AreNumbersBelow binders (binders_of tree)
   pub let_numbers : AreNumbersBelow lets (lets_of tree)
 
--- the children of a tree, each with the number of its first node, where that of the tree is n; not the second part of a let
+-- the children of a tree, each with the number of its first node, where that of the tree is n; not the second part of a
+-- let
 abbrev mutual
   pub early_parts : ℕ → TermTree → List (ℕ × TermTree)
   early_parts n (bound at x) = []
@@ -102,15 +109,17 @@ abbrev mutual
   field_parts n no_field = []
   field_parts n (a_field label e rest) = (n, e) ∷ field_parts (n + suc (before e)) rest
 
--- The part of a tree whose first node has this number, and what is known there: in the second part of a let its name has a best
--- scheme of the first part. So nothing is a part below a first part that has no scheme.
+-- The part of a tree whose first node has this number, and what is known there: in the second part of a let its name
+-- has a best scheme of the first part. So nothing is a part below a first part that has no scheme.
 pub data IsPartOf (globals : List Scheme) (whole : TermTree) : ℕ → TermTree → Known → Type 0 where
-  at_root : {n : ℕ} {t : TermTree} {known : Known} → n ≡ 0 → t ≡ whole → known ≡ record { globals = globals; lets = env.empty } → IsPartOf globals whole n t known
+  at_root : {n : ℕ} {t : TermTree} {known : Known} → n ≡ 0 → t ≡ whole
+      → known ≡ record { globals = globals; lets = env.empty } → IsPartOf globals whole n t known
   in_part : {n : ℕ} {t : TermTree} {known : Known} (m : ℕ) (outer : TermTree)
       → IsPartOf globals whole m outer known → Contains (early_parts m outer) (n, t)
       → IsPartOf globals whole n t known
   in_second : {n : ℕ} {t : TermTree} {known : Known} (m : ℕ) (outer : Known) (at k : ℕ) (first : TermTree) (s : Scheme)
-      → IsPartOf globals whole m (local at k first t) outer → n ≡ m + suc (before first) → IsBest outer first s → known ≡ with_let outer k s
+      → IsPartOf globals whole m (local at k first t) outer → n ≡ m + suc (before first) → IsBest outer first s
+      → known ≡ with_let outer k s
       → IsPartOf globals whole n t known
 
 -- the node of this number is the first in postorder without a scheme
@@ -121,4 +130,5 @@ pub record IsFirstNone (globals : List Scheme) (whole : TermTree) (i : ℕ) : Ty
   pub part : IsPartOf globals whole n t known
   pub number_is : i ≡ n + before t
   pub none : HasNone known t
-  pub earlier : (j : ℕ) → j < i → (n' : ℕ) × (u : TermTree) × (other : Known) × (s : Scheme) × IsPartOf globals whole n' u other × (j ≡ n' + before u) × IsBest other u s
+  pub earlier : (j : ℕ) → j < i → (n' : ℕ) × (u : TermTree) × (other : Known) × (s : Scheme)
+      × IsPartOf globals whole n' u other × (j ≡ n' + before u) × IsBest other u s

@@ -24,7 +24,7 @@ use Rattle.mls_term.specs.Terms.{TermTree, bound, inner, global, number, truth, 
 use Rattle.mls_names.specs.Resolution.{IsChain}
 use Rattle.mls_term.specs.Derivations.{Known, over, Takes, Derives, var_inner, var_global, var_fun, lit_truth, lit_number, abs, app, rcd, proj, cond, let_in, rec_fix, sub, IsBest}
 use Rattle.mls_term.proofs.Rules.{ByFun, Generated, generation}
-use Rattle.mls_top.specs.Chains.{is_used}
+use Rattle.mls_top.specs.steps.Chains.{is_used}
 use Rattle.mls_top.proofs.ChainTexts.{ChainType, from, chain_type}
 use Rattle.mls_top.proofs.ChainBooks.{Stands}
 use Rattle.mls_term.proofs.Environments.{scheme_at}

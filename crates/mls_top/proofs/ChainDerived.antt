@@ -22,7 +22,7 @@ use Rattle.mls_term.proofs.Environments.{one, get-one, get-other, remove-empty, 
 use Rattle.mls_term.specs.Terms.{TermTree, bound, inner, global, number, truth, fun, apply, make, project, choice, local, fix}
 use Rattle.mls_names.specs.Resolution.{IsChain}
 use Rattle.mls_term.specs.Derivations.{Known, Takes, Derives, var_fun, lit_truth, lit_number, abs, sub}
-use Rattle.mls_top.specs.Chains.{is_used}
+use Rattle.mls_top.specs.steps.Chains.{is_used}
 use Rattle.mls_top.proofs.ChainTexts.{ChainType, leaf, from, chain_type}
 use Rattle.mls_typetext.specs.Books.{id}
 use Rattle.mls_top.proofs.ChainBooks.{domain_node, Stands}

@@ -27,7 +27,7 @@ use Rattle.mls_names.specs.Resolution.{IsChain}
 use Rattle.mls_term.specs.Derivations.{Known, over, Takes, Derives}
 use Rattle.mls_term.proofs.Rules.{ByFun, ByBound, ByNumber, ByTruth, Generated, generation}
 use Rattle.mls_typetext.specs.Books.{id}
-use Rattle.mls_top.specs.Chains.{is_used}
+use Rattle.mls_top.specs.steps.Chains.{is_used}
 use Rattle.mls_top.proofs.ChainTexts.{Leaf, a_variable, an_integer, a_boolean, ChainType, leaf, from, leaf_of, chain_type}
 use Rattle.mls_top.proofs.ChainBooks.{leaf_node, domain_node, Stands}
 use Rattle.mls_term.proofs.Environments.{scheme_at, get-one}

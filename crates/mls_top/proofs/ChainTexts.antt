@@ -14,7 +14,7 @@ use Rattle.mls_typetext.specs.Phrases.{Phrase, whole, atom, joined, no_codomain,
 use Rattle.mls_typetext.specs.Trees.{meaning}
 use Rattle.mls_typetext.specs.Faults.{faults}
 use Rattle.mls_typetext.specs.Texts.{IsTypeText, read_of}
-use Rattle.mls_top.specs.Chains.{is_used, domain_text, piece_text, type_text}
+use Rattle.mls_top.specs.steps.Chains.{is_used, domain_text, piece_text, type_text}
 
 -- the type of a chain: for each function, from outside in, whether its domain is the variable or `top`, and then the leaf
 pub data Leaf : Type 0 where

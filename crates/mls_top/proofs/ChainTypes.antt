@@ -13,7 +13,7 @@ use Rattle.mls_typetext.specs.Books.{type_of, book_of, root_of}
 use Rattle.mls_typetext.specs.Schemes.{scheme_of}
 use Rattle.mls_lexer.specs.Tokens.{place_of}
 use Rattle.mls_typetext.specs.Texts.{IsTypeText, read_of}
-use Rattle.mls_top.specs.Chains.{leaf_use, type_text}
+use Rattle.mls_top.specs.steps.Chains.{leaf_use, type_text}
 use Rattle.mls_top.proofs.ChainTexts.{ChainType, chain_type, chain_text, chain_phrase, chain_terminals, chain_is_type, type_text-chain}
 use Rattle.mls_top.proofs.ChainBooks.{chain_ty, chain_nodes, type_of-chain, book_of-chain, root_of-chain, stands_in, closed_chain}
 use Rattle.mls_term.proofs.Environments.{scheme_at}

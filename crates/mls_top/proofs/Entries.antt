@@ -2,9 +2,9 @@
 use Rattle.std.proofs.Common.{◌≡◌, ℕ, List, [], ◌∷◌, ◌++◌, reverse, refl, sym, ap, ◌∙◌, append_assoc, append-nil, codes}
 use Rattle.mls_term.specs.declared.term.ResolvedBinding.{ResolvedBinding}
 use Rattle.mls_names.specs.Resolution.{HasChain}
-use Rattle.mls_top.specs.Chains.{leaf_use, type_text}
+use Rattle.mls_top.specs.steps.Chains.{leaf_use, type_text}
 use Rattle.mls_top.specs.Outcomes.{Entry, known_after, IsEntryOf, AreEntriesOf, entry_line, signature_text}
-use Rattle.mls_top.specs.Answering.{IsSignature, AddsEntry}
+use Rattle.mls_top.specs.steps.Answering.{IsSignature, AddsEntry}
 use Rattle.mls_top.proofs.ChainTypes.{nodes_are_type}
 
 -- the pieces of a line are the line of an entry

@@ -20,8 +20,8 @@ use Rattle.mls_top.specs.declared.fetching.Stop.TheVariants as stop
 use Rattle.mls_top.specs.declared.status.Status.TheVariants.{Done, BadText}
 use Rattle.mls_top.specs.Lines.{module_file, fault_line, fault_number, fault_text, fault_place}
 use Rattle.mls_top.specs.Outcomes.{no_text, has_text, InfersFrom, signed, refused, bad_text, inferred, no_file, too_long, text_at, module_limit, IsInferred}
-use Rattle.mls_top.specs.Fetching.{HoldsOf}
-use Rattle.mls_top.specs.Answering.{IsSignature, IsRefused}
+use Rattle.mls_top.specs.steps.Fetching.{HoldsOf}
+use Rattle.mls_top.specs.steps.Answering.{IsSignature, IsRefused}
 use Rattle.mls_top.specs.Answers.{IsAnswerOf, infer}
 
 -- the first of a list, and a list without a first

@@ -21,7 +21,8 @@ pub data IsAnswer (files : Files) (words : List (List ℕ)) : Status → List �
   -- the words are no command
   no_command : command_of words ≡ None → IsAnswer files words Usage usage_line
   -- the words are a command
-  of_command : {status : Status} {text : List ℕ} (command : Command) → command_of words ≡ Some command → IsAnswerOf files command status text
+  of_command : {status : Status} {text : List ℕ} (command : Command) → command_of words ≡ Some command
+      → IsAnswerOf files command status text
       → IsAnswer files words status text
 
 -- these bytes are a front of the text of some answer

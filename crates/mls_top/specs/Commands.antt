@@ -10,7 +10,8 @@ is_name_word word = is_spelled word && not (is_reserved word)
 
 -- `infer NAME`
 abbrev pub command_of_two : List ℕ → List ℕ → Option Command
-command_of_two first second = if bytes_eq first (codes "infer") && is_name_word second then Some (Infer second) else None
+command_of_two first second =
+    if bytes_eq first (codes "infer") && is_name_word second then Some (Infer second) else None
 
 -- the words of a command line without the program's own name are this command, or none
 abbrev pub command_of : List (List ℕ) → Option Command

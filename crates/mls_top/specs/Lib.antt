@@ -1,10 +1,8 @@
-pub mod Answering
 pub mod Answers
-pub mod Chains
 pub mod Commands
-pub mod Fetching
 pub mod Lines
 pub mod Outcomes
 pub mod Runs
 pub mod Statuses
 pub mod Writing
+pub mod steps

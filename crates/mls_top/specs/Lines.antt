@@ -2,7 +2,9 @@
 pub use Rattle.mls_grammar.specs.Faults.{fault_place}
 use Rattle.std.specs.Prelude.{ℕ, List, [], ◌++◌, codes, decimal}
 use Rattle.mls_grammar.specs.declared.fault.Fault.{Fault}
-use Rattle.mls_grammar.specs.declared.fault.Fault.TheVariants.{BadByte, BigNumber, Unexpected, Ended, TooDeep, DuplicateBinding, DuplicateLabel, DuplicateImport, UnknownName, NotBuilt, Memory}
+use Rattle.mls_grammar.specs.declared.fault.Fault.TheVariants.{BadByte, BigNumber, Unexpected, Ended, TooDeep}
+use Rattle.mls_grammar.specs.declared.fault.Fault.TheVariants.{DuplicateBinding, DuplicateLabel, DuplicateImport}
+use Rattle.mls_grammar.specs.declared.fault.Fault.TheVariants.{UnknownName, NotBuilt, Memory}
 
 abbrev pub usage_line : List ℕ
 usage_line = codes "usage: mlsub COMMAND OPERANDS\n"
@@ -48,4 +50,5 @@ fault_text Memory = []
 -- FILE:LINE:COLUMN: fault NUMBER: TEXT
 abbrev pub fault_line : List ℕ → (line column number : ℕ) → List ℕ → List ℕ
 fault_line file line column number text =
-    file ++ codes ":" ++ decimal line ++ codes ":" ++ decimal column ++ codes ": fault " ++ decimal number ++ codes ": " ++ text ++ codes "\n"
+    file ++ codes ":" ++ decimal line ++ codes ":" ++ decimal column ++ codes ": fault " ++ decimal number ++ codes ": "
+    ++ text ++ codes "\n"

@@ -1,5 +1,6 @@
 -- What is found when a module's signature is asked for.
-use Rattle.std.specs.Prelude.{◌≡◌, ℕ, nat_lt, if◌then◌else◌, List, [], ◌∷◌, ◌++◌, length, map, codes, Option, Some, None, Result, Ok, Err}
+use Rattle.std.specs.Prelude.{◌≡◌, ℕ, nat_lt, if◌then◌else◌, List, [], ◌∷◌, ◌++◌, length, map, codes, Option, Some}
+use Rattle.std.specs.Prelude.{None, Result, Ok, Err}
 use Rattle.std.specs.FinMap as env
 use Rattle.mls_base.specs.Files.{Files, bytes_at}
 use Rattle.mls_lexer.specs.Tokens.{line_of, column_of}
@@ -20,7 +21,8 @@ use Rattle.mls_typetext.specs.Schemes.{scheme_of, environment}
 use Rattle.mls_typetext.specs.Texts.{IsTypeText}
 use Rattle.mls_top.specs.declared.status.Status.{Status}
 use Rattle.mls_top.specs.declared.status.Status.TheVariants.{Done, BadText, NoFile, TooLong}
-use Rattle.mls_top.specs.Lines.{module_file, not_found_line, too_long_line, fault_line, fault_number, fault_text, fault_place}
+use Rattle.mls_top.specs.Lines.{module_file, not_found_line, too_long_line, fault_line, fault_number, fault_text}
+use Rattle.mls_top.specs.Lines.{fault_place}
 
 -- the most bytes that the text of a module may have
 abbrev pub module_limit : ℕ
@@ -56,7 +58,8 @@ pub record Entry : Type 0 where
 abbrev pub known_after : List Entry → Known
 known_after earlier = record { globals = environment [] (map (λ e. e.read) earlier); lets = env.empty }
 
--- the entry is one for the binding after earlier entries: its text is a type, which is read as the most general scheme of the binding's term
+-- the entry is one for the binding after earlier entries: its text is a type, which is read as the most general scheme
+-- of the binding's term
 pub record IsEntryOf (earlier : List Entry) (b : ResolvedBinding) (e : Entry) : Type 0 where
   pub name : e.x ≡ b.name
   pub reads : IsTypeText e.text e.read
@@ -68,7 +71,8 @@ pub record IsEntryOf (earlier : List Entry) (b : ResolvedBinding) (e : Entry) : 
 abbrev pub AreEntriesOf : (earlier : List Entry) → List ResolvedBinding → List Entry → Type 0
 AreEntriesOf earlier [] entries = entries ≡ []
 AreEntriesOf earlier (b ∷ bs) entries =
-    (first : Entry) × (rest : List Entry) × (entries ≡ first ∷ rest) × IsEntryOf earlier b first × AreEntriesOf (earlier ++ first ∷ []) bs rest
+    (first : Entry) × (rest : List Entry) × (entries ≡ first ∷ rest) × IsEntryOf earlier b first
+    × AreEntriesOf (earlier ++ first ∷ []) bs rest
 
 -- the text of a signature: a line `val NAME : TYPE` for each entry
 abbrev pub entry_line : Entry → List ℕ
@@ -86,7 +90,8 @@ pub data Outcome : Type 0 where
 -- what is found for the text of the module of this name, by the first case that holds
 pub data InfersFrom (x text : List ℕ) : Outcome → Type 0 where
   -- the text has a first fault before its names are looked at
-  faulty : {fault : Fault} → HasFirstFault text fault → InfersFrom x text (refused (bad_text (module_file x) text fault))
+  faulty : {fault : Fault} → HasFirstFault text fault
+      → InfersFrom x text (refused (bad_text (module_file x) text fault))
   -- the module has an import; so far modules without imports alone are inferred
   imports_first : {m : Module} {i : Import} {rest : List Import} → IsModuleText text m → m.imports ≡ i ∷ rest
       → InfersFrom x text (refused (bad_text (module_file x) text (NotBuilt i.at)))
@@ -94,17 +99,20 @@ pub data InfersFrom (x text : List ℕ) : Outcome → Type 0 where
   unknown : {m : Module} {fault : Fault} → IsModuleText text m → m.imports ≡ [] → HasUnknownName m [] fault
       → InfersFrom x text (refused (bad_text (module_file x) text fault))
   -- a node has a form for which nothing is inferred so far
-  unbuilt : {m : Module} {r : Resolved} {at : ℕ} → IsModuleText text m → m.imports ≡ [] → Resolves m [] r → IsLeastUnbuilt r at
+  unbuilt : {m : Module} {r : Resolved} {at : ℕ} → IsModuleText text m → m.imports ≡ [] → Resolves m [] r
+      → IsLeastUnbuilt r at
       → InfersFrom x text (refused (bad_text (module_file x) text (NotBuilt at)))
   -- each binding has an entry
-  signed : {m : Module} {r : Resolved} {entries : List Entry} → IsModuleText text m → m.imports ≡ [] → Resolves m [] r → IsBuilt r → AreEntriesOf [] r.bindings entries
+  signed : {m : Module} {r : Resolved} {entries : List Entry} → IsModuleText text m → m.imports ≡ [] → Resolves m [] r
+      → IsBuilt r → AreEntriesOf [] r.bindings entries
       → InfersFrom x text (inferred entries)
 
 -- what is found for the module of this name over these files, by the first case that holds
 pub data Infers (files : Files) (x : List ℕ) : Outcome → Type 0 where
   -- the text is not there or too long
   no_text : {r : Refusal} → text_at files (module_file x) module_limit ≡ Err r → Infers files x (refused r)
-  has_text : {text : List ℕ} {outcome : Outcome} → text_at files (module_file x) module_limit ≡ Ok text → InfersFrom x text outcome
+  has_text : {text : List ℕ} {outcome : Outcome} → text_at files (module_file x) module_limit ≡ Ok text
+      → InfersFrom x text outcome
       → Infers files x outcome
 
 -- the status and the text that tell a refusal

@@ -36,8 +36,8 @@ IsCutOffOrNothing files words old new = TakesNone old new ⊎ IsCutOff files wor
 abbrev pub IsWithoutCommand : (old new : Written) → Status → Type 0
 IsWithoutCommand old new status = IsTold Usage usage_line old new status ⊎ ((status ≡ Memory) × TakesNone old new)
 
--- the words ask for the signature of a module whose text the files have within its limit; it is a module without imports, whose names have
--- meanings, and it has the forms alone for which types are inferred so far
+-- the words ask for the signature of a module whose text the files have within its limit; it is a module without
+-- imports, whose names have meanings, and it has the forms alone for which types are inferred so far
 pub record CanBeInferred (files : Files) (words : List (List ℕ)) : Type 0 where
   pub x : List ℕ
   pub text : List ℕ

@@ -1,7 +1,8 @@
 -- The exit codes.
 use Rattle.std.specs.Prelude.{ℕ, Bool, true, false}
 use Rattle.mls_top.specs.declared.status.Status.{Status}
-use Rattle.mls_top.specs.declared.status.Status.TheVariants.{Done, BadText, NoFile, ReadFault, WriteFault, Memory, Usage, TooLong}
+use Rattle.mls_top.specs.declared.status.Status.TheVariants.{Done, BadText, NoFile, ReadFault, WriteFault, Memory}
+use Rattle.mls_top.specs.declared.status.Status.TheVariants.{Usage, TooLong}
 
 -- the exit code of each status
 abbrev pub code_of : Status → ℕ

@@ -2,7 +2,7 @@
 ghost use Rattle.std.specs.Prelude.{◌≡◌, Ok, Err, IfSome, IfOk, IfErr};
 ghost use Rattle.mls_io.specs.Stores.{Follows};
 ghost use Rattle.mls_top.specs.Outcomes.{text_at};
-ghost use Rattle.mls_top.specs.Fetching.{IsCounted, HoldsOf};
+ghost use Rattle.mls_top.specs.steps.Fetching.{IsCounted, HoldsOf};
 
 use mls_io::store::{Fetch, Store};
 use std::alloc::Global;
@@ -28,8 +28,10 @@ pub fn text_of<S: Store>(
     limit: usize,
 ) -> Result<Vec<u8>, Stop>
     ensures follows { Follows (S.holdings store.old) (S.holdings store.new) }
-    ensures found { IfSome (S.holdings store.old).files (λ files. IfOk result (λ text. text_at files file.now limit ≡ Ok text.items)) }
-    ensures stopped { IfSome (S.holdings store.old).files (λ files. IfErr result (λ stop. HoldsOf stop files file.now limit)) }
+    ensures found { IfSome (S.holdings store.old).files
+        (λ files. IfOk result (λ text. text_at files file.now limit ≡ Ok text.items)) }
+    ensures stopped { IfSome (S.holdings store.old).files
+        (λ files. IfErr result (λ stop. HoldsOf stop files file.now limit)) }
     ensures counted { IfErr result (λ stop. IsCounted stop (S.holdings store.old) (S.holdings store.new)) }
 {
     let mut text = Vec::new(alloc);

@@ -45,7 +45,8 @@ pub fn infer(alloc: Global, name: &Name, text: &[u8]) -> Result<Answer, Memory>
 
 // The answer for a text that is refused for this fault.
 fn bad_text(alloc: Global, name: &Name, text: &[u8], fault: Fault) -> Result<Answer, Memory>
-    requires found { fault ≢ Fault.Memory → InfersFrom name.now text.now (refused (bad_text (module_file name.now) text.now fault)) }
+    requires found { fault ≢ Fault.Memory → InfersFrom name.now text.now
+        (refused (bad_text (module_file name.now) text.now fault)) }
     requires within { fault ≢ Fault.Memory → fault_place (length text.now) fault ≤ length text.now }
     ensures { IfOk result (λ answer. IsInferred name.now text.now answer.status answer.text.items) }
 {

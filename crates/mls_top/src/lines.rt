@@ -1,6 +1,7 @@
 //! The lines of refusals.
 ghost use Rattle.std.specs.Prelude.{◌≡◌, string_bytes, IfOk};
-ghost use Rattle.mls_top.specs.Lines.{module_file, not_found_line, too_long_line, fault_line, fault_number, fault_text, fault_place};
+ghost use Rattle.mls_top.specs.Lines.{module_file, not_found_line, too_long_line, fault_line, fault_number, fault_text};
+ghost use Rattle.mls_top.specs.Lines.{fault_place};
 
 use mls_base::memory::Memory;
 use mls_book::name::Name;

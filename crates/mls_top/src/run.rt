@@ -37,25 +37,39 @@ pub fn run<S: Store, K: Sink>(
     ensures sink { sinks.Follows (K.written sink.old) (K.written sink.new) }
 
     // Where the store tells, the status is that of an answer, and where the sink tells, its text was written.
-    ensures answer { IfSome (S.holdings store.old).files (λ files. IsFalse (is_cut result) → IsAnswered files (map string_bytes words.now.items) (K.written sink.old) (K.written sink.new) result) }
+    ensures answer { IfSome (S.holdings store.old).files (λ files. IsFalse (is_cut result)
+        → IsAnswered files (map string_bytes words.now.items) (K.written sink.old) (K.written sink.new) result) }
     // A write fault leaves a front of an answer's text, and want of memory that or nothing.
-    ensures cut { IfSome (S.holdings store.old).files (λ files. result ≡ Status.WriteFault → IsCutOff files (map string_bytes words.now.items) (K.written sink.old) (K.written sink.new)) }
-    ensures memory { IfSome (S.holdings store.old).files (λ files. result ≡ Status.Memory → IsCutOffOrNothing files (map string_bytes words.now.items) (K.written sink.old) (K.written sink.new)) }
+    ensures cut { IfSome (S.holdings store.old).files (λ files. result ≡ Status.WriteFault
+        → IsCutOff files (map string_bytes words.now.items) (K.written sink.old) (K.written sink.new)) }
+    ensures memory { IfSome (S.holdings store.old).files (λ files. result ≡ Status.Memory
+        → IsCutOffOrNothing files (map string_bytes words.now.items) (K.written sink.old) (K.written sink.new)) }
     ensures read_fault { result ≡ Status.ReadFault → TakesNone (K.written sink.old) (K.written sink.new) }
 
     // Each fault of the store or the sink was counted in this call.
-    ensures read_fault_counted { result ≡ Status.ReadFault → Rose (S.holdings store.old).faults (S.holdings store.new).faults }
-    ensures no_file_counted { result ≡ Status.NoFile → Rose (S.holdings store.old).misses (S.holdings store.new).misses }
-    ensures too_long_counted { result ≡ Status.TooLong → Rose (S.holdings store.old).longs (S.holdings store.new).longs }
-    ensures write_fault_counted { result ≡ Status.WriteFault → Rose (K.written sink.old).faults (K.written sink.new).faults }
+    ensures read_fault_counted { result ≡ Status.ReadFault
+        → Rose (S.holdings store.old).faults (S.holdings store.new).faults }
+    ensures no_file_counted { result ≡ Status.NoFile
+        → Rose (S.holdings store.old).misses (S.holdings store.new).misses }
+    ensures too_long_counted { result ≡ Status.TooLong
+        → Rose (S.holdings store.old).longs (S.holdings store.new).longs }
+    ensures write_fault_counted { result ≡ Status.WriteFault
+        → Rose (K.written sink.old).faults (K.written sink.new).faults }
 
     // The words alone decide whether they are a command; if they are none, the usage is written and the store is left
     // alone.
-    ensures usage { result ≡ Status.Usage → (command_of (map string_bytes words.now.items) ≡ None) × Adds (K.written sink.old) (K.written sink.new) usage_line }
-    ensures no_command { command_of (map string_bytes words.now.items) ≡ None → IsWithoutCommand (K.written sink.old) (K.written sink.new) result × (S.holdings store.new ≡ S.holdings store.old) }
+    ensures usage { result ≡ Status.Usage → (command_of (map string_bytes words.now.items) ≡ None)
+        × Adds (K.written sink.old) (K.written sink.new) usage_line }
+    ensures no_command { command_of (map string_bytes words.now.items) ≡ None
+        → IsWithoutCommand (K.written sink.old) (K.written sink.new) result
+        × (S.holdings store.new ≡ S.holdings store.old) }
 
     // A module that is there and has no fault has a signature, unless the store, the sink or memory fails.
-    ensures complete { IfSome (S.holdings store.old).files (λ files. CanBeInferred files (map string_bytes words.now.items) → ¬ Rose (S.holdings store.old).faults (S.holdings store.new).faults → ¬ Rose (K.written sink.old).faults (K.written sink.new).faults → (result ≡ Status.Done) ⊎ (result ≡ Status.Memory)) }
+    ensures complete { IfSome (S.holdings store.old).files
+        (λ files. CanBeInferred files (map string_bytes words.now.items)
+        → ¬ Rose (S.holdings store.old).faults (S.holdings store.new).faults
+        → ¬ Rose (K.written sink.old).faults (K.written sink.new).faults → (result ≡ Status.Done)
+        ⊎ (result ≡ Status.Memory)) }
 {
     let command = match command_of(alloc, words) {
         Ok(Some(command)) => command,

@@ -1,5 +1,6 @@
 -- The book of a type.
-use Rattle.std.specs.Prelude.{ℕ, zero, suc, ◌+◌, Bool, true, false, List, [], ◌∷◌, ◌++◌, filter, not, bytes_eq, if◌then◌else◌}
+use Rattle.std.specs.Prelude.{ℕ, zero, suc, ◌+◌, Bool, true, false, List, [], ◌∷◌, ◌++◌, filter, not, bytes_eq}
+use Rattle.std.specs.Prelude.{if◌then◌else◌}
 use Rattle.std.specs.Ordering.{nat_cmp}
 use Rattle.std.specs.declared.cmp.Ordering.{Ordering}
 use Rattle.std.specs.declared.cmp.Ordering.TheVariants.{Less, Equal, Greater}
@@ -8,7 +9,8 @@ use Rattle.mls_book.specs.declared.book.Field.{Field}
 use Rattle.mls_book.specs.declared.book.NodeId.{NodeId}
 use Rattle.mls_book.specs.declared.book.Node.{Node}
 use Rattle.mls_book.specs.declared.book.Node.TheVariants as node
-use Rattle.mls_typetext.specs.Trees.{TypeTree, a_name, a_bool, an_int, a_top, a_bot, an_arrow, a_record, a_join, a_meet, a_rec, TypeFields, no_field, a_field}
+use Rattle.mls_typetext.specs.Trees.{TypeTree, a_name, a_bool, an_int, a_top, a_bot, an_arrow, a_record, a_join, a_meet}
+use Rattle.mls_typetext.specs.Trees.{a_rec, TypeFields, no_field, a_field}
 
 -- a type whose variables have numbers; `again k` is the k-th `rec` around it, counted from the nearest
 mutual
@@ -38,7 +40,8 @@ abbrev pub first_places : List (List ℕ) → List (List ℕ)
 first_places [] = []
 first_places (x ∷ xs) = x ∷ filter (λ y. not (bytes_eq y x)) (first_places xs)
 
--- the type variables of a tree in the order of the text, each as often as it stands there; a name of a `rec` around it is none
+-- the type variables of a tree in the order of the text, each as often as it stands there; a name of a `rec` around it
+-- is none
 abbrev mutual
   pub variables_in : (recs : List (List ℕ)) → TypeTree → List (List ℕ)
   variables_in recs (a_name at x) = if is_in recs x then [] else x ∷ []
@@ -76,15 +79,17 @@ abbrev mutual
 
   pub numbered_fields : (vars recs : List (List ℕ)) → TypeFields → TyFields
   numbered_fields vars recs no_field = none
-  numbered_fields vars recs (a_field at label t rest) = one label (numbered vars recs t) (numbered_fields vars recs rest)
+  numbered_fields vars recs (a_field at label t rest) =
+      one label (numbered vars recs t) (numbered_fields vars recs rest)
 
 -- the type of a tree
 abbrev pub type_of : TypeTree → Ty
 type_of t = numbered (variables t) [] t
 
--- A layer of a type is what lies between constructors: the joins, meets and `rec`s from one place down to the variables, base types,
--- `top`, `bot`, functions, records and recursive names. A `rec` and a recursive name have no node of their own: both stand for the
--- node of the body.
+-- A layer of a type is what lies between constructors: the joins, meets and `rec`s from one place down to the
+-- variables, base types,
+-- `top`, `bot`, functions, records and recursive names. A `rec` and a recursive name have no node of their own: both
+-- stand for the node of the body.
 
 -- how many nodes the layer has
 unfoldable pub here : Ty → ℕ
@@ -155,9 +160,11 @@ placed field (first ∷ rest) = placed_by (slice_cmp nat_cmp field.label first.l
 -- the fields of a record by their labels in byte order, where what lies below them begins at node q
 unfoldable pub field_nodes : ℕ → List ℕ → TyFields → List Field
 field_nodes q recs none = []
-field_nodes q recs (one label a rest) = placed (record { label = label; node = id (stands q recs a) }) (field_nodes (q + (here a + under a)) recs rest)
+field_nodes q recs (one label a rest) =
+    placed (record { label = label; node = id (stands q recs a) }) (field_nodes (q + (here a + under a)) recs rest)
 
--- the nodes of the layer that begins at p, where what lies below it begins at q: from left to right, the operands of a join or meet before it
+-- the nodes of the layer that begins at p, where what lies below it begins at q: from left to right, the operands of a
+-- join or meet before it
 unfoldable pub layer : (p q : ℕ) → List ℕ → Ty → List Node
 layer p q recs (var x) = node.Var x ∷ []
 layer p q recs (again k) = []
@@ -167,14 +174,16 @@ layer p q recs top = node.Top ∷ []
 layer p q recs bot = node.Bot ∷ []
 layer p q recs (arrow a b) = node.Arrow (id (stands q recs a)) (id (stands (q + (here a + under a)) recs b)) ∷ []
 layer p q recs (join a b) =
-    layer p q recs a ++ layer (p + here a) (q + under a) recs b ++ node.Join (id (stands p recs a)) (id (stands (p + here a) recs b)) ∷ []
+    layer p q recs a ++ layer (p + here a) (q + under a) recs b
+    ++ node.Join (id (stands p recs a)) (id (stands (p + here a) recs b)) ∷ []
 layer p q recs (meet a b) =
-    layer p q recs a ++ layer (p + here a) (q + under a) recs b ++ node.Meet (id (stands p recs a)) (id (stands (p + here a) recs b)) ∷ []
+    layer p q recs a ++ layer (p + here a) (q + under a) recs b
+    ++ node.Meet (id (stands p recs a)) (id (stands (p + here a) recs b)) ∷ []
 layer p q recs (fields all) = node.Rcd (field_nodes q recs all) ∷ []
 layer p q recs (rec a) = layer p q (stands p (0 ∷ recs) a ∷ recs) a
 
--- the nodes below the layer: for each function and record from left to right its child layers in turn, each with all that lies below it,
--- the domain before the codomain and fields in the order of the text
+-- the nodes below the layer: for each function and record from left to right its child layers in turn, each with all
+-- that lies below it, the domain before the codomain and fields in the order of the text
 unfoldable mutual
   pub below : (p q : ℕ) → List ℕ → Ty → List Node
   below p q recs (var x) = []
@@ -185,7 +194,8 @@ unfoldable mutual
   below p q recs bot = []
   below p q recs (arrow a b) =
       let r = q + (here a + under a) in
-      (layer q (q + here a) recs a ++ below q (q + here a) recs a) ++ (layer r (r + here b) recs b ++ below r (r + here b) recs b)
+      (layer q (q + here a) recs a ++ below q (q + here a) recs a)
+      ++ (layer r (r + here b) recs b ++ below r (r + here b) recs b)
   below p q recs (join a b) = below p q recs a ++ below (p + here a) (q + under a) recs b
   below p q recs (meet a b) = below p q recs a ++ below (p + here a) (q + under a) recs b
   below p q recs (fields all) = below_fields q recs all

@@ -44,40 +44,50 @@ OneReading = (text : List ℕ) (read other : ReadScheme) → IsTypeText text rea
 
 -- what is read has no fault
 abbrev pub NoFaultBesideReading : Type 0
-NoFaultBesideReading = (text : List ℕ) (read : ReadScheme) (fault : TypeFault) → IsTypeText text read → HasTypeFault text fault → ⊥
+NoFaultBesideReading =
+    (text : List ℕ) (read : ReadScheme) (fault : TypeFault) → IsTypeText text read → HasTypeFault text fault → ⊥
 
 -- a text has one first fault
 abbrev pub OneFirstFault : Type 0
-OneFirstFault = (text : List ℕ) (fault other : TypeFault) → HasTypeFault text fault → HasTypeFault text other → fault ≡ other
+OneFirstFault =
+    (text : List ℕ) (fault other : TypeFault) → HasTypeFault text fault → HasTypeFault text other → fault ≡ other
 
 -- every text is read or has a fault
 abbrev pub ReadingOrFault : Type 0
-ReadingOrFault = (text : List ℕ) → ((read : ReadScheme) × IsTypeText text read) ⊎ ((fault : TypeFault) × HasTypeFault text fault)
+ReadingOrFault =
+    (text : List ℕ) → ((read : ReadScheme) × IsTypeText text read) ⊎ ((fault : TypeFault) × HasTypeFault text fault)
 
 -- of the faults of a tree, the first in the order of the text has the least place
 abbrev pub FirstIsLeast : Type 0
 FirstIsLeast =
-    (text : List ℕ) (tokens : List Token) (from count : ℕ) (phrase : Phrase whole) (fault : TypeFault) (later : List TypeFault)
+    (text : List ℕ) (tokens : List Token) (from count : ℕ) (phrase : Phrase whole) (fault : TypeFault)
+    (later : List TypeFault)
     → IsTokens text tokens → yields phrase [] ≡ take count (drop from (terminals text tokens))
     → faults true [] 0 (meaning (place_of tokens) from phrase) ≡ fault ∷ later
     → All (λ other. tree_place fault ≤ tree_place other) later
 
 -- from a token on a type is read in one way, or it has one first fault; what is read is closed
 pub record HasOneReading (text : List ℕ) (tokens : List Token) (from : ℕ) : Type 0 where
-  pub one_reading : (read other : ReadScheme) (k l : ℕ) → ReadsFrom text tokens from read k → ReadsFrom text tokens from other l → (read ≡ other) × (k ≡ l)
-  pub no_fault : (read : ReadScheme) (k : ℕ) (fault : TypeFault) → ReadsFrom text tokens from read k → HasFaultFrom text tokens from fault → ⊥
-  pub one_fault : (fault other : TypeFault) → HasFaultFrom text tokens from fault → HasFaultFrom text tokens from other → fault ≡ other
+  pub one_reading : (read other : ReadScheme) (k l : ℕ) → ReadsFrom text tokens from read k
+      → ReadsFrom text tokens from other l → (read ≡ other) × (k ≡ l)
+  pub no_fault : (read : ReadScheme) (k : ℕ) (fault : TypeFault) → ReadsFrom text tokens from read k
+      → HasFaultFrom text tokens from fault → ⊥
+  pub one_fault : (fault other : TypeFault) → HasFaultFrom text tokens from fault → HasFaultFrom text tokens from other
+      → fault ≡ other
   pub closed : (read : ReadScheme) (k : ℕ) → ReadsFrom text tokens from read k → IsReadScheme read
-  pub reading_or_fault : ((read : ReadScheme) × (k : ℕ) × ReadsFrom text tokens from read k) ⊎ ((fault : TypeFault) × HasFaultFrom text tokens from fault)
+  pub reading_or_fault : ((read : ReadScheme) × (k : ℕ) × ReadsFrom text tokens from read k)
+      ⊎ ((fault : TypeFault) × HasFaultFrom text tokens from fault)
 
 abbrev pub OneReadingFrom : Type 0
-OneReadingFrom = (text : List ℕ) (tokens : List Token) (from : ℕ) → from ≤ length tokens → HasOneReading text tokens from
+OneReadingFrom =
+    (text : List ℕ) (tokens : List Token) (from : ℕ) → from ≤ length tokens → HasOneReading text tokens from
 
 -- from a token on a type ends before one token, or it stops for one reason
 pub record HasOneEnd (text : List ℕ) (tokens : List Token) (from : ℕ) : Type 0 where
   pub one_end : (k l : ℕ) → EndsBefore text tokens from k → EndsBefore text tokens from l → k ≡ l
   pub no_stop : (k : ℕ) (fault : TypeFault) → EndsBefore text tokens from k → HasStop text tokens from fault → ⊥
-  pub one_stop : (fault other : TypeFault) → HasStop text tokens from fault → HasStop text tokens from other → fault ≡ other
+  pub one_stop : (fault other : TypeFault) → HasStop text tokens from fault → HasStop text tokens from other
+      → fault ≡ other
 
 abbrev pub OneEnd : Type 0
 OneEnd = (text : List ℕ) (tokens : List Token) (from : ℕ) → HasOneEnd text tokens from

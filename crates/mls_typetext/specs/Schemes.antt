@@ -16,9 +16,11 @@ type_scheme t = record { book = book_of t; env = env.empty; root = root_of t }
 -- the types of the operators `+`, `-`, `*`, `<` and `==`, in this order
 abbrev pub operator_types : List Ty
 operator_types =
-    arrow integer (arrow integer integer) ∷ arrow integer (arrow integer integer) ∷ arrow integer (arrow integer integer)
+    arrow integer (arrow integer integer) ∷ arrow integer (arrow integer integer)
+    ∷ arrow integer (arrow integer integer)
     ∷ arrow integer (arrow integer boolean) ∷ arrow integer (arrow integer boolean) ∷ []
 
--- the environment of a binding: the operators, what the imports declare in order, and what the texts of the earlier entries are read as
+-- the environment of a binding: the operators, what the imports declare in order, and what the texts of the earlier
+-- entries are read as
 abbrev pub environment : (declared earlier : List ReadScheme) → List Scheme
 environment declared earlier = map type_scheme operator_types ++ map scheme_of declared ++ map scheme_of earlier

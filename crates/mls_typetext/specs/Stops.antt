@@ -5,7 +5,8 @@ use Rattle.mls_lexer.specs.declared.token.LexFault.TheVariants as lex
 use Rattle.mls_lexer.specs.declared.token.Token.{Token}
 use Rattle.mls_lexer.specs.Tokens.{Terminal, IsTokens, HasTokenFault, terminals, place_of}
 use Rattle.mls_typetext.specs.declared.scheme.TypeFault.{TypeFault}
-use Rattle.mls_typetext.specs.declared.scheme.TypeFault.TheVariants.{BadByte, BigNumber, Unexpected, Ended, NotPolar, Unguarded, Contravariant, DuplicateLabel, Memory}
+use Rattle.mls_typetext.specs.declared.scheme.TypeFault.TheVariants.{BadByte, BigNumber, Unexpected, Ended, NotPolar}
+use Rattle.mls_typetext.specs.declared.scheme.TypeFault.TheVariants.{Unguarded, Contravariant, DuplicateLabel, Memory}
 use Rattle.mls_typetext.specs.Phrases.{Phrase, whole, yields}
 use Rattle.mls_typetext.specs.Trees.{meaning}
 use Rattle.mls_typetext.specs.Faults.{faults}
@@ -78,5 +79,6 @@ pub data HasTypeFault (text : List ℕ) : TypeFault → Type 0 where
   -- the first of the faults of the tree in the order of the text
   in_tree : (tokens : List Token) → IsTokens text tokens
       → (phrase : Phrase whole) → yields phrase [] ≡ terminals text tokens
-      → (fault : TypeFault) (later : List TypeFault) → faults true [] 0 (meaning (place_of tokens) 0 phrase) ≡ fault ∷ later
+      → (fault : TypeFault) (later : List TypeFault) → faults true [] 0 (meaning (place_of tokens) 0 phrase) ≡ fault
+      ∷ later
       → HasTypeFault text fault

@@ -10,7 +10,8 @@ use Rattle.mls_typetext.specs.Books.{type_of, variables, book_of, root_of, id}
 
 -- what a tree is read as
 abbrev pub read_of : TypeTree → ReadScheme
-read_of tree = record { book = book_of (type_of tree); root = id (root_of (type_of tree)); vars = length (variables tree) }
+read_of tree =
+    record { book = book_of (type_of tree); root = id (root_of (type_of tree)); vars = length (variables tree) }
 
 -- the text is a type of this tree: its tokens are spelled by a phrase, and nothing in it is a fault
 pub record IsTypeOf (text : List ℕ) (tree : TypeTree) : Type 0 where

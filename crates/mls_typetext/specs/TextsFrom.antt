@@ -24,5 +24,6 @@ pub data HasFaultFrom (text : List ℕ) (tokens : List Token) (from : ℕ) : Typ
   -- the first of the faults of the tree in the order of the text
   in_tree_from : (k : ℕ) (ends : EndsBefore text tokens from k)
       → (phrase : Phrase whole) → yields phrase [] ≡ take ends.count (drop from (terminals text tokens))
-      → (fault : TypeFault) (later : List TypeFault) → faults true [] 0 (meaning (place_of tokens) from phrase) ≡ fault ∷ later
+      → (fault : TypeFault) (later : List TypeFault) → faults true [] 0 (meaning (place_of tokens) from phrase) ≡ fault
+      ∷ later
       → HasFaultFrom text tokens from fault

@@ -1,6 +1,9 @@
 -- The trees that phrases of types stand for, and their names.
 use Rattle.std.specs.Prelude.{ℕ, ◌+◌, List}
-use Rattle.mls_typetext.specs.Phrases.{Sort, whole, codomain, join, join_tail, meet, meet_tail, atom, fields, more_fields, Phrase, recursive, joined, no_codomain, to, joins, no_join, or, meets, no_meet, and, named, boolean, integer, top, bot, parens, braces, first_field, last_field, next_field, width}
+use Rattle.mls_typetext.specs.Phrases.{Sort, whole, codomain, join, join_tail, meet, meet_tail, atom, fields}
+use Rattle.mls_typetext.specs.Phrases.{more_fields, Phrase, recursive, joined, no_codomain, to, joins, no_join, or}
+use Rattle.mls_typetext.specs.Phrases.{meets, no_meet, and, named, boolean, integer, top, bot, parens, braces}
+use Rattle.mls_typetext.specs.Phrases.{first_field, last_field, next_field, width}
 use Rattle.mls_typetext.specs.Phrases as phrase
 
 -- a type, with the place of each part at which a fault can stand, which is a number of bytes before it
@@ -31,7 +34,8 @@ Meaning atom = TypeTree
 Meaning fields = TypeFields
 Meaning more_fields = TypeFields
 
--- what the phrase that begins at token k stands for, where token i has the place `place i`; `|` and `&` group to the left
+-- what the phrase that begins at token k stands for, where token i has the place `place i`; `|` and `&` group to the
+-- left
 unfoldable pub meaning : (place : ℕ → ℕ) → {s : Sort} → ℕ → Phrase s → Meaning s
 meaning place k (recursive x t) = a_rec x (meaning place (k + 3) t)
 meaning place k (joined j c) = meaning place (k + width j) c (meaning place k j)
@@ -51,6 +55,8 @@ meaning place k bot = a_bot (place k)
 meaning place k (parens t) = meaning place (k + 1) t
 meaning place k (braces f) = a_record (meaning place (k + 1) f)
 meaning place k phrase.no_field = no_field
-meaning place k (first_field label t f) = a_field (place k) label (meaning place (k + 2) t) (meaning place (k + 2 + width t) f)
+meaning place k (first_field label t f) =
+    a_field (place k) label (meaning place (k + 2) t) (meaning place (k + 2 + width t) f)
 meaning place k last_field = no_field
-meaning place k (next_field label t f) = a_field (place (k + 1)) label (meaning place (k + 3) t) (meaning place (k + 3 + width t) f)
+meaning place k (next_field label t f) =
+    a_field (place (k + 1)) label (meaning place (k + 3) t) (meaning place (k + 3 + width t) f)

@@ -36,7 +36,8 @@ struct Rest {
     inner: &'static [EndPart],
 }
 
-// What a token did: a part began with it, or nothing has to come and none did, or what has to come cannot begin with it.
+// What a token did: a part began with it, or nothing has to come and none did, or what has to come cannot begin with
+// it.
 #[derive(Clone, Copy)]
 enum Step {
     Read,
@@ -141,7 +142,7 @@ fn behind(part: EndPart, kind: Kind) -> Option<Rest>
     }
 }
 
-// The same for a part that begins with one kind of token alone.
+// What is left to come behind a token of this kind, where a part begins with the wanted kind alone.
 fn behind_one(kind: Kind, wanted: Kind, inner: &'static [EndPart]) -> Option<Rest>
     ensures { BehindOne kind wanted inner.now result }
 {
@@ -152,7 +153,7 @@ fn behind_one(kind: Kind, wanted: Kind, inner: &'static [EndPart]) -> Option<Res
     }
 }
 
-// The same for a whole type.
+// What is left to come behind a token of this kind, where a whole type begins with it.
 fn behind_whole(kind: Kind) -> Option<Rest>
     ensures { Behind EndPart.Whole kind result }
 {
@@ -168,7 +169,7 @@ fn behind_whole(kind: Kind) -> Option<Rest>
     }
 }
 
-// The same for an atom that these parts follow.
+// What is left to come behind a token of this kind, where an atom begins with it, which these parts follow.
 fn behind_atom(outer: &'static [EndPart], kind: Kind) -> Option<Rest>
     ensures { BehindAtom outer.now kind result }
 {
@@ -190,7 +191,7 @@ fn behind_atom(outer: &'static [EndPart], kind: Kind) -> Option<Rest>
     }
 }
 
-// The same for what stands behind the opening brace of a record.
+// What is left to come behind a token of this kind, where it stands behind the opening brace of a record.
 fn behind_fields(kind: Kind) -> Option<Rest>
     ensures { Behind EndPart.Fields kind result }
 {
@@ -207,7 +208,7 @@ fn behind_fields(kind: Kind) -> Option<Rest>
     }
 }
 
-// The same for what stands behind a field.
+// What is left to come behind a token of this kind, where it stands behind a field.
 fn behind_more_fields(kind: Kind) -> Option<Rest>
     ensures { Behind EndPart.MoreFields kind result }
 {

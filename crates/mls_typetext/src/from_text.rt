@@ -79,7 +79,8 @@ fn scheme_of(alloc: Global, text: &[u8], tokens: &[Token]) -> Result<ReadScheme,
     requires of_text { All (IsToken text.now) tokens.now }
     requires is_type { IsTold (told_of (placed text.now tokens.now)) }
     ensures read { IfOk result (λ r. IsReadOf (told_of (placed text.now tokens.now)) r) }
-    ensures fault { IfErr result (λ fault. fault ≢ TypeFault.Memory → IsFaultOf (told_of (placed text.now tokens.now)) fault) }
+    ensures fault { IfErr result (λ fault. fault ≢ TypeFault.Memory
+        → IsFaultOf (told_of (placed text.now tokens.now)) fault) }
 {
     let pieces = read_pieces(alloc, text, tokens)?;
     let items = resolve(alloc, pieces)?;

@@ -1,5 +1,6 @@
 //! Laws of the texts of types, each the contract of a function that does nothing.
-ghost use Rattle.mls_typetext.specs.Laws.{NoFaultBesideReading, OneFirstFault, OneEnd, ReadingOrFault, FirstIsLeast, OneReadingFrom};
+ghost use Rattle.mls_typetext.specs.Laws.{NoFaultBesideReading, OneFirstFault, OneEnd, ReadingOrFault, FirstIsLeast};
+ghost use Rattle.mls_typetext.specs.Laws.{OneReadingFrom};
 ghost use Rattle.mls_typetext.specs.Laws.{OneReading, ReadIsClosed, ReadHasValue};
 
 /// A text is read as a type in one way at most.

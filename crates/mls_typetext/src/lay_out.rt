@@ -2,7 +2,8 @@
 ghost use Rattle.std.specs.Prelude.{◌≡◌, [], ◌∷◌, reverse, None, IfOk, OnOk};
 ghost use Rattle.mls_book.specs.declared.book.Node.TheVariants.{Rcd};
 ghost use Rattle.mls_typetext.specs.Books.{id, node_in};
-ghost use Rattle.mls_typetext.specs.steps.Laying.{AreNodesOf, at_place, closed, end_at, enter, hold, in_order, lay_field, lay_next, lay_part, stand, state_of, todo};
+ghost use Rattle.mls_typetext.specs.steps.Laying.{AreNodesOf, at_place, closed, end_at, enter, hold, in_order};
+ghost use Rattle.mls_typetext.specs.steps.Laying.{lay_field, lay_next, lay_part, stand, state_of, todo};
 
 use crate::count::sum;
 use crate::piece::{Member, Size};
@@ -14,7 +15,8 @@ use std::mem;
 // Where the nodes of a part go.
 #[derive(Clone, Copy)]
 enum LayoutPlace {
-    // The part belongs to the layer that is open: its nodes begin at the first number, and those below it at the second.
+    // The part belongs to the layer that is open: its nodes begin at the first number, and those below it at the
+    // second.
     Part(usize, usize, Size),
     // It is a layer of its own, which begins at this number, with all that lies below it.
     Block(usize, Size),
@@ -171,7 +173,9 @@ impl Layout {
 
     // Goes into the body of a `rec` of this size.
     fn enter(&mut self, layer: usize, below: usize, size: Size, body: Size) -> Result<(), Memory>
-        ensures { OnOk result (state_of self.new ≡ enter (stand layer (state_of self.old).recs size) (todo (LayoutTask.At (LayoutPlace.Part layer below body) ∷ LayoutTask.Leave ∷ []) (state_of self.old))) }
+        ensures { OnOk result (state_of self.new
+            ≡ enter (stand layer (state_of self.old).recs size)
+            (todo (LayoutTask.At (LayoutPlace.Part layer below body) ∷ LayoutTask.Leave ∷ []) (state_of self.old))) }
     {
         let node = self.node_of(layer, size)?;
         self.tasks.push(LayoutTask::Leave)?;
@@ -191,7 +195,8 @@ impl Layout {
 
     // Two places are still to come: the last of them first.
     fn todo(&mut self, second: LayoutPlace, first: LayoutPlace) -> Result<(), Memory>
-        ensures { OnOk result (state_of self.new ≡ todo (LayoutTask.At first ∷ LayoutTask.At second ∷ []) (state_of self.old)) }
+        ensures { OnOk result (state_of self.new
+            ≡ todo (LayoutTask.At first ∷ LayoutTask.At second ∷ []) (state_of self.old)) }
     {
         self.tasks.push(LayoutTask::At(second))?;
         self.tasks.push(LayoutTask::At(first))?;

@@ -1,7 +1,9 @@
 //! The numbers of the variables of a type, and the sizes of its parts.
 ghost use Rattle.std.specs.Prelude.{◌≡◌, IfOk, OnOk, bytes_eq};
 ghost use Rattle.std.specs.List.{position_or_len};
-ghost use Rattle.mls_typetext.specs.steps.Measuring.{Measures, add, add_total, arrow_size, first_size, first_total, join_size, again_size, measured, named, nodes_in, other_sizes, rec_size, size, state_of, without_size, without_total};
+ghost use Rattle.mls_typetext.specs.steps.Measuring.{Measures, add, add_total, arrow_size, first_size, first_total};
+ghost use Rattle.mls_typetext.specs.steps.Measuring.{join_size, again_size, measured, named, nodes_in, other_sizes};
+ghost use Rattle.mls_typetext.specs.steps.Measuring.{rec_size, size, state_of, without_size, without_total};
 
 use crate::count::sum;
 use crate::piece::{Item, Member, Size};
@@ -221,7 +223,8 @@ fn record_size(total: usize) -> Size
     }
 }
 
-/// The pieces of a type with the sizes of their parts, where the type's own pieces are given from the last to the first.
+/// The pieces of a type with the sizes of their parts, where the type's own pieces are given from the last to the
+/// first.
 pub fn measure(alloc: Global, items: Vec<Item>) -> Result<Measured, Memory>
     ensures { IfOk result (λ m. Measures items.items m) }
 {

@@ -2,7 +2,8 @@
 ghost use Rattle.std.specs.Prelude.{◌≡◌, ◌≤◌, ℕ, true, List, All, IfOk, OnOk, slice_range};
 ghost use Rattle.mls_lexer.specs.Tokens.{IsToken, terminal, terminal_of};
 ghost use Rattle.mls_lexer.specs.steps.Placed.{placed};
-ghost use Rattle.mls_typetext.specs.steps.PieceMachine.{a, the_field, the_rec, acts, atom_acts, advance, last_told, told_of};
+ghost use Rattle.mls_typetext.specs.steps.PieceMachine.{a, the_field, the_rec, acts, atom_acts, advance, last_told};
+ghost use Rattle.mls_typetext.specs.steps.PieceMachine.{told_of};
 ghost use Rattle.mls_typetext.specs.Phrases.{whole, codomain, join, join_tail, meet, meet_tail, fields, more_fields};
 ghost use Rattle.mls_typetext.specs.steps.PieceReaders.{part_of, stack_of, Acted, Puts, Tells, IsNew, state_of};
 
@@ -83,7 +84,8 @@ impl PieceReader {
     // Reads one token: tells what is over before it, and puts what is left to come behind it on the stack.
     fn read_token(&mut self, alloc: Global, text: &[u8], token: Token) -> Result<(), Memory>
         requires { IsToken text.now token }
-        ensures { OnOk result (state_of self.new ≡ advance token.start (terminal text.now token) (stack_of self.old.stack.items) self.old.pieces.items) }
+        ensures { OnOk result (state_of self.new
+            ≡ advance token.start (terminal text.now token) (stack_of self.old.stack.items) self.old.pieces.items) }
     {
         while let Some(todo) = self.stack.pop() {
             match todo {
@@ -134,7 +136,8 @@ impl PieceReader {
         part: PiecePart,
     ) -> Result<bool, Memory>
         requires { IsToken text.now token }
-        ensures { IfOk result (λ begun. Acted (acts (part_of part) token.start (terminal text.now token)) self.old self.new begun) }
+        ensures { IfOk result (λ begun. Acted (acts (part_of part) token.start (terminal text.now token)) self.old
+            self.new begun) }
     {
         match part {
             PiecePart::Whole => self.begin_whole(alloc, text, token),
@@ -154,10 +157,11 @@ impl PieceReader {
         }
     }
 
-    // The same for a whole type.
+    // Reads the token as the first of a whole type, if it is one.
     fn begin_whole(&mut self, alloc: Global, text: &[u8], token: Token) -> Result<bool, Memory>
         requires { IsToken text.now token }
-        ensures { IfOk result (λ begun. Acted (acts (a whole) token.start (terminal text.now token)) self.old self.new begun) }
+        ensures { IfOk result (λ begun. Acted (acts (a whole) token.start (terminal text.now token)) self.old self.new
+            begun) }
     {
         if token.kind == Kind::WordRec {
             self.put([Todo::Read(PiecePart::Binder)])?;
@@ -171,10 +175,11 @@ impl PieceReader {
         self.begin_atom(alloc, text, token, row)
     }
 
-    // The same for the operands of `|`.
+    // Reads the token as the first of the operands of `|`, if it is one.
     fn begin_join(&mut self, alloc: Global, text: &[u8], token: Token) -> Result<bool, Memory>
         requires { IsToken text.now token }
-        ensures { IfOk result (λ begun. Acted (acts (a join) token.start (terminal text.now token)) self.old self.new begun) }
+        ensures { IfOk result (λ begun. Acted (acts (a join) token.start (terminal text.now token)) self.old self.new
+            begun) }
     {
         let row = [
             Todo::Read(PiecePart::JoinTail),
@@ -183,15 +188,16 @@ impl PieceReader {
         self.begin_atom(alloc, text, token, row)
     }
 
-    // The same for the operands of `&`.
+    // Reads the token as the first of the operands of `&`, if it is one.
     fn begin_meet(&mut self, alloc: Global, text: &[u8], token: Token) -> Result<bool, Memory>
         requires { IsToken text.now token }
-        ensures { IfOk result (λ begun. Acted (acts (a meet) token.start (terminal text.now token)) self.old self.new begun) }
+        ensures { IfOk result (λ begun. Acted (acts (a meet) token.start (terminal text.now token)) self.old self.new
+            begun) }
     {
         self.begin_atom(alloc, text, token, [Todo::Read(PiecePart::MeetTail)])
     }
 
-    // The same for an atom that this row follows, the next one last.
+    // Reads the token as the first of an atom, if it is one; this row follows the atom, the next one last.
     fn begin_atom<const N: usize>(
         &mut self,
         alloc: Global,
@@ -201,7 +207,8 @@ impl PieceReader {
     ) -> Result<bool, Memory>
         requires of_text { IsToken text.now token }
         requires short { N ≤ 5 }
-        ensures { IfOk result (λ begun. Acted (atom_acts (stack_of row.entry) token.start (terminal text.now token)) self.old self.new begun) }
+        ensures { IfOk result (λ begun. Acted (atom_acts (stack_of row.entry) token.start (terminal text.now token))
+            self.old self.new begun) }
     {
         match token.kind {
             Kind::Name => {
@@ -239,9 +246,10 @@ impl PieceReader {
         Ok(true)
     }
 
-    // The same for the codomain of a function.
+    // Reads the token as the first of the codomain of a function, if it is one.
     fn begin_codomain(&mut self, token: Token) -> Result<bool, Memory>
-        ensures { IfOk result (λ begun. (bytes : List ℕ) → Acted (acts (a codomain) token.start (terminal_of token.kind bytes)) self.old self.new begun) }
+        ensures { IfOk result (λ begun. (bytes : List ℕ)
+            → Acted (acts (a codomain) token.start (terminal_of token.kind bytes)) self.old self.new begun) }
     {
         if token.kind != Kind::Arrow {
             return Ok(false);
@@ -250,9 +258,10 @@ impl PieceReader {
         Ok(true)
     }
 
-    // The same for a further operand of `|`.
+    // Reads the token as the first of a further operand of `|`, if it is one.
     fn begin_join_tail(&mut self, token: Token) -> Result<bool, Memory>
-        ensures { IfOk result (λ begun. (bytes : List ℕ) → Acted (acts (a join_tail) token.start (terminal_of token.kind bytes)) self.old self.new begun) }
+        ensures { IfOk result (λ begun. (bytes : List ℕ)
+            → Acted (acts (a join_tail) token.start (terminal_of token.kind bytes)) self.old self.new begun) }
     {
         if token.kind != Kind::Bar {
             return Ok(false);
@@ -265,9 +274,10 @@ impl PieceReader {
         Ok(true)
     }
 
-    // The same for a further operand of `&`.
+    // Reads the token as the first of a further operand of `&`, if it is one.
     fn begin_meet_tail(&mut self, token: Token) -> Result<bool, Memory>
-        ensures { IfOk result (λ begun. (bytes : List ℕ) → Acted (acts (a meet_tail) token.start (terminal_of token.kind bytes)) self.old self.new begun) }
+        ensures { IfOk result (λ begun. (bytes : List ℕ)
+            → Acted (acts (a meet_tail) token.start (terminal_of token.kind bytes)) self.old self.new begun) }
     {
         if token.kind != Kind::Amp {
             return Ok(false);
@@ -280,10 +290,11 @@ impl PieceReader {
         Ok(true)
     }
 
-    // The same for what stands behind the opening brace of a record.
+    // Reads the token as the first of what stands behind the opening brace of a record, if it is one.
     fn begin_fields(&mut self, alloc: Global, text: &[u8], token: Token) -> Result<bool, Memory>
         requires { IsToken text.now token }
-        ensures { IfOk result (λ begun. Acted (acts (a fields) token.start (terminal text.now token)) self.old self.new begun) }
+        ensures { IfOk result (λ begun. Acted (acts (a fields) token.start (terminal text.now token)) self.old self.new
+            begun) }
     {
         if token.kind == Kind::BraceRight {
             self.pieces.push(Piece::Last)?;
@@ -292,9 +303,10 @@ impl PieceReader {
         self.begin_label(alloc, text, token)
     }
 
-    // The same for what stands behind a field.
+    // Reads the token as the first of what stands behind a field, if it is one.
     fn begin_more_fields(&mut self, token: Token) -> Result<bool, Memory>
-        ensures { IfOk result (λ begun. (bytes : List ℕ) → Acted (acts (a more_fields) token.start (terminal_of token.kind bytes)) self.old self.new begun) }
+        ensures { IfOk result (λ begun. (bytes : List ℕ)
+            → Acted (acts (a more_fields) token.start (terminal_of token.kind bytes)) self.old self.new begun) }
     {
         match token.kind {
             Kind::BraceRight => {
@@ -309,10 +321,11 @@ impl PieceReader {
         }
     }
 
-    // The same for the name behind `rec`.
+    // Reads the token as the name behind `rec`, if it is one.
     fn begin_binder(&mut self, alloc: Global, text: &[u8], token: Token) -> Result<bool, Memory>
         requires { IsToken text.now token }
-        ensures { IfOk result (λ begun. Acted (acts the_rec token.start (terminal text.now token)) self.old self.new begun) }
+        ensures { IfOk result (λ begun. Acted (acts the_rec token.start (terminal text.now token)) self.old self.new
+            begun) }
     {
         if token.kind != Kind::Name {
             return Ok(false);
@@ -326,10 +339,11 @@ impl PieceReader {
         Ok(true)
     }
 
-    // The same for the label of a field.
+    // Reads the token as the label of a field, if it is one.
     fn begin_label(&mut self, alloc: Global, text: &[u8], token: Token) -> Result<bool, Memory>
         requires { IsToken text.now token }
-        ensures { IfOk result (λ begun. Acted (acts the_field token.start (terminal text.now token)) self.old self.new begun) }
+        ensures { IfOk result (λ begun. Acted (acts the_field token.start (terminal text.now token)) self.old self.new
+            begun) }
     {
         if token.kind != Kind::Name {
             return Ok(false);

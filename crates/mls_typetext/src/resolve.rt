@@ -2,7 +2,9 @@
 ghost use Rattle.std.specs.Prelude.{◌≡◌, ◌≢◌, ◌^◌, ◌<◌, [], ◌∷◌, ◌++◌, Some, IfOk, IfErr, OnOk};
 ghost use Rattle.mls_typetext.specs.declared.piece.Piece.TheVariants as piece;
 ghost use Rattle.mls_typetext.specs.declared.resolve.NameTask.TheVariants as task;
-ghost use Rattle.mls_typetext.specs.steps.NameMachine.{whole_place, inside, domain, body, nothing_known, told, noted, naming, without_labels, with_label, fault_if, name_fault, name_item, notes, opened};
+ghost use Rattle.mls_typetext.specs.steps.NameMachine.{whole_place, inside, domain, body, nothing_known, told, noted};
+ghost use Rattle.mls_typetext.specs.steps.NameMachine.{naming, without_labels, with_label, fault_if, name_fault};
+ghost use Rattle.mls_typetext.specs.steps.NameMachine.{name_item, notes, opened};
 ghost use Rattle.mls_typetext.specs.steps.NameReaders.{tasks_of, known_of, GivesItems, GivesFault};
 
 use crate::piece::{Item, Piece};
@@ -154,7 +156,8 @@ fn fault_if(is_wrong: bool, fault: TypeFault) -> Option<TypeFault>
 impl NameReader {
     // At the end of a whole type.
     fn new(alloc: Global) -> Result<NameReader, Memory>
-        ensures { IfOk result (λ reader. (tasks_of reader ≡ task.Part whole_place ∷ []) × (known_of reader ≡ nothing_known)) }
+        ensures { IfOk result (λ reader. (tasks_of reader ≡ task.Part whole_place ∷ [])
+            × (known_of reader ≡ nothing_known)) }
     {
         let mut tasks = Vec::new(alloc);
         tasks.push(NameTask::Part(NamePlace::of_whole()))?;
@@ -171,8 +174,10 @@ impl NameReader {
     fn read(&mut self, piece: Piece, place: NamePlace) -> Result<(), Memory>
         requires guards { place.guards < 2 ^ 63 }
         requires depth { place.depth < 2 ^ 63 }
-        ensures tasks { OnOk result (tasks_of self.new ≡ (opened piece place (tasks_of self.old) (known_of self.old)).tasks) }
-        ensures known { OnOk result (known_of self.new ≡ (opened piece place (tasks_of self.old) (known_of self.old)).known) }
+        ensures tasks { OnOk result (tasks_of self.new
+            ≡ (opened piece place (tasks_of self.old) (known_of self.old)).tasks) }
+        ensures known { OnOk result (known_of self.new
+            ≡ (opened piece place (tasks_of self.old) (known_of self.old)).known) }
     {
         match piece {
             Piece::Name(at, name) => self.read_name(at, name, place),
@@ -205,7 +210,8 @@ impl NameReader {
     // Reads a name.
     fn read_name(&mut self, at: usize, name: Name, place: NamePlace) -> Result<(), Memory>
         ensures tasks { OnOk result (tasks_of self.new ≡ tasks_of self.old) }
-        ensures known { OnOk result (known_of self.new ≡ (opened (piece.Name at name) place (tasks_of self.old) (known_of self.old)).known) }
+        ensures known { OnOk result (known_of self.new
+            ≡ (opened (piece.Name at name) place (tasks_of self.old) (known_of self.old)).known) }
     {
         let meaning = self.recs.get(&name).copied();
         self.note(place.name_fault(at, meaning));
@@ -215,8 +221,10 @@ impl NameReader {
     // Reads a function: its codomain is behind its domain.
     fn read_arrow(&mut self, place: NamePlace) -> Result<(), Memory>
         requires { place.guards < 2 ^ 63 }
-        ensures tasks { OnOk result (tasks_of self.new ≡ task.Part (inside place) ∷ task.Part (domain place) ∷ tasks_of self.old) }
-        ensures known { OnOk result (known_of self.new ≡ (opened piece.Arrow place (tasks_of self.old) (known_of self.old)).known) }
+        ensures tasks { OnOk result (tasks_of self.new ≡ task.Part (inside place) ∷ task.Part (domain place)
+            ∷ tasks_of self.old) }
+        ensures known { OnOk result (known_of self.new
+            ≡ (opened piece.Arrow place (tasks_of self.old) (known_of self.old)).known) }
     {
         self.plan(NameTask::Part(place.domain()))?;
         self.plan(NameTask::Part(place.inside()))?;
@@ -230,7 +238,8 @@ impl NameReader {
         fault: Option<TypeFault>,
         place: NamePlace,
     ) -> Result<(), Memory>
-        ensures tasks { OnOk result (tasks_of self.new ≡ task.Part place ∷ notes fault ++ task.Part place ∷ tasks_of self.old) }
+        ensures tasks { OnOk result (tasks_of self.new ≡ task.Part place ∷ notes fault ++ task.Part place
+            ∷ tasks_of self.old) }
         ensures known { OnOk result (known_of self.new ≡ told item (known_of self.old)) }
     {
         self.plan(NameTask::Part(place))?;
@@ -242,8 +251,10 @@ impl NameReader {
     // Reads a `rec`: in its body the name means the body.
     fn read_rec(&mut self, name: Name, place: NamePlace) -> Result<(), Memory>
         requires { place.depth < 2 ^ 63 }
-        ensures tasks { OnOk result (tasks_of self.new ≡ (opened (piece.Rec name) place (tasks_of self.old) (known_of self.old)).tasks) }
-        ensures known { OnOk result (known_of self.new ≡ (opened (piece.Rec name) place (tasks_of self.old) (known_of self.old)).known) }
+        ensures tasks { OnOk result (tasks_of self.new
+            ≡ (opened (piece.Rec name) place (tasks_of self.old) (known_of self.old)).tasks) }
+        ensures known { OnOk result (known_of self.new
+            ≡ (opened (piece.Rec name) place (tasks_of self.old) (known_of self.old)).known) }
     {
         let body = place.body();
         let outer = self.bind(name.clone()?, body)?;
@@ -256,7 +267,8 @@ impl NameReader {
     fn read_record(&mut self, place: NamePlace) -> Result<(), Memory>
         requires { place.guards < 2 ^ 63 }
         ensures tasks { OnOk result (tasks_of self.new ≡ task.Part (inside place) ∷ tasks_of self.old) }
-        ensures known { OnOk result (known_of self.new ≡ (opened piece.Record place (tasks_of self.old) (known_of self.old)).known) }
+        ensures known { OnOk result (known_of self.new
+            ≡ (opened piece.Record place (tasks_of self.old) (known_of self.old)).known) }
     {
         self.forget_labels();
         self.plan(NameTask::Part(place.inside()))?;
@@ -265,8 +277,10 @@ impl NameReader {
 
     // Reads a field: the fields behind it stand behind its type, and its own fault before its type.
     fn read_field(&mut self, at: usize, label: Name, place: NamePlace) -> Result<(), Memory>
-        ensures tasks { OnOk result (tasks_of self.new ≡ (opened (piece.Field at label) place (tasks_of self.old) (known_of self.old)).tasks) }
-        ensures known { OnOk result (known_of self.new ≡ (opened (piece.Field at label) place (tasks_of self.old) (known_of self.old)).known) }
+        ensures tasks { OnOk result (tasks_of self.new
+            ≡ (opened (piece.Field at label) place (tasks_of self.old) (known_of self.old)).tasks) }
+        ensures known { OnOk result (known_of self.new
+            ≡ (opened (piece.Field at label) place (tasks_of self.old) (known_of self.old)).known) }
     {
         let is_double = self.add_label(label.clone()?)?;
         self.plan_note(fault_if(is_double, TypeFault::DuplicateLabel(at)))?;

@@ -1,5 +1,6 @@
--- A machine that reads a list by a stack of the parts that are still to come, where the next element decides what a part takes.
--- It is stated over any elements T and any sorts of parts S, so that it serves each grammar with one element of look-ahead:
+-- A machine that reads a list by a stack of the parts that are still to come, where the next element decides what a
+-- part takes. It is stated over any elements T and any sorts of parts S, so that it serves each grammar with one
+-- element of look-ahead:
 --     opens s t      what a part of sort s leaves to come behind the element t, where it can begin with t
 --     may_end s      whether a part of sort s may be empty
 use Rattle.std.specs.Prelude.{Bool, true, false, List, [], ◌∷◌, ◌++◌, Option, Some, None}

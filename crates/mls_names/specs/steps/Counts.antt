@@ -17,7 +17,12 @@ is_let_form _ = false
 
 -- how many are among these nodes
 abbrev pub count_of : List ExprNode → Count
-count_of nodes = record { binders = count_by (λ node. is_binder_form node.form) nodes; lets = count_by (λ node. is_let_form node.form) nodes }
+count_of nodes =
+    record {
+      binders = count_by (λ node. is_binder_form node.form) nodes;
+      lets =
+          count_by (λ node. is_let_form node.form) nodes;
+    }
 
 -- how many stand before node k
 abbrev pub count_at : List Count → ℕ → Count

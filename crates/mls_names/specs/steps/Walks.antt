@@ -1,5 +1,7 @@
--- How the nodes of an expression are read from the last one to the first, so that a node comes before its parts, and a later part before an earlier one.
-use Rattle.std.specs.Prelude.{◌≡◌, ℕ, ◌+◌, ◌<◌, false, cond, List, [], ◌∷◌, ◌++◌, reverse, All, bytes_eq, Option, Some, None, option_map, unwrap_or, slice_get}
+-- How the nodes of an expression are read from the last one to the first, so that a node comes before its parts, and a
+-- later part before an earlier one.
+use Rattle.std.specs.Prelude.{◌≡◌, ℕ, ◌+◌, ◌<◌, false, cond, List, [], ◌∷◌, ◌++◌, reverse, All, bytes_eq, Option, Some}
+use Rattle.std.specs.Prelude.{None, option_map, unwrap_or, slice_get}
 use Rattle.indexmap.specs.IndexMap.{IndexMap, get}
 use Rattle.mls_names.specs.declared.counts.Count.{Count}
 use Rattle.mls_grammar.specs.declared.module.ExprNode.{ExprNode}
@@ -20,7 +22,8 @@ use Rattle.mls_grammar.specs.declared.fault.Fault.{Fault}
 use Rattle.mls_grammar.specs.Trees.{Tree}
 use Rattle.mls_grammar.specs.Trees as tree
 use Rattle.mls_term.specs.Terms.{postorder}
-use Rattle.mls_names.specs.Resolution.{Meant, binder, let_number, scheme, Scope, meant_by, operator_number, unknowns, names_of}
+use Rattle.mls_names.specs.Resolution.{Meant, binder, let_number, scheme, Scope, meant_by, operator_number, unknowns}
+use Rattle.mls_names.specs.Resolution.{names_of}
 use Rattle.mls_names.specs.steps.Counts.{count_at}
 use Rattle.mls_names.specs.steps.Meanings.{resolved, term_of, IsFirstOf}
 
@@ -35,7 +38,8 @@ after s root = record s { first = root + 1 }
 
 -- the numbers that the next binder and the next let of a part have
 abbrev pub next_numbers : List Count → Stretch → Count
-next_numbers counts s = record { binders = (count_at counts s.first).binders + s.binders; lets = (count_at counts s.first).lets + s.lets }
+next_numbers counts s =
+    record { binders = (count_at counts s.first).binders + s.binders; lets = (count_at counts s.first).lets + s.lets }
 
 -- what the use of a name becomes
 abbrev pub use_form : Meant → TermForm
@@ -60,22 +64,28 @@ form_in scope next (form.Rec x body) = Some (term.Rec next.binders body)
 -- the parts of a record wait, the last one first
 abbrev pub fields_waiting : Scope → Stretch → List Part → List Waiting → List Waiting
 fields_waiting scope s [] ws = ws
-fields_waiting scope s (part ∷ parts) ws = fields_waiting scope (after s part.child) parts (record { scope = scope; stretch = s } ∷ ws)
+fields_waiting scope s (part ∷ parts) ws =
+    fields_waiting scope (after s part.child) parts (record { scope = scope; stretch = s } ∷ ws)
 
 -- the parts of a let wait, the second one first, where alone the name means the let
 abbrev pub let_waiting : Scope → Stretch → Count → List ℕ → ℕ → List Waiting → List Waiting
 let_waiting scope s next x e ws =
     let inside : Stretch = record s { lets = s.lets + 1 } in
-    record { scope = (x, let_number next.lets) ∷ scope; stretch = after inside e } ∷ record { scope = scope; stretch = inside } ∷ ws
+    record { scope = (x, let_number next.lets) ∷ scope; stretch = after inside e }
+    ∷ record { scope = scope; stretch = inside } ∷ ws
 
 -- the parts of a node wait, the last one first
 abbrev pub parts_waiting : Scope → Stretch → Count → Form → List Waiting → List Waiting
-parts_waiting scope s next (form.Fun x body) ws = record { scope = (x, binder next.binders) ∷ scope; stretch = record s { binders = s.binders + 1 } } ∷ ws
-parts_waiting scope s next (form.Rec x body) ws = record { scope = (x, binder next.binders) ∷ scope; stretch = record s { binders = s.binders + 1 } } ∷ ws
+parts_waiting scope s next (form.Fun x body) ws =
+    record { scope = (x, binder next.binders) ∷ scope; stretch = record s { binders = s.binders + 1 } } ∷ ws
+parts_waiting scope s next (form.Rec x body) ws =
+    record { scope = (x, binder next.binders) ∷ scope; stretch = record s { binders = s.binders + 1 } } ∷ ws
 parts_waiting scope s next (form.Let x e f) ws = let_waiting scope s next x e ws
 parts_waiting scope s next (form.If c e f) ws =
-    record { scope = scope; stretch = after s e } ∷ record { scope = scope; stretch = after s c } ∷ record { scope = scope; stretch = s } ∷ ws
-parts_waiting scope s next (form.Apply f a) ws = record { scope = scope; stretch = after s f } ∷ record { scope = scope; stretch = s } ∷ ws
+    record { scope = scope; stretch = after s e } ∷ record { scope = scope; stretch = after s c }
+    ∷ record { scope = scope; stretch = s } ∷ ws
+parts_waiting scope s next (form.Apply f a) ws =
+    record { scope = scope; stretch = after s f } ∷ record { scope = scope; stretch = s } ∷ ws
 parts_waiting scope s next (form.Make parts) ws = fields_waiting scope s parts ws
 parts_waiting scope s next (form.Project e label) ws = record { scope = scope; stretch = s } ∷ ws
 parts_waiting scope s next _ ws = ws
@@ -151,11 +161,13 @@ with_meaning look x m y = cond (bytes_eq x y) m (look y)
 abbrev pub Agrees : (List ℕ → Option Meant) → Scope → Type 0
 Agrees look scope = (x : List ℕ) → look x ≡ meant_by scope x
 
--- when these tasks, the next one first, are done, these parts have been read, each in its scope, and names mean what they mean outside
+-- when these tasks, the next one first, are done, these parts have been read, each in its scope, and names mean what
+-- they mean outside
 abbrev pub Waits : Scope → List Task → (List ℕ → Option Meant) → List Waiting → Type 0
 Waits outside [] look ws = (ws ≡ []) × Agrees look outside
 Waits outside (task.Read s ∷ tasks) look ws =
-    (scope : Scope) × (rest : List Waiting) × (ws ≡ record { scope = scope; stretch = s } ∷ rest) × Agrees look scope × Waits outside tasks look rest
+    (scope : Scope) × (rest : List Waiting) × (ws ≡ record { scope = scope; stretch = s } ∷ rest) × Agrees look scope
+    × Waits outside tasks look rest
 Waits outside (task.Restore x m ∷ tasks) look ws = Waits outside tasks (with_meaning look x (option_map meant_of m)) ws
 
 -- these parts wait
@@ -172,37 +184,53 @@ IsReady r scope = (r.tasks.items ≡ []) × Knows r scope
 
 -- a part is left to be read in the present scope
 abbrev pub Pushes : (old new : Resolver) → Stretch → Type 0
-Pushes old new s = (outside scope : Scope) (ws : List Waiting) → HasWaiting outside old ws → Knows old scope → HasWaiting outside new (record { scope = scope; stretch = s } ∷ ws) × Knows new scope
+Pushes old new s =
+    (outside scope : Scope) (ws : List Waiting) → HasWaiting outside old ws → Knows old scope
+    → HasWaiting outside new (record { scope = scope; stretch = s } ∷ ws) × Knows new scope
 
 -- a name has this meaning from now on, until what is left to do above it is done
 abbrev pub Binds : (old new : Resolver) → List ℕ → Meaning → Type 0
-Binds old new x m = (outside scope : Scope) (ws : List Waiting) → HasWaiting outside old ws → Knows old scope → HasWaiting outside new ws × Knows new ((x, meant_of m) ∷ scope)
+Binds old new x m =
+    (outside scope : Scope) (ws : List Waiting) → HasWaiting outside old ws → Knows old scope
+    → HasWaiting outside new ws × Knows new ((x, meant_of m) ∷ scope)
 
 -- the parts of a node are left to be read: of any node, of a function or a recursion, of a let, and of a record
 abbrev pub Enters : (old new : Resolver) → Stretch → Count → Form → Type 0
-Enters old new s next f = (outside scope : Scope) (ws : List Waiting) → HasWaiting outside old ws → Knows old scope → HasWaiting outside new (parts_waiting scope s next f ws)
+Enters old new s next f =
+    (outside scope : Scope) (ws : List Waiting) → HasWaiting outside old ws → Knows old scope
+    → HasWaiting outside new (parts_waiting scope s next f ws)
 
 abbrev pub EntersBinder : (old new : Resolver) → Stretch → Count → List ℕ → Type 0
 EntersBinder old new s next x =
     (outside scope : Scope) (ws : List Waiting) → HasWaiting outside old ws → Knows old scope
-    → HasWaiting outside new (record { scope = (x, binder next.binders) ∷ scope; stretch = record s { binders = s.binders + 1 } } ∷ ws)
+    → HasWaiting outside new (record {
+      scope = (x, binder next.binders)
+          ∷ scope;
+      stretch = record s { binders = s.binders + 1 };
+    } ∷ ws)
 
 abbrev pub EntersLet : (old new : Resolver) → Stretch → Count → List ℕ → ℕ → Type 0
 EntersLet old new s next x e =
-    (outside scope : Scope) (ws : List Waiting) → HasWaiting outside old ws → Knows old scope → HasWaiting outside new (let_waiting scope s next x e ws)
+    (outside scope : Scope) (ws : List Waiting) → HasWaiting outside old ws → Knows old scope
+    → HasWaiting outside new (let_waiting scope s next x e ws)
 
 abbrev pub EntersFields : (old new : Resolver) → Stretch → List Part → Type 0
 EntersFields old new s parts =
-    (outside scope : Scope) (ws : List Waiting) → HasWaiting outside old ws → Knows old scope → HasWaiting outside new (fields_waiting scope s parts ws)
+    (outside scope : Scope) (ws : List Waiting) → HasWaiting outside old ws → Knows old scope
+    → HasWaiting outside new (fields_waiting scope s parts ws)
 
 -- a name means again what it meant outside
 abbrev pub Restores : (old new : Resolver) → List ℕ → Option Meaning → Type 0
-Restores old new x m = (new.tasks ≡ old.tasks) × ((y : List ℕ) → meant_now new.meanings y ≡ with_meaning (meant_now old.meanings) x (option_map meant_of m) y)
+Restores old new x m =
+    (new.tasks ≡ old.tasks) × ((y : List ℕ) → meant_now new.meanings y
+    ≡ with_meaning (meant_now old.meanings) x (option_map meant_of m) y)
 
 -- the next part was taken, or there is none
 abbrev pub IsNext : Scope → Resolver → List Waiting → Option Stretch → Type 0
 IsNext outside new ws None = (ws ≡ []) × IsReady new outside
-IsNext outside new ws (Some s) = (scope : Scope) × (rest : List Waiting) × (ws ≡ record { scope = scope; stretch = s } ∷ rest) × Knows new scope × HasWaiting outside new rest
+IsNext outside new ws (Some s) =
+    (scope : Scope) × (rest : List Waiting) × (ws ≡ record { scope = scope; stretch = s } ∷ rest) × Knows new scope
+    × HasWaiting outside new rest
 
 abbrev pub Takes : (old new : Resolver) → Option Stretch → Type 0
 Takes old new next = (outside : Scope) (ws : List Waiting) → HasWaiting outside old ws → IsNext outside new ws next
@@ -222,23 +250,30 @@ abbrev pub HasWithin : ℕ → Resolver → Type 0
 HasWithin n r = (outside : Scope) × (ws : List Waiting) × HasWaiting outside r ws × AreWithin n ws
 
 -- a node is read
-abbrev pub ReadsNode : List Count → ExprNode → (old new : Resolver) → (before behind : List TermNode) → (unknown first : Option ℕ) → Type 0
-ReadsNode counts node old new before behind unknown first = (outside : Scope) (w : Walk) → IsAt outside old before unknown w → IsAt outside new behind first (step counts node w.waiting w)
+abbrev pub ReadsNode : List Count → ExprNode → (old new : Resolver) → (before behind : List TermNode)
+    → (unknown first : Option ℕ) → Type 0
+ReadsNode counts node old new before behind unknown first =
+    (outside : Scope) (w : Walk) → IsAt outside old before unknown w
+    → IsAt outside new behind first (step counts node w.waiting w)
 
 -- all nodes of a tree are read
 abbrev pub ReadsNodes : List ExprNode → (old new : Resolver) → (before behind : List TermNode) → Option ℕ → Type 0
 ReadsNodes nodes old new before behind unknown =
     (scope : Scope) (t : Tree) → nodes ≡ tree.postorder 0 t → IsReady old scope
-    → (behind ≡ before ++ reverse (postorder 0 (resolved scope 0 0 t))) × (unknown ≡ slice_get (unknowns (names_of scope) t) 0) × IsReady new scope
+    → (behind ≡ before ++ reverse (postorder 0 (resolved scope 0 0 t)))
+    × (unknown ≡ slice_get (unknowns (names_of scope) t) 0) × IsReady new scope
 
 -- the nodes of a tree without unknown names have this term
 abbrev pub HasTerm : (old new : Resolver) → List ExprNode → Term → Type 0
 HasTerm old new nodes term =
-    (scope : Scope) (t : Tree) → nodes ≡ tree.postorder 0 t → IsReady old scope → (term ≡ term_of scope t) × (unknowns (names_of scope) t ≡ []) × IsReady new scope
+    (scope : Scope) (t : Tree) → nodes ≡ tree.postorder 0 t → IsReady old scope → (term ≡ term_of scope t)
+    × (unknowns (names_of scope) t ≡ []) × IsReady new scope
 
 -- the first unknown name of the nodes of a tree
 abbrev pub HasUnknown : Resolver → List ExprNode → Fault → Type 0
-HasUnknown old nodes fault = (scope : Scope) (t : Tree) → nodes ≡ tree.postorder 0 t → IsReady old scope → IsFirstOf (unknowns (names_of scope) t) fault
+HasUnknown old nodes fault =
+    (scope : Scope) (t : Tree) → nodes ≡ tree.postorder 0 t → IsReady old scope
+    → IsFirstOf (unknowns (names_of scope) t) fault
 
 -- some scope says what names mean, and nothing is left to do
 abbrev pub IsIdle : Resolver → Type 0

@@ -1,4 +1,5 @@
--- The machine that puts the pieces of a module into the order of the nodes. It reads them and tells them from the last to the first.
+-- The machine that puts the pieces of a module into the order of the nodes. It reads them and tells them from the last
+-- to the first.
 use Rattle.std.specs.Prelude.{ℕ, zero, suc, List, [], ◌∷◌, ◌++◌}
 use Rattle.mls_reader.specs.declared.piece.Piece.{Piece}
 use Rattle.mls_reader.specs.declared.piece.Piece.TheVariants as piece

@@ -8,12 +8,14 @@ use Rattle.mls_reader.specs.declared.piece.Event.{Event}
 use Rattle.mls_reader.specs.declared.piece.Event.TheVariants as event
 use Rattle.mls_grammar.specs.Doubles.{if_seen}
 
--- the faults of the names and labels that are given, where these modules are imported, these names bound, and these labels given by the records
--- that are open, the innermost first
+-- the faults of the names and labels that are given, where these modules are imported, these names bound, and these
+-- labels given by the records that are open, the innermost first
 abbrev pub doubles_in : (imports bindings : List (List ℕ)) (records : List (List (List ℕ))) → List Event → List Fault
 doubles_in imports bindings records [] = []
-doubles_in imports bindings records (event.Import at x ∷ es) = if_seen imports x (DuplicateImport at) ++ doubles_in (x ∷ imports) bindings records es
-doubles_in imports bindings records (event.Binding at x ∷ es) = if_seen bindings x (DuplicateBinding at) ++ doubles_in imports (x ∷ bindings) records es
+doubles_in imports bindings records (event.Import at x ∷ es) =
+    if_seen imports x (DuplicateImport at) ++ doubles_in (x ∷ imports) bindings records es
+doubles_in imports bindings records (event.Binding at x ∷ es) =
+    if_seen bindings x (DuplicateBinding at) ++ doubles_in imports (x ∷ bindings) records es
 doubles_in imports bindings records (event.Open ∷ es) = doubles_in imports bindings ([] ∷ records) es
 doubles_in imports bindings [] (event.Label at x ∷ es) = doubles_in imports bindings [] es
 doubles_in imports bindings (labels ∷ records) (event.Label at x ∷ es) =
@@ -39,4 +41,5 @@ fault_unless false fault = Some fault
 -- a label was added to the innermost record that is open, where it is new or not
 abbrev pub AddsLabel : List ℕ → (old new : List (List (List ℕ))) → Bool → Type 0
 AddsLabel x [] new fresh = (new ≡ []) × (fresh ≡ true)
-AddsLabel x (labels ∷ records) new fresh = (new ≡ insert_key bytes_eq labels x ∷ records) × (fresh ≡ not (list_any (bytes_eq x) labels))
+AddsLabel x (labels ∷ records) new fresh =
+    (new ≡ insert_key bytes_eq labels x ∷ records) × (fresh ≡ not (list_any (bytes_eq x) labels))

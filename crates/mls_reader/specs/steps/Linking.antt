@@ -10,8 +10,9 @@ use Rattle.mls_term.specs.declared.term.Part.{Part}
 use Rattle.mls_reader.specs.declared.piece.Piece.{Piece}
 use Rattle.mls_reader.specs.declared.piece.Piece.TheVariants as piece
 
--- What the pieces so far have made: the nodes of the binding that is read, the roots of the expressions that belong to no other,
--- the newest first, and the parts of the records that are still to be made, the innermost record first and each from its last part to its first.
+-- What the pieces so far have made: the nodes of the binding that is read, the roots of the expressions that belong to
+-- no other, the newest first, and the parts of the records that are still to be made, the innermost record first and
+-- each from its last part to its first.
 pub record Linked : Type 0 where
   pub imports : List Import
   pub bindings : List Binding
@@ -69,7 +70,12 @@ with_import import s = record s { imports = s.imports ++ import ∷ [] }
 
 -- the nodes so far are a binding
 abbrev pub with_binding : ℕ → List ℕ → Linked → Linked
-with_binding at x s = record s { bindings = s.bindings ++ record { name = x; at = at; expr = record { nodes = s.nodes } } ∷ []; nodes = [] }
+with_binding at x s =
+    record s {
+      bindings = s.bindings ++ record { name = x; at = at; expr = record { nodes = s.nodes } }
+          ∷ [];
+      nodes = [];
+    }
 
 -- what a piece makes of them
 abbrev pub joined : Piece → Linked → Linked

@@ -1,16 +1,19 @@
--- A machine that reads a module from left to right by a stack of what is still to come and still to tell, and tells its pieces.
+-- A machine that reads a module from left to right by a stack of what is still to come and still to tell, and tells its
+-- pieces.
 use Rattle.std.specs.Prelude.{ℕ, suc, true, false, List, [], ◌∷◌, ◌++◌, Option, Some, None}
 use Rattle.mls_lexer.specs.declared.token.Kind.TheVariants as kind
 use Rattle.mls_lexer.specs.Tokens.{Terminal, name, number, word}
 use Rattle.mls_grammar.specs.declared.module.Op.TheVariants as op
-use Rattle.mls_grammar.specs.Phrases.{Sort, source, imports, bindings, bind_rest, expr, let_rest, compare_tail, sum, sum_tail, product, product_tail, apply, arguments, post, dots, atom, parts, more_parts}
+use Rattle.mls_grammar.specs.Phrases.{Sort, source, imports, bindings, bind_rest, expr, let_rest, compare_tail, sum}
+use Rattle.mls_grammar.specs.Phrases.{sum_tail, product, product_tail, apply, arguments, post, dots, atom, parts}
+use Rattle.mls_grammar.specs.Phrases.{more_parts}
 use Rattle.mls_reader.specs.declared.piece.Piece.{Piece}
 use Rattle.mls_reader.specs.declared.piece.Piece.TheVariants as piece
 use Rattle.mls_reader.specs.declared.piece.Event.{Event}
 use Rattle.mls_reader.specs.declared.piece.Event.TheVariants as event
 
--- A part of the grammar that is still to come, with the nesting of the nearest expression around it, or a piece that is told once what stands before it is over.
--- Where a place is given it is that of the word with which the part began.
+-- A part of the grammar that is still to come, with the nesting of the nearest expression around it, or a piece that is
+-- told once what stands before it is over. Where a place is given it is that of the word with which the part began.
 pub data Todo : Type 0 where
   a : (around : ℕ) → Sort → Todo
   -- further arguments of the application that stands at the place, and what follows the `let` that stands there
@@ -72,12 +75,15 @@ bindings_acts n (word kind.WordLet) = act (a n bind_rest ∷ []) [] []
 bindings_acts n _ = None
 
 abbrev pub bind_rest_acts : (around at : ℕ) → Terminal → Option Act
-bind_rest_acts n at (name x) = act (the_equals ∷ a n expr ∷ tell (piece.Binding at x) ∷ a n bindings ∷ []) [] (event.Binding at x ∷ [])
+bind_rest_acts n at (name x) =
+    act (the_equals ∷ a n expr ∷ tell (piece.Binding at x) ∷ a n bindings ∷ []) [] (event.Binding at x ∷ [])
 bind_rest_acts n at (word kind.WordRec) = act (the_binding n at ∷ []) [] []
 bind_rest_acts n at _ = None
 
 abbrev pub binding_acts : (around rec_at at : ℕ) → Terminal → Option Act
-binding_acts n rec_at at (name x) = act (the_equals ∷ a n expr ∷ tell (piece.Rec rec_at x) ∷ tell (piece.Binding at x) ∷ a n bindings ∷ []) [] (event.Binding at x ∷ [])
+binding_acts n rec_at at (name x) =
+    act (the_equals ∷ a n expr ∷ tell (piece.Rec rec_at x) ∷ tell (piece.Binding at x) ∷ a n bindings ∷ []) []
+    (event.Binding at x ∷ [])
 binding_acts n rec_at at _ = None
 
 -- an expression in which this many others are, itself among them
@@ -85,7 +91,8 @@ abbrev pub expr_acts : (depth at : ℕ) → Terminal → Option Act
 expr_acts m at (word kind.WordFun) = act (the_fun m at ∷ []) [] []
 expr_acts m at (word kind.WordRec) = act (the_fix m at ∷ []) [] []
 expr_acts m at (word kind.WordLet) = act (let_of m at ∷ []) [] []
-expr_acts m at (word kind.WordIf) = act (a m expr ∷ the_then ∷ a m expr ∷ the_else ∷ a m expr ∷ tell (piece.If at) ∷ []) [] []
+expr_acts m at (word kind.WordIf) =
+    act (a m expr ∷ the_then ∷ a m expr ∷ the_else ∷ a m expr ∷ tell (piece.If at) ∷ []) [] []
 expr_acts m at t = atom_acts m (compare_row m at) at t
 
 abbrev pub fun_acts : (around fun_at : ℕ) → Terminal → Option Act
@@ -102,7 +109,8 @@ let_acts n let_at at (word kind.WordRec) = act (the_local n let_at at ∷ []) []
 let_acts n let_at at _ = None
 
 abbrev pub local_acts : (around let_at rec_at : ℕ) → Terminal → Option Act
-local_acts n let_at rec_at (name x) = act (the_equals ∷ a n expr ∷ tell (piece.Rec rec_at x) ∷ the_in ∷ a n expr ∷ tell (piece.Let let_at x) ∷ []) [] []
+local_acts n let_at rec_at (name x) =
+    act (the_equals ∷ a n expr ∷ tell (piece.Rec rec_at x) ∷ the_in ∷ a n expr ∷ tell (piece.Let let_at x) ∷ []) [] []
 local_acts n let_at rec_at _ = None
 
 abbrev pub compare_tail_acts : (around at : ℕ) → Terminal → Option Act
@@ -116,7 +124,8 @@ sum_tail_acts n at (word kind.Minus) = act (a n product ∷ tell (piece.Binary a
 sum_tail_acts n at _ = None
 
 abbrev pub product_tail_acts : (around at : ℕ) → Terminal → Option Act
-product_tail_acts n at (word kind.Star) = act (a n apply ∷ tell (piece.Binary at op.Times) ∷ a n product_tail ∷ []) [] []
+product_tail_acts n at (word kind.Star) =
+    act (a n apply ∷ tell (piece.Binary at op.Times) ∷ a n product_tail ∷ []) [] []
 product_tail_acts n at _ = None
 
 abbrev pub dots_acts : (around : ℕ) → Terminal → Option Act
@@ -129,7 +138,8 @@ label_acts at _ = None
 
 abbrev pub parts_acts : (around at : ℕ) → Terminal → Option Act
 parts_acts n at (word kind.BraceRight) = act [] (piece.Last ∷ []) (event.Close ∷ [])
-parts_acts n at (name x) = act (the_equals ∷ a n expr ∷ a n more_parts ∷ tell (piece.Field x) ∷ []) [] (event.Label at x ∷ [])
+parts_acts n at (name x) =
+    act (the_equals ∷ a n expr ∷ a n more_parts ∷ tell (piece.Field x) ∷ []) [] (event.Label at x ∷ [])
 parts_acts n at _ = None
 
 abbrev pub more_parts_acts : (around : ℕ) → Terminal → Option Act
@@ -138,7 +148,8 @@ more_parts_acts n (word kind.Comma) = act (the_part n ∷ []) [] []
 more_parts_acts n _ = None
 
 abbrev pub part_acts : (around at : ℕ) → Terminal → Option Act
-part_acts n at (name x) = act (the_equals ∷ a n expr ∷ a n more_parts ∷ tell (piece.Field x) ∷ []) [] (event.Label at x ∷ [])
+part_acts n at (name x) =
+    act (the_equals ∷ a n expr ∷ a n more_parts ∷ tell (piece.Field x) ∷ []) [] (event.Label at x ∷ [])
 part_acts n at _ = None
 
 abbrev pub equals_acts : Terminal → Option Act
@@ -185,7 +196,8 @@ acts (a n dots) at t = dots_acts n t
 acts (a n atom) at t = atom_acts n [] at t
 acts (a n parts) at t = parts_acts n at t
 acts (a n more_parts) at t = more_parts_acts n t
-acts (arguments_of n apply_at) at t = atom_acts n (a n dots ∷ tell (piece.Apply apply_at) ∷ arguments_of n apply_at ∷ []) at t
+acts (arguments_of n apply_at) at t =
+    atom_acts n (a n dots ∷ tell (piece.Apply apply_at) ∷ arguments_of n apply_at ∷ []) at t
 acts (let_of n let_at) at t = let_acts n let_at at t
 acts the_import at t = import_acts at t
 acts (the_binding n rec_at) at t = binding_acts n rec_at at t

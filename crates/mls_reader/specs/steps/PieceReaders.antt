@@ -13,11 +13,13 @@ use Rattle.mls_reader.specs.declared.todo.Todo.{Todo as Kept}
 use Rattle.mls_reader.specs.declared.read.ModuleReader.{ModuleReader}
 use Rattle.mls_grammar.specs.Phrases.{Phrase, source, expr, yields, nesting}
 use Rattle.mls_reader.specs.steps.Todos.{stack_of, may_be_empty}
-use Rattle.mls_reader.specs.steps.PieceMachine.{Todo, a, the_then, the_else, tell, Act, acts, State, advance, build, last_told, beginning}
+use Rattle.mls_reader.specs.steps.PieceMachine.{Todo, a, the_then, the_else, tell, Act, acts, State, advance, build}
+use Rattle.mls_reader.specs.steps.PieceMachine.{last_told, beginning}
 
 -- a reader as the state of the machine
 abbrev pub state_of : ModuleReader → State
-state_of reader = record { stack = stack_of reader.stack.items; told = reader.pieces.items; heard = reader.events.items }
+state_of reader =
+    record { stack = stack_of reader.stack.items; told = reader.pieces.items; heard = reader.events.items }
 
 -- a reader before the first token
 pub record IsNew (reader : ModuleReader) : Type 0 where
@@ -87,7 +89,8 @@ reached (Some it) empty n later = Some n
 reached None true n later = later
 reached None false n later = None
 
--- the nesting of the expression that begins at a terminal, and 0 where none begins there; none where the terminal cannot come
+-- the nesting of the expression that begins at a terminal, and 0 where none begins there; none where the terminal
+-- cannot come
 abbrev pub mark : (at : ℕ) → Terminal → List Todo → Option ℕ
 mark at t [] = None
 mark at t (todo ∷ st) = reached (acts todo at t) (may_be_empty todo) (own todo) (mark at t st)
@@ -99,7 +102,8 @@ told_by _ = []
 
 -- what was to do did its act, or is over
 abbrev pub Tried : (text : List ℕ) (token : Token) → Todo → (old new : ModuleReader) → Bool → Type 0
-Tried text token todo old new true = (it : Act) × (acts todo token.start (terminal text token) ≡ Some it) × Did it old new × (own todo ≢ 201)
+Tried text token todo old new true =
+    (it : Act) × (acts todo token.start (terminal text token) ≡ Some it) × Did it old new × (own todo ≢ 201)
 Tried text token todo old new false =
     (acts todo token.start (terminal text token) ≡ None)
     × (may_be_empty todo ≡ true)
@@ -109,20 +113,25 @@ Tried text token todo old new false =
 
 -- why what was to do can neither do its act nor be over
 pub data Refused (text : List ℕ) (token : Token) (todo : Todo) : Fault → Type 0 where
-  is_owed : acts todo token.start (terminal text token) ≡ None → may_be_empty todo ≡ false → Refused text token todo (Unexpected token.start token.kind)
-  is_too_deep : (it : Act) → acts todo token.start (terminal text token) ≡ Some it → own todo ≡ 201 → Refused text token todo (TooDeep token.start)
+  is_owed : acts todo token.start (terminal text token) ≡ None → may_be_empty todo ≡ false
+      → Refused text token todo (Unexpected token.start token.kind)
+  is_too_deep : (it : Act) → acts todo token.start (terminal text token) ≡ Some it → own todo ≡ 201
+      → Refused text token todo (TooDeep token.start)
 
 -- the token was read, and no expression begins with it that is nested too deep
 pub record Went (text : List ℕ) (token : Token) (old new : ModuleReader) : Type 0 where
   pub nesting : ℕ
   pub there : mark token.start (terminal text token) (stack_of old.stack.items) ≡ Some nesting
   pub shallow : nesting ≢ 201
-  pub state : state_of new ≡ advance token.start (terminal text token) (stack_of old.stack.items) old.pieces.items old.events.items
+  pub state : state_of new ≡ advance token.start (terminal text token)
+      (stack_of old.stack.items) old.pieces.items old.events.items
 
 -- why a token was not read
 pub data Stopped (text : List ℕ) (token : Token) (old : ModuleReader) : Fault → Type 0 where
-  stuck : mark token.start (terminal text token) (stack_of old.stack.items) ≡ None → Stopped text token old (Unexpected token.start token.kind)
-  deep : mark token.start (terminal text token) (stack_of old.stack.items) ≡ Some 201 → Stopped text token old (TooDeep token.start)
+  stuck : mark token.start (terminal text token) (stack_of old.stack.items) ≡ None
+      → Stopped text token old (Unexpected token.start token.kind)
+  deep : mark token.start (terminal text token) (stack_of old.stack.items) ≡ Some 201
+      → Stopped text token old (TooDeep token.start)
 
 -- whether nothing more has to come, and then what is told at last
 abbrev pub Finished : (old new : ModuleReader) → Bool → Type 0

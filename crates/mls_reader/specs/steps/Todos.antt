@@ -13,8 +13,11 @@ use Rattle.mls_reader.specs.declared.todo.Word.{Word}
 use Rattle.mls_reader.specs.declared.todo.Word.TheVariants as word
 use Rattle.mls_reader.specs.declared.todo.Todo.{Todo as Kept}
 use Rattle.mls_reader.specs.declared.todo.Todo.TheVariants as kept
-use Rattle.mls_grammar.specs.Phrases.{Sort, imports, bindings, bind_rest, expr, compare_tail, sum, sum_tail, product, product_tail, apply, dots, parts, more_parts}
-use Rattle.mls_reader.specs.steps.PieceMachine.{Todo, a, arguments_of, let_of, the_import, the_binding, the_fun, the_fix, the_local, the_label, the_part, the_equals, the_arrow, the_then, the_else, the_in, the_paren, tell, expr_acts}
+use Rattle.mls_grammar.specs.Phrases.{Sort, imports, bindings, bind_rest, expr, compare_tail, sum, sum_tail, product}
+use Rattle.mls_grammar.specs.Phrases.{product_tail, apply, dots, parts, more_parts}
+use Rattle.mls_reader.specs.steps.PieceMachine.{Todo, a, arguments_of, let_of, the_import, the_binding, the_fun}
+use Rattle.mls_reader.specs.steps.PieceMachine.{the_fix, the_local, the_label, the_part, the_equals, the_arrow}
+use Rattle.mls_reader.specs.steps.PieceMachine.{the_then, the_else, the_in, the_paren, tell, expr_acts}
 
 -- operands, tails and words as the machine has them
 abbrev pub operand_sort : Operand → Sort

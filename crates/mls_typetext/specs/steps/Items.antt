@@ -2,7 +2,8 @@
 use Rattle.std.specs.Prelude.{ℕ, List, [], ◌∷◌, ◌++◌, if◌then◌else◌}
 use Rattle.mls_typetext.specs.declared.piece.Item.{Item}
 use Rattle.mls_typetext.specs.declared.piece.Item.TheVariants as item
-use Rattle.mls_typetext.specs.Trees.{TypeTree, a_name, a_bool, an_int, a_top, a_bot, an_arrow, a_record, a_join, a_meet, a_rec, TypeFields, no_field, a_field}
+use Rattle.mls_typetext.specs.Trees.{TypeTree, a_name, a_bool, an_int, a_top, a_bot, an_arrow, a_record, a_join, a_meet}
+use Rattle.mls_typetext.specs.Trees.{a_rec, TypeFields, no_field, a_field}
 use Rattle.mls_typetext.specs.Books.{is_in, place_in}
 
 -- where these names are those of the `rec`s around the tree, the nearest first; a piece stands behind its parts

@@ -1,5 +1,6 @@
 -- A machine that lays out the nodes of a type from the pieces of the type, both from the last to the first.
-use Rattle.std.specs.Prelude.{◌≡◌, ℕ, zero, suc, ◌+◌, List, [], ◌∷◌, ◌++◌, reverse, length, take, drop, Option, Some, None}
+use Rattle.std.specs.Prelude.{◌≡◌, ℕ, zero, suc, ◌+◌, List, [], ◌∷◌, ◌++◌, reverse, length, take, drop, Option, Some}
+use Rattle.std.specs.Prelude.{None}
 use Rattle.mls_book.specs.declared.book.Field.{Field}
 use Rattle.mls_book.specs.declared.book.Node.{Node}
 use Rattle.mls_book.specs.declared.book.Node.TheVariants as node
@@ -14,8 +15,8 @@ use Rattle.mls_typetext.specs.declared.lay_out.Layout.{Layout}
 use Rattle.mls_typetext.specs.Books.{Ty, node_in, id, placed, book_of}
 use Rattle.mls_typetext.specs.steps.Members.{size_of, members}
 
--- what is to do and the nodes of the `rec`s around it, both the nearest first; the nodes of the layers that are open, the fields of the
--- record that is open, and the nodes that are laid out
+-- what is to do and the nodes of the `rec`s around it, both the nearest first; the nodes of the layers that are open,
+-- the fields of the record that is open, and the nodes that are laid out
 pub record State : Type 0 where
   pub tasks : List LayoutTask
   pub recs : List ℕ
@@ -53,9 +54,11 @@ later (n ∷ ns) = ns
 -- what is over is closed: the next thing to do is a place, or there is none
 abbrev pub closed_by : List LayoutTask → List ℕ → List Node → List Field → List Node → State
 closed_by [] recs held fields nodes = record { tasks = []; recs = recs; held = held; fields = fields; nodes = nodes }
-closed_by (At place ∷ st) recs held fields nodes = record { tasks = At place ∷ st; recs = recs; held = held; fields = fields; nodes = nodes }
+closed_by (At place ∷ st) recs held fields nodes =
+    record { tasks = At place ∷ st; recs = recs; held = held; fields = fields; nodes = nodes }
 closed_by (Leave ∷ st) recs held fields nodes = closed_by st (later recs) held fields nodes
-closed_by (End start ∷ st) recs held fields nodes = closed_by st recs (take start held) fields (nodes ++ drop start held)
+closed_by (End start ∷ st) recs held fields nodes =
+    closed_by st recs (take start held) fields (nodes ++ drop start held)
 
 abbrev pub closed : State → State
 closed s = closed_by s.tasks s.recs s.held s.fields s.nodes
@@ -73,7 +76,15 @@ enter n s = record { tasks = s.tasks; recs = n ∷ s.recs; held = s.held; fields
 
 -- the layer whose nodes are held from this place on is over
 abbrev pub end_at : ℕ → State → State
-end_at start s = record { tasks = s.tasks; recs = s.recs; held = take start s.held; fields = s.fields; nodes = s.nodes ++ drop start s.held }
+end_at start s =
+    record {
+      tasks = s.tasks;
+      recs = s.recs;
+      held = take start s.held;
+      fields = s.fields;
+      nodes = s.nodes
+          ++ drop start s.held;
+    }
 
 abbrev pub with_fields : List Field → State → State
 with_fields fields s = record { tasks = s.tasks; recs = s.recs; held = s.held; fields = fields; nodes = s.nodes }
@@ -91,10 +102,12 @@ lay_part (member.Arrow a b) p q size s =
     hold (node.Arrow (id (stand q s.recs a)) (id (stand r s.recs b))) (todo (At (Block r b) ∷ At (Block q a) ∷ []) s)
 lay_part (member.Join a b) p q size s =
     let r = p + a.here in
-    hold (node.Join (id (stand p s.recs a)) (id (stand r s.recs b))) (todo (At (Part r (q + a.under) b) ∷ At (Part p q a) ∷ []) s)
+    hold (node.Join (id (stand p s.recs a)) (id (stand r s.recs b)))
+    (todo (At (Part r (q + a.under) b) ∷ At (Part p q a) ∷ []) s)
 lay_part (member.Meet a b) p q size s =
     let r = p + a.here in
-    hold (node.Meet (id (stand p s.recs a)) (id (stand r s.recs b))) (todo (At (Part r (q + a.under) b) ∷ At (Part p q a) ∷ []) s)
+    hold (node.Meet (id (stand p s.recs a)) (id (stand r s.recs b)))
+    (todo (At (Part r (q + a.under) b) ∷ At (Part p q a) ∷ []) s)
 lay_part (member.Rec a) p q size s = enter (stand p s.recs size) (todo (At (Part p q a) ∷ Leave ∷ []) s)
 lay_part member.Record p q size s = todo (At (Fields q) ∷ []) s
 lay_part member.Last p q size s = s
@@ -103,7 +116,8 @@ lay_part (member.Field label a) p q size s = s
 -- a piece of the record that is open
 abbrev pub lay_field : Member → (q : ℕ) → State → State
 lay_field (member.Field label a) q s =
-    with_fields (s.fields ++ record { label = label; node = id (stand q s.recs a) } ∷ []) (todo (At (Fields (q + (a.here + a.under))) ∷ At (Block q a) ∷ []) s)
+    with_fields (s.fields ++ record { label = label; node = id (stand q s.recs a) } ∷ [])
+    (todo (At (Fields (q + (a.here + a.under))) ∷ At (Block q a) ∷ []) s)
 lay_field member.Last q s = hold (node.Rcd (in_order s.fields)) (with_fields [] s)
 lay_field _ q s = s
 
@@ -119,7 +133,8 @@ at_place (Some place) s = todo (At place ∷ []) s
 
 -- one piece, at the next place
 abbrev pub lay_at : Member → List LayoutTask → State → State
-lay_at member (At place ∷ st) s = lay member place (record { tasks = st; recs = s.recs; held = s.held; fields = s.fields; nodes = s.nodes })
+lay_at member (At place ∷ st) s =
+    lay member place (record { tasks = st; recs = s.recs; held = s.held; fields = s.fields; nodes = s.nodes })
 lay_at member _ s = s
 
 abbrev pub lay_next : Member → State → State

@@ -14,8 +14,8 @@ use Rattle.mls_typetext.specs.steps.Items.{items}
 use Rattle.mls_typetext.specs.Books.{variables, type_of}
 use Rattle.mls_typetext.specs.steps.Members.{outer, size_of, members}
 
--- the variables so far; the sizes of the parts that belong to nothing yet and how many nodes lie below the fields of records that are
--- open, both the nearest first; and the pieces
+-- the variables so far; the sizes of the parts that belong to nothing yet and how many nodes lie below the fields of
+-- records that are open, both the nearest first; and the pieces
 pub record State : Type 0 where
   pub names : List (List ℕ)
   pub sizes : List Size
@@ -67,7 +67,8 @@ other_totals (n ∷ ns) = ns
 
 -- one piece more, of a part of this size
 abbrev pub add : Member → Size → State → State
-add member size s = record { names = s.names; sizes = size ∷ s.sizes; totals = s.totals; pieces = s.pieces ++ member ∷ [] }
+add member size s =
+    record { names = s.names; sizes = size ∷ s.sizes; totals = s.totals; pieces = s.pieces ++ member ∷ [] }
 
 abbrev pub named : List ℕ → State → State
 named x s = record { names = insert_key bytes_eq s.names x; sizes = s.sizes; totals = s.totals; pieces = s.pieces }
@@ -79,7 +80,8 @@ abbrev pub without_total : State → State
 without_total s = record { names = s.names; sizes = s.sizes; totals = other_totals s.totals; pieces = s.pieces }
 
 abbrev pub add_total : Member → ℕ → State → State
-add_total member total s = record { names = s.names; sizes = s.sizes; totals = total ∷ s.totals; pieces = s.pieces ++ member ∷ [] }
+add_total member total s =
+    record { names = s.names; sizes = s.sizes; totals = total ∷ s.totals; pieces = s.pieces ++ member ∷ [] }
 
 abbrev pub measured : Item → State → State
 measured (item.Variable x) s = add (member.Var (position_or_len (bytes_eq x) s.names)) (size 1 0) (named x s)

@@ -3,10 +3,11 @@ use Rattle.std.specs.Prelude.{ℕ, zero, suc, List, [], ◌∷◌, ◌++◌, Opt
 use Rattle.mls_typetext.specs.declared.piece.Size.{Size}
 use Rattle.mls_typetext.specs.declared.piece.Member.{Member}
 use Rattle.mls_typetext.specs.declared.piece.Member.TheVariants as member
-use Rattle.mls_typetext.specs.Books.{Ty, var, again, boolean, integer, top, bot, arrow, join, meet, fields, rec, TyFields, none, one, here, under}
+use Rattle.mls_typetext.specs.Books.{Ty, var, again, boolean, integer, top, bot, arrow, join, meet, fields, rec}
+use Rattle.mls_typetext.specs.Books.{TyFields, none, one, here, under}
 
--- the `rec` around a type for whose node it stands, where it has none of its own, counted from the nearest; a `rec` that stands for its
--- own node alone has none
+-- the `rec` around a type for whose node it stands, where it has none of its own, counted from the nearest; a `rec`
+-- that stands for its own node alone has none
 abbrev pub outer : Option ℕ → Option ℕ
 outer None = None
 outer (Some zero) = None

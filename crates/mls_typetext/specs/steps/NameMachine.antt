@@ -1,5 +1,6 @@
 -- A machine that reads the pieces of a tree from the last to the first, by a stack of what is still to come.
-use Rattle.std.specs.Prelude.{ℕ, suc, ◌-◌, Bool, true, false, not, ◌==◌, ◌||◌, if◌then◌else◌, List, [], ◌∷◌, ◌++◌, bytes_eq, Option, Some, None}
+use Rattle.std.specs.Prelude.{ℕ, suc, ◌-◌, Bool, true, false, not, ◌==◌, ◌||◌, if◌then◌else◌, List, [], ◌∷◌, ◌++◌}
+use Rattle.std.specs.Prelude.{bytes_eq, Option, Some, None}
 use Rattle.mls_typetext.specs.declared.scheme.TypeFault.{TypeFault}
 use Rattle.mls_typetext.specs.declared.scheme.TypeFault.TheVariants.{NotPolar, Unguarded, Contravariant, DuplicateLabel}
 use Rattle.mls_typetext.specs.declared.piece.Piece.{Piece}
@@ -11,8 +12,8 @@ use Rattle.mls_typetext.specs.declared.resolve.NameTask.{NameTask}
 use Rattle.mls_typetext.specs.declared.resolve.NameTask.TheVariants.{Part, Leave, Note}
 use Rattle.mls_typetext.specs.Faults.{same}
 
--- what is known at a place: what the names of the `rec`s around it mean, the labels that the record has so far, the fault that stands first
--- behind the place, and the items behind it, from the last to the first
+-- what is known at a place: what the names of the `rec`s around it mean, the labels that the record has so far, the
+-- fault that stands first behind the place, and the items behind it, from the last to the first
 pub record Known : Type 0 where
   pub recs : List ℕ → Option NamePlace
   pub labels : List ℕ → Bool
@@ -50,13 +51,21 @@ noted (Some fault) k = record { recs = k.recs; labels = k.labels; fault = Some f
 
 -- where a name means this, or is no name of a `rec`
 abbrev pub naming : List ℕ → Option NamePlace → Known → Known
-naming x meaning k = record { recs = λ y. if bytes_eq x y then meaning else k.recs y; labels = k.labels; fault = k.fault; items = k.items }
+naming x meaning k =
+    record {
+      recs = λ y. if bytes_eq x y then meaning else k.recs y;
+      labels = k.labels;
+      fault = k.fault;
+      items =
+          k.items;
+    }
 
 abbrev pub without_labels : Known → Known
 without_labels k = record { recs = k.recs; labels = λ x. false; fault = k.fault; items = k.items }
 
 abbrev pub with_label : List ℕ → Known → Known
-with_label label k = record { recs = k.recs; labels = λ x. bytes_eq x label || k.labels x; fault = k.fault; items = k.items }
+with_label label k =
+    record { recs = k.recs; labels = λ x. bytes_eq x label || k.labels x; fault = k.fault; items = k.items }
 
 abbrev pub fault_if : Bool → TypeFault → Option TypeFault
 fault_if true fault = Some fault
@@ -65,7 +74,9 @@ fault_if false fault = None
 -- the fault of a name that means a `rec` whose body has this place
 abbrev pub name_fault : NamePlace → ℕ → Option NamePlace → Option TypeFault
 name_fault p at None = None
-name_fault p at (Some b) = if b.guards == p.guards then Some (Unguarded at) else fault_if (not (same b.is_positive p.is_positive)) (Contravariant at)
+name_fault p at (Some b) =
+    if b.guards == p.guards then Some (Unguarded at)
+    else fault_if (not (same b.is_positive p.is_positive)) (Contravariant at)
 
 -- its item
 abbrev pub name_item : NamePlace → List ℕ → Option NamePlace → Item
@@ -78,15 +89,25 @@ notes (Some fault) = Note fault ∷ []
 
 -- what a part at a place becomes once its last piece is read
 abbrev pub opened : Piece → NamePlace → List NameTask → Known → State
-opened (piece.Name at x) p st k = record { tasks = st; known = told (name_item p x (k.recs x)) (noted (name_fault p at (k.recs x)) k) }
+opened (piece.Name at x) p st k =
+    record { tasks = st; known = told (name_item p x (k.recs x)) (noted (name_fault p at (k.recs x)) k) }
 opened piece.Bool p st k = record { tasks = st; known = told item.Bool k }
 opened piece.Int p st k = record { tasks = st; known = told item.Int k }
-opened (piece.Top at) p st k = record { tasks = st; known = told item.Top (noted (fault_if p.is_positive (NotPolar at)) k) }
-opened (piece.Bot at) p st k = record { tasks = st; known = told item.Bot (noted (fault_if (not p.is_positive) (NotPolar at)) k) }
+opened (piece.Top at) p st k =
+    record { tasks = st; known = told item.Top (noted (fault_if p.is_positive (NotPolar at)) k) }
+opened (piece.Bot at) p st k =
+    record { tasks = st; known = told item.Bot (noted (fault_if (not p.is_positive) (NotPolar at)) k) }
 opened piece.Arrow p st k = record { tasks = Part (inside p) ∷ Part (domain p) ∷ st; known = told item.Arrow k }
-opened (piece.Join at) p st k = record { tasks = Part p ∷ notes (fault_if (not p.is_positive) (NotPolar at)) ++ Part p ∷ st; known = told item.Join k }
-opened (piece.Meet at) p st k = record { tasks = Part p ∷ notes (fault_if p.is_positive (NotPolar at)) ++ Part p ∷ st; known = told item.Meet k }
-opened (piece.Rec x) p st k = record { tasks = Part (body p) ∷ Leave x (k.recs x) ∷ st; known = told item.Rec (naming x (Some (body p)) k) }
+opened (piece.Join at) p st k =
+    record {
+      tasks = Part p ∷ notes (fault_if (not p.is_positive) (NotPolar at)) ++ Part p
+          ∷ st;
+      known = told item.Join k;
+    }
+opened (piece.Meet at) p st k =
+    record { tasks = Part p ∷ notes (fault_if p.is_positive (NotPolar at)) ++ Part p ∷ st; known = told item.Meet k }
+opened (piece.Rec x) p st k =
+    record { tasks = Part (body p) ∷ Leave x (k.recs x) ∷ st; known = told item.Rec (naming x (Some (body p)) k) }
 opened piece.Record p st k = record { tasks = Part (inside p) ∷ st; known = told item.Record (without_labels k) }
 opened piece.Last p st k = record { tasks = st; known = told item.Last k }
 opened (piece.Field at label) p st k = record {

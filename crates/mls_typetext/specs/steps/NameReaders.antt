@@ -17,12 +17,15 @@ abbrev pub tasks_of : NameReader → List NameTask
 tasks_of r = reverse r.tasks.items
 
 abbrev pub known_of : NameReader → Known
-known_of r = record { recs = get bytes_eq r.recs; labels = contains bytes_eq r.labels; fault = r.fault; items = r.items.items }
+known_of r =
+    record { recs = get bytes_eq r.recs; labels = contains bytes_eq r.labels; fault = r.fault; items = r.items.items }
 
 -- the pieces are those of no tree with a fault, and these are its items from the last to the first
 abbrev pub GivesItems : List Piece → List Item → Type 0
-GivesItems pieces found = (t : TypeTree) → pieces ≡ postorder t → (faults true [] 0 t ≡ []) × (found ≡ reverse (items [] t))
+GivesItems pieces found =
+    (t : TypeTree) → pieces ≡ postorder t → (faults true [] 0 t ≡ []) × (found ≡ reverse (items [] t))
 
 -- the pieces are those of no tree with another first fault
 abbrev pub GivesFault : List Piece → TypeFault → Type 0
-GivesFault pieces fault = (t : TypeTree) → pieces ≡ postorder t → (later : List TypeFault) × (faults true [] 0 t ≡ fault ∷ later)
+GivesFault pieces fault =
+    (t : TypeTree) → pieces ≡ postorder t → (later : List TypeFault) × (faults true [] 0 t ≡ fault ∷ later)

@@ -5,7 +5,8 @@ use Rattle.mls_lexer.specs.Tokens.{Terminal, name, word}
 use Rattle.mls_lexer.specs.steps.Placed.{Placed}
 use Rattle.mls_typetext.specs.declared.piece.Piece.{Piece}
 use Rattle.mls_typetext.specs.declared.piece.Piece.TheVariants as piece
-use Rattle.mls_typetext.specs.Phrases.{Sort, whole, codomain, join, join_tail, meet, meet_tail, atom, fields, more_fields}
+use Rattle.mls_typetext.specs.Phrases.{Sort, whole, codomain, join, join_tail, meet, meet_tail, atom, fields}
+use Rattle.mls_typetext.specs.Phrases.{more_fields}
 
 -- a part of the grammar that is still to come, or a piece that is told once what stands before it is over
 pub data Todo : Type 0 where

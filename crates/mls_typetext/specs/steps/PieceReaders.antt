@@ -7,7 +7,8 @@ use Rattle.mls_typetext.specs.declared.read.Todo.{Todo as Kept}
 use Rattle.mls_typetext.specs.declared.read.Todo.TheVariants as kept
 use Rattle.mls_typetext.specs.declared.read.PieceReader.{PieceReader}
 use Rattle.mls_typetext.specs.Phrases.{whole, codomain, join, join_tail, meet, meet_tail, atom, fields, more_fields}
-use Rattle.mls_typetext.specs.steps.PieceMachine.{Todo, a, the_rec, the_field, the_dot, the_colon, the_paren, tell, Act, State, more}
+use Rattle.mls_typetext.specs.steps.PieceMachine.{Todo, a, the_rec, the_field, the_dot, the_colon, the_paren, tell, Act}
+use Rattle.mls_typetext.specs.steps.PieceMachine.{State, more}
 
 -- a part as the machine has it
 abbrev pub part_of : PiecePart → Todo

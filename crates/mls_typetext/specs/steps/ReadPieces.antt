@@ -18,4 +18,5 @@ IsReadOf pieces r = (t : TypeTree) → pieces ≡ postorder t → (faults true [
 
 -- the tree of the pieces has this first fault
 abbrev pub IsFaultOf : List Piece → TypeFault → Type 0
-IsFaultOf pieces fault = (t : TypeTree) → pieces ≡ postorder t → (later : List TypeFault) × (faults true [] 0 t ≡ fault ∷ later)
+IsFaultOf pieces fault =
+    (t : TypeTree) → pieces ≡ postorder t → (later : List TypeFault) × (faults true [] 0 t ≡ fault ∷ later)

@@ -1,5 +1,5 @@
 use Rattle.std.proofs.Common.{◌++◌, ap, ◌∙◌, reverse}
-use Rattle.mls_top.specs.Chains.{type_text}
+use Rattle.mls_top.specs.steps.Chains.{type_text}
 use Rattle.mls_top.proofs.ChainTexts.{piece_added, all_added}
 use Rattle.mls_top.proofs.signature.add_type.Goals as goal
 

@@ -1,5 +1,5 @@
 use Rattle.std.proofs.Common.{◌≡◌, ◌++◌, reverse}
-use Rattle.mls_top.specs.Chains.{type_text}
+use Rattle.mls_top.specs.steps.Chains.{type_text}
 use Rattle.mls_top.proofs.signature.add_type.Given as goal
 
 -- what is left to add makes the text whole

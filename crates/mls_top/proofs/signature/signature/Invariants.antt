@@ -1,5 +1,5 @@
 use Rattle.std.proofs.Common.{take}
-use Rattle.mls_top.specs.Answering.{IsSignature}
+use Rattle.mls_top.specs.steps.Answering.{IsSignature}
 use Rattle.mls_top.proofs.signature.signature.Given as goal
 
 -- the text so far is the signature of the bindings so far

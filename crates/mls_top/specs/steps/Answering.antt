@@ -26,11 +26,13 @@ IsCausedBy ReadFault old new = Rose old.faults new.faults
 IsCausedBy _ old new = Unit {0}
 
 abbrev pub IsCaused : Holdings → Holdings → Result Answer Halt → Type 0
-IsCaused old new result = MatchResult result (λ answer. IsCausedBy answer.status old new) (λ h. IsCausedBy (halt_status h) old new)
+IsCaused old new result =
+    MatchResult result (λ answer. IsCausedBy answer.status old new) (λ h. IsCausedBy (halt_status h) old new)
 
 -- the answer has this status and this text, or memory was wanting
 abbrev pub Says : Status → List ℕ → Result Answer Halt → Type 0
-Says status text result = MatchResult result (λ answer. (answer.status ≡ status) × (answer.text.items ≡ text)) (λ h. h ≡ halt.Memory)
+Says status text result =
+    MatchResult result (λ answer. (answer.status ≡ status) × (answer.text.items ≡ text)) (λ h. h ≡ halt.Memory)
 
 -- what is answered where a file could not be fetched
 abbrev pub IsRefused : Stop → List ℕ → ℕ → Result Answer Halt → Type 0

@@ -1,0 +1,2 @@
+-- What the functions of the crate do one step at a time. No public clause cites it.
+pub mod Writing
