@@ -2,9 +2,12 @@ pub mod Answering
 pub mod Answers
 pub mod Chains
 pub mod Commands
+pub mod Entries
 pub mod Fetching
+pub mod Laws
 pub mod Lines
 pub mod Outcomes
+pub mod Refusals
 pub mod Runs
 pub mod Statuses
 pub mod Writing
