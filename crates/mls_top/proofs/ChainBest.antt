@@ -20,14 +20,14 @@ use Rattle.mls_book.proofs.Pulls.{pulled, passes-pulled}
 use Rattle.mls_book.proofs.LongerBooks.{Extends}
 use Rattle.mls_book.proofs.Representation.{IsIn, HoldsUnder, substituted_held}
 use Rattle.mls_book.proofs.Subsumption.{IsBelowAt, subsumes_where}
-use Rattle.mls_syntax.specs.Terms.{TermTree, bound, inner, global, number, truth, fun, apply, make, project, choice, local, fix}
-use Rattle.mls_syntax.specs.Resolution.{IsChain}
-use Rattle.mls_syntax.specs.Derivations.{Known, over, Takes, Derives, var_inner, var_global, var_fun, lit_truth, lit_number, abs, app, rcd, proj, cond, let_in, rec_fix, sub, IsBest}
-use Rattle.mls_syntax.proofs.Rules.{ByFun, Generated, generation}
+use Rattle.mls_term.specs.Terms.{TermTree, bound, inner, global, number, truth, fun, apply, make, project, choice, local, fix}
+use Rattle.mls_names.specs.Resolution.{IsChain}
+use Rattle.mls_term.specs.Derivations.{Known, over, Takes, Derives, var_inner, var_global, var_fun, lit_truth, lit_number, abs, app, rcd, proj, cond, let_in, rec_fix, sub, IsBest}
+use Rattle.mls_term.proofs.Rules.{ByFun, Generated, generation}
 use Rattle.mls_top.specs.Chains.{is_used}
 use Rattle.mls_top.proofs.ChainTexts.{ChainType, from, chain_type}
 use Rattle.mls_top.proofs.ChainBooks.{Stands}
-use Rattle.mls_syntax.proofs.Environments.{scheme_at}
+use Rattle.mls_term.proofs.Environments.{scheme_at}
 use Rattle.mls_top.proofs.ChainDerived.{leaf_binder, literal_derived, inside_derived}
 use Rattle.mls_top.proofs.ChainLeast.{chain_value, chain_passes, IsBelowRoot, needs, kept, step, below_top, literal_least, outside_least}
 

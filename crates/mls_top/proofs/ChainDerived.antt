@@ -18,10 +18,10 @@ use Rattle.mls_book.specs.Schemes.{Env, Scheme, IsScheme, binder_passes}
 use Rattle.mls_book.proofs.Table.{value-var}
 use Rattle.mls_book.proofs.Depths.{Implies-refl, Implies-same}
 use Rattle.mls_book.proofs.Subsumption.{Subsumes-below}
-use Rattle.mls_syntax.proofs.Environments.{one, get-one, get-other, remove-empty, remove-other, remove-one, scheme_at, is_scheme-empty, is_scheme-one}
-use Rattle.mls_syntax.specs.Terms.{TermTree, bound, inner, global, number, truth, fun, apply, make, project, choice, local, fix}
-use Rattle.mls_syntax.specs.Resolution.{IsChain}
-use Rattle.mls_syntax.specs.Derivations.{Known, Takes, Derives, var_fun, lit_truth, lit_number, abs, sub}
+use Rattle.mls_term.proofs.Environments.{one, get-one, get-other, remove-empty, remove-other, remove-one, scheme_at, is_scheme-empty, is_scheme-one}
+use Rattle.mls_term.specs.Terms.{TermTree, bound, inner, global, number, truth, fun, apply, make, project, choice, local, fix}
+use Rattle.mls_names.specs.Resolution.{IsChain}
+use Rattle.mls_term.specs.Derivations.{Known, Takes, Derives, var_fun, lit_truth, lit_number, abs, sub}
 use Rattle.mls_top.specs.Chains.{is_used}
 use Rattle.mls_top.proofs.ChainTexts.{ChainType, leaf, from, chain_type}
 use Rattle.mls_typetext.specs.Books.{id}

@@ -22,15 +22,15 @@ use Rattle.mls_book.proofs.Variables.{variables_of, has, has_left, has_right}
 use Rattle.mls_book.proofs.Pulls.{pulled, Implies-pulled, pulled-top, pulled-bool, pulled-int, pulled-arrow, passes-pulled}
 use Rattle.mls_book.proofs.Representation.{IsIn, substituted_held}
 use Rattle.mls_book.proofs.Subsumption.{subsumes_where}
-use Rattle.mls_syntax.specs.Terms.{TermTree, bound, inner, global, number, truth, fun, apply, make, project, choice, local, fix}
-use Rattle.mls_syntax.specs.Resolution.{IsChain}
-use Rattle.mls_syntax.specs.Derivations.{Known, over, Takes, Derives}
-use Rattle.mls_syntax.proofs.Rules.{ByFun, ByBound, ByNumber, ByTruth, Generated, generation}
+use Rattle.mls_term.specs.Terms.{TermTree, bound, inner, global, number, truth, fun, apply, make, project, choice, local, fix}
+use Rattle.mls_names.specs.Resolution.{IsChain}
+use Rattle.mls_term.specs.Derivations.{Known, over, Takes, Derives}
+use Rattle.mls_term.proofs.Rules.{ByFun, ByBound, ByNumber, ByTruth, Generated, generation}
 use Rattle.mls_typetext.specs.Books.{id}
 use Rattle.mls_top.specs.Chains.{is_used}
 use Rattle.mls_top.proofs.ChainTexts.{Leaf, a_variable, an_integer, a_boolean, ChainType, leaf, from, leaf_of, chain_type}
 use Rattle.mls_top.proofs.ChainBooks.{leaf_node, domain_node, Stands}
-use Rattle.mls_syntax.proofs.Environments.{scheme_at, get-one}
+use Rattle.mls_term.proofs.Environments.{scheme_at, get-one}
 use Rattle.mls_top.proofs.ChainDerived.{leaf_binder}
 
 -- what a chain's type passes, where its variable passes this

@@ -5,10 +5,10 @@ use Rattle.mls_lexer.specs.declared.token.Kind.TheVariants as kind
 use Rattle.mls_lexer.specs.Tokens.{Terminal, word, HasTerminals, place_of}
 use Rattle.mls_lexer.proofs.Terminals.{HasTerminals-nil, HasTerminals-space, HasTerminals-name, HasTerminals-fixed, StopsBefore-word, StopsBefore-plain, shape-spelling}
 use Rattle.mls_base.specs.Spelling.{IsName, is_reserved}
-use Rattle.mls_syntax.specs.declared.term.TermNode.{TermNode}
-use Rattle.mls_syntax.specs.declared.term.TermForm.TheVariants.{Fun}
-use Rattle.mls_syntax.specs.Terms.{TermTree, bound, inner, global, number, truth, fun, apply, make, project, choice, local, fix, before, postorder}
-use Rattle.mls_syntax.specs.Resolution.{IsChain}
+use Rattle.mls_term.specs.declared.term.TermNode.{TermNode}
+use Rattle.mls_term.specs.declared.term.TermForm.TheVariants.{Fun}
+use Rattle.mls_term.specs.Terms.{TermTree, bound, inner, global, number, truth, fun, apply, make, project, choice, local, fix, before, postorder}
+use Rattle.mls_names.specs.Resolution.{IsChain}
 use Rattle.std.specs.List.{push}
 use Rattle.mls_typetext.specs.Phrases.{Phrase, whole, atom, joined, no_codomain, to, joins, no_join, meets, no_meet, named, boolean, integer, top, yields, width}
 use Rattle.mls_typetext.specs.Trees.{meaning}

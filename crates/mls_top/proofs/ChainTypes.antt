@@ -2,11 +2,11 @@
 use Rattle.std.proofs.Common.{◌≡◌, ℕ, suc, ◌+◌, List, [], ◌∷◌, ◌++◌, reverse, refl, sym, ap, subst, ◌∙◌, Option}
 use Rattle.std.specs.FinMap as env
 use Rattle.mls_book.specs.Schemes.{Scheme}
-use Rattle.mls_syntax.specs.declared.term.TermNode.{TermNode}
-use Rattle.mls_syntax.specs.declared.term.TermForm.TheVariants.{Fun}
-use Rattle.mls_syntax.specs.Terms.{TermTree, bound, inner, global, number, truth, fun, apply, make, project, choice, local, fix, before, postorder}
-use Rattle.mls_syntax.specs.Resolution.{IsChain}
-use Rattle.mls_syntax.specs.Derivations.{Known, IsBest}
+use Rattle.mls_term.specs.declared.term.TermNode.{TermNode}
+use Rattle.mls_term.specs.declared.term.TermForm.TheVariants.{Fun}
+use Rattle.mls_term.specs.Terms.{TermTree, bound, inner, global, number, truth, fun, apply, make, project, choice, local, fix, before, postorder}
+use Rattle.mls_names.specs.Resolution.{IsChain}
+use Rattle.mls_term.specs.Derivations.{Known, IsBest}
 use Rattle.mls_typetext.specs.declared.scheme.ReadScheme.{ReadScheme}
 use Rattle.mls_typetext.specs.Trees.{TypeTree, meaning}
 use Rattle.mls_typetext.specs.Books.{type_of, book_of, root_of}
@@ -16,7 +16,7 @@ use Rattle.mls_typetext.specs.Texts.{IsTypeText, read_of}
 use Rattle.mls_top.specs.Chains.{leaf_use, type_text}
 use Rattle.mls_top.proofs.ChainTexts.{ChainType, chain_type, chain_text, chain_phrase, chain_terminals, chain_is_type, type_text-chain}
 use Rattle.mls_top.proofs.ChainBooks.{chain_ty, chain_nodes, type_of-chain, book_of-chain, root_of-chain, stands_in, closed_chain}
-use Rattle.mls_syntax.proofs.Environments.{scheme_at}
+use Rattle.mls_term.proofs.Environments.{scheme_at}
 use Rattle.mls_top.proofs.ChainDerived.{leaf_binder}
 use Rattle.mls_top.proofs.ChainBest.{chain_best}
 

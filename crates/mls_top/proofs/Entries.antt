@@ -7,11 +7,11 @@ use Rattle.std.proofs.lemmas.List.{take-append-le, length-append}
 use Rattle.std.proofs.lemmas.List.Folds.{list_all-append}
 use Rattle.std.proofs.lemmas.Option.{slice_get_within}
 use Rattle.mls_base.specs.Spelling.{IsName}
-use Rattle.mls_syntax.specs.declared.term.TermForm.{TermForm}
-use Rattle.mls_syntax.specs.declared.term.TermForm.TheVariants.{Bound, Inner, Global, Number, Truth, Fun, Apply, Make, Project, If, Let, Rec}
-use Rattle.mls_syntax.specs.declared.term.TermNode.{TermNode}
-use Rattle.mls_syntax.specs.declared.term.ResolvedBinding.{ResolvedBinding}
-use Rattle.mls_syntax.specs.Resolution.{HasChain}
+use Rattle.mls_term.specs.declared.term.TermForm.{TermForm}
+use Rattle.mls_term.specs.declared.term.TermForm.TheVariants.{Bound, Inner, Global, Number, Truth, Fun, Apply, Make, Project, If, Let, Rec}
+use Rattle.mls_term.specs.declared.term.TermNode.{TermNode}
+use Rattle.mls_term.specs.declared.term.ResolvedBinding.{ResolvedBinding}
+use Rattle.mls_names.specs.Resolution.{HasChain}
 use Rattle.mls_top.specs.Chains.{leaf_use, is_used, domain_text, piece_text, type_text}
 use Rattle.mls_top.specs.Entries.{Declared, Entry, known_after, is_plain, IsPlain, IsEntryOf, AreEntriesOf, entry_line, signature_text}
 use Rattle.mls_top.specs.Answering.{IsSignature, AddsEntry}

@@ -4,14 +4,14 @@ use Rattle.std.specs.Prelude.{Option, Some, None, Result, Ok, Err, IfOk, IfErr, 
 use Rattle.mls_base.specs.Files.{Files}
 use Rattle.mls_base.specs.declared.memory.Memory.{Memory}
 use Rattle.mls_lexer.specs.Tokens.{line_of, column_of}
-use Rattle.mls_syntax.specs.declared.parse.Fault.{Fault}
-use Rattle.mls_syntax.specs.declared.parse.Fault.TheVariants.{NotBuilt}
-use Rattle.mls_syntax.specs.declared.module.Module.{Module}
-use Rattle.mls_syntax.specs.declared.module.Import.{Import}
-use Rattle.mls_syntax.specs.declared.term.Resolved.{Resolved}
-use Rattle.mls_syntax.specs.Modules.{IsModuleText}
-use Rattle.mls_syntax.specs.Resolution.{Resolves, HasUnknownName}
-use Rattle.mls_syntax.specs.Unbuilt.{IsBuilt, IsLeastUnbuilt}
+use Rattle.mls_grammar.specs.declared.fault.Fault.{Fault}
+use Rattle.mls_grammar.specs.declared.fault.Fault.TheVariants.{NotBuilt}
+use Rattle.mls_grammar.specs.declared.module.Module.{Module}
+use Rattle.mls_grammar.specs.declared.module.Import.{Import}
+use Rattle.mls_term.specs.declared.term.Resolved.{Resolved}
+use Rattle.mls_grammar.specs.Modules.{IsModuleText}
+use Rattle.mls_names.specs.Resolution.{Resolves, HasUnknownName}
+use Rattle.mls_names.specs.Unbuilt.{IsBuilt, IsLeastUnbuilt}
 use Rattle.mls_top.specs.declared.answer.Answer.{Answer}
 use Rattle.mls_top.specs.declared.answer.Halt.{Halt}
 use Rattle.mls_top.specs.declared.answer.Halt.TheVariants as halt

@@ -6,7 +6,7 @@ use Rattle.std.proofs.lemmas.Bool.{and_parts, and_from}
 use Rattle.std.proofs.lemmas.Bool.Decides.{nat_tests}
 use Rattle.std.proofs.lemmas.Option.{slice_get-get_or}
 use Rattle.mls_base.specs.Spelling.{IsName, is_spelled, is_lower, is_name_byte}
-use Rattle.mls_syntax.specs.declared.term.ResolvedBinding.{ResolvedBinding}
+use Rattle.mls_term.specs.declared.term.ResolvedBinding.{ResolvedBinding}
 use Rattle.mls_top.specs.Entries.{Declared, Entry, is_plain, IsPlain, IsEntryOf, entry_line}
 use Rattle.mls_top.specs.Laws.{IsOneLine, EachIsOneLine}
 use Rattle.mls_top.proofs.Entries.{plain-append}

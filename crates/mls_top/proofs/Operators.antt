@@ -1,6 +1,6 @@
 -- The operators stand first in an environment.
 use Rattle.std.proofs.Common.{◌≡◌, refl}
-use Rattle.mls_syntax.specs.declared.module.Op.TheVariants.{Plus, Minus, Times, Less, Equal}
+use Rattle.mls_grammar.specs.declared.module.Op.TheVariants.{Plus, Minus, Times, Less, Equal}
 use Rattle.mls_top.specs.Laws.{OperatorsStandFirst}
 
 pub operators_stand_first : OperatorsStandFirst

@@ -2,7 +2,7 @@
 use Rattle.std.specs.Prelude.{◌≡◌, ℕ, List, ◌++◌, length, Result, Err, MatchResult}
 use Rattle.mls_io.specs.Counts.{Rose}
 use Rattle.mls_io.specs.Stores.{Holdings}
-use Rattle.mls_syntax.specs.declared.term.ResolvedBinding.{ResolvedBinding}
+use Rattle.mls_term.specs.declared.term.ResolvedBinding.{ResolvedBinding}
 use Rattle.mls_top.specs.declared.answer.Answer.{Answer}
 use Rattle.mls_top.specs.declared.answer.Halt.{Halt}
 use Rattle.mls_top.specs.declared.answer.Halt.TheVariants as halt

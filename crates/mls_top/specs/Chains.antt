@@ -1,8 +1,8 @@
 -- The types of chains of functions around a variable, a number or a truth value, and their texts.
 use Rattle.std.specs.Prelude.{ℕ, Bool, true, false, ◌==◌, List, [], ◌∷◌, ◌++◌, codes, Option, Some, None}
-use Rattle.mls_syntax.specs.declared.term.TermNode.{TermNode}
-use Rattle.mls_syntax.specs.declared.term.TermForm.{TermForm}
-use Rattle.mls_syntax.specs.declared.term.TermForm.TheVariants.{Bound, Number, Truth, Fun}
+use Rattle.mls_term.specs.declared.term.TermNode.{TermNode}
+use Rattle.mls_term.specs.declared.term.TermForm.{TermForm}
+use Rattle.mls_term.specs.declared.term.TermForm.TheVariants.{Bound, Number, Truth, Fun}
 
 -- the binder that a leaf uses
 abbrev pub used_by : TermForm → Option ℕ

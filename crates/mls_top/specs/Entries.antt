@@ -3,9 +3,9 @@ use Rattle.std.specs.Prelude.{◌≡◌, ℕ, Bool, not, ◌&&◌, ◌==◌, Lis
 use Rattle.std.specs.List.{list_all, flat_map}
 use Rattle.std.specs.FinMap as env
 use Rattle.mls_base.specs.Spelling.{IsName}
-use Rattle.mls_syntax.specs.declared.term.ResolvedBinding.{ResolvedBinding}
-use Rattle.mls_syntax.specs.Terms.{TermTree, postorder}
-use Rattle.mls_syntax.specs.Derivations.{Known, IsBest}
+use Rattle.mls_term.specs.declared.term.ResolvedBinding.{ResolvedBinding}
+use Rattle.mls_term.specs.Terms.{TermTree, postorder}
+use Rattle.mls_term.specs.Derivations.{Known, IsBest}
 use Rattle.mls_typetext.specs.declared.scheme.ReadScheme.{ReadScheme}
 use Rattle.mls_typetext.specs.Schemes.{scheme_of, environment}
 use Rattle.mls_typetext.specs.Texts.{IsTypeText}

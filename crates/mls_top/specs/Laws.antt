@@ -1,10 +1,10 @@
 -- The laws of answers.
 use Rattle.std.specs.Prelude.{◌≡◌, ◌≢◌, ℕ, List, ◌++◌, All, codes, length, slice_get, Some}
 use Rattle.mls_base.specs.Files.{Files}
-use Rattle.mls_syntax.specs.declared.term.ResolvedBinding.{ResolvedBinding}
-use Rattle.mls_syntax.specs.declared.module.Op.{Op}
-use Rattle.mls_syntax.specs.declared.module.Op.TheVariants.{Plus, Minus, Times, Less, Equal}
-use Rattle.mls_syntax.specs.Resolution.{operator_number}
+use Rattle.mls_term.specs.declared.term.ResolvedBinding.{ResolvedBinding}
+use Rattle.mls_grammar.specs.declared.module.Op.{Op}
+use Rattle.mls_grammar.specs.declared.module.Op.TheVariants.{Plus, Minus, Times, Less, Equal}
+use Rattle.mls_names.specs.Resolution.{operator_number}
 use Rattle.mls_typetext.specs.declared.scheme.ReadScheme.{ReadScheme}
 use Rattle.mls_typetext.specs.Books.{Ty, boolean, integer, arrow}
 use Rattle.mls_typetext.specs.Schemes.{type_scheme, environment}

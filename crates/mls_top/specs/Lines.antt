@@ -1,8 +1,8 @@
 -- The lines that are printed.
-pub use Rattle.mls_syntax.specs.Faults.{fault_place}
+pub use Rattle.mls_grammar.specs.Faults.{fault_place}
 use Rattle.std.specs.Prelude.{ℕ, List, [], ◌++◌, codes, decimal}
-use Rattle.mls_syntax.specs.declared.parse.Fault.{Fault}
-use Rattle.mls_syntax.specs.declared.parse.Fault.TheVariants.{BadByte, BigNumber, Unexpected, Ended, TooDeep, DuplicateBinding, DuplicateLabel, DuplicateImport, UnknownName, NotBuilt, Memory}
+use Rattle.mls_grammar.specs.declared.fault.Fault.{Fault}
+use Rattle.mls_grammar.specs.declared.fault.Fault.TheVariants.{BadByte, BigNumber, Unexpected, Ended, TooDeep, DuplicateBinding, DuplicateLabel, DuplicateImport, UnknownName, NotBuilt, Memory}
 
 abbrev pub usage_line : List ℕ
 usage_line = codes "usage: mlsub COMMAND OPERANDS\n"

@@ -1,15 +1,15 @@
 -- What is found when a module's signature is asked for: stage by stage, up to the first that refuses.
 use Rattle.std.specs.Prelude.{◌≡◌, ℕ, List, [], ◌∷◌, length, Result, Ok, Err}
 use Rattle.mls_base.specs.Files.{Files}
-use Rattle.mls_syntax.specs.declared.module.Module.{Module}
-use Rattle.mls_syntax.specs.declared.module.Import.{Import}
-use Rattle.mls_syntax.specs.declared.term.Resolved.{Resolved}
-use Rattle.mls_syntax.specs.declared.parse.Fault.{Fault}
-use Rattle.mls_syntax.specs.declared.parse.Fault.TheVariants.{NotBuilt}
-use Rattle.mls_syntax.specs.Modules.{IsModuleText}
-use Rattle.mls_syntax.specs.FirstFaults.{HasFirstFault}
-use Rattle.mls_syntax.specs.Resolution.{Resolves, HasUnknownName}
-use Rattle.mls_syntax.specs.Unbuilt.{IsBuilt, IsLeastUnbuilt}
+use Rattle.mls_grammar.specs.declared.module.Module.{Module}
+use Rattle.mls_grammar.specs.declared.module.Import.{Import}
+use Rattle.mls_term.specs.declared.term.Resolved.{Resolved}
+use Rattle.mls_grammar.specs.declared.fault.Fault.{Fault}
+use Rattle.mls_grammar.specs.declared.fault.Fault.TheVariants.{NotBuilt}
+use Rattle.mls_grammar.specs.Modules.{IsModuleText}
+use Rattle.mls_grammar.specs.FirstFaults.{HasFirstFault}
+use Rattle.mls_names.specs.Resolution.{Resolves, HasUnknownName}
+use Rattle.mls_names.specs.Unbuilt.{IsBuilt, IsLeastUnbuilt}
 use Rattle.mls_top.specs.declared.status.Status.{Status}
 use Rattle.mls_top.specs.declared.status.Status.TheVariants.{Done}
 use Rattle.mls_top.specs.Lines.{module_file}

@@ -2,7 +2,7 @@
 use Rattle.std.specs.Prelude.{ℕ, nat_lt, if◌then◌else◌, List, length, Option, Some, None, Result, Ok, Err}
 use Rattle.mls_base.specs.Files.{Files, bytes_at}
 use Rattle.mls_lexer.specs.Tokens.{line_of, column_of}
-use Rattle.mls_syntax.specs.declared.parse.Fault.{Fault}
+use Rattle.mls_grammar.specs.declared.fault.Fault.{Fault}
 use Rattle.mls_top.specs.declared.status.Status.{Status}
 use Rattle.mls_top.specs.declared.status.Status.TheVariants.{BadText, NoFile, TooLong}
 use Rattle.mls_top.specs.Lines.{not_found_line, too_long_line, fault_line, fault_number, fault_text, fault_place}

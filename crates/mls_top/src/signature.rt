@@ -1,6 +1,6 @@
 //! The signature of resolved bindings.
 ghost use Rattle.std.specs.Prelude.{◌≡◌, ◌++◌, All, IfOk, OnOk, reverse};
-ghost use Rattle.mls_syntax.specs.Resolution.{HasChain};
+ghost use Rattle.mls_names.specs.Resolution.{HasChain};
 ghost use Rattle.mls_top.specs.Answering.{IsSignature, AddsEntry};
 ghost use Rattle.mls_top.specs.Chains.{used_by, is_used, domain_text, piece_text, type_text, leaf_use};
 

@@ -1,7 +1,7 @@
 use Rattle.std.proofs.Common.{[], sym, ◌∙◌}
-use Rattle.mls_syntax.proofs.BuiltChains.{built_chains}
-use Rattle.mls_syntax.proofs.FaultsWithin.{fault-within}
-use Rattle.mls_syntax.proofs.NamesWithin.{import-within, unknown-within, unbuilt-within}
+use Rattle.mls_names.proofs.BuiltChains.{built_chains}
+use Rattle.mls_grammar.proofs.FaultsWithin.{fault-within}
+use Rattle.mls_names.proofs.NamesWithin.{import-within, unknown-within, unbuilt-within}
 use Rattle.mls_top.specs.Outcomes.{bad_module, is_faulty}
 use Rattle.mls_top.proofs.Inferring.{first_is, none_is, import_refused, unknown_refused, unbuilt_refused, signed_is_inferred}
 use Rattle.mls_top.proofs.infer.infer.Goals as goal

@@ -1,6 +1,6 @@
 use Rattle.std.proofs.Common.{◌≡◌, ℕ, ◌+◌, ◌<◌, List, ◌++◌, ◌∷◌, [], length, take, get_or, sym, ap, ◌∙◌, subst}
 use Rattle.std.proofs.lemmas.List.{take_more}
-use Rattle.mls_syntax.specs.declared.term.ResolvedBinding.{ResolvedBinding}
+use Rattle.mls_term.specs.declared.term.ResolvedBinding.{ResolvedBinding}
 use Rattle.mls_top.specs.Answering.{IsSignature, AddsEntry}
 use Rattle.mls_top.proofs.Entries.{signature-append}
 use Rattle.mls_top.proofs.signature.signature.Goals as goal

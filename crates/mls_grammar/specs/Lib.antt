@@ -1,0 +1,9 @@
+pub mod Phrases
+pub mod Trees
+pub mod Doubles
+pub mod Modules
+pub mod GrammarFaults
+pub mod FirstFaults
+pub mod Faults
+pub mod Laws
+pub mod GrammarLaws

@@ -1,0 +1,14 @@
+pub mod Bounds
+pub mod BuiltChains
+pub mod Counting
+pub mod LeastPlaces
+pub mod Meant
+pub mod Named
+pub mod NamesWithin
+pub mod OneResolution
+pub mod Resolving
+pub mod Scopes
+pub mod Tasks
+pub mod Walking
+pub mod WholeWalks
+pub mod UnknownsRise

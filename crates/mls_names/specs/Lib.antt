@@ -1,0 +1,4 @@
+pub mod Resolution
+pub mod Unbuilt
+pub mod ResolutionLaws
+pub mod steps

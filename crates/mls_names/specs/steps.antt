@@ -1,0 +1,4 @@
+-- What the functions of the crate do one step at a time. No public clause cites it.
+pub mod Counts
+pub mod Meanings
+pub mod Walks

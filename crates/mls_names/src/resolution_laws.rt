@@ -1,0 +1,28 @@
+//! Laws of names, each the contract of a function that does nothing.
+ghost use Rattle.mls_names.specs.ResolutionLaws.{OneResolution, OneUnknownName, FirstUnknownIsLeast};
+ghost use Rattle.mls_names.specs.ResolutionLaws.{NoUnknownNameBesideAResolution, ResolutionOrUnknownName};
+
+/// A module has one resolution at most.
+pub fn one_resolution()
+    ensures { OneResolution }
+{}
+
+/// A module has one first name without a meaning at most.
+pub fn one_unknown_name()
+    ensures { OneUnknownName }
+{}
+
+/// A module with a resolution has no name without a meaning.
+pub fn no_unknown_name_beside_a_resolution()
+    ensures { NoUnknownNameBesideAResolution }
+{}
+
+/// A module has a resolution or a name without a meaning.
+pub fn resolution_or_unknown_name()
+    ensures { ResolutionOrUnknownName }
+{}
+
+/// Of the names of a text's module that have no meaning, the first in the order of the text has the least place.
+pub fn first_unknown_is_least()
+    ensures { FirstUnknownIsLeast }
+{}

@@ -1,0 +1,17 @@
+pub mod Arrangements
+pub mod Builds
+pub mod Closing
+pub mod DoublesIn
+pub mod GivenDoubles
+pub mod LaterSteps
+pub mod Links
+pub mod OrderedPieces
+pub mod ParsedModules
+pub mod PieceSteps
+pub mod Placed
+pub mod ReaderEnds
+pub mod ReaderLoops
+pub mod ReaderParts
+pub mod ReaderSteps
+pub mod Spelled
+pub mod Telling

@@ -1,0 +1,9 @@
+//! The reader of modules: from a text to its module, or to its first fault.
+#![tactic(auto)]
+
+mod doubles;
+mod nodes;
+pub mod parse;
+mod piece;
+mod read;
+mod todo;

@@ -1,5 +1,0 @@
-use Rattle.mls_syntax.proofs.DoublesRise.{first_double_is_least}
-use Rattle.mls_syntax.proofs.grammar_laws.first_double_is_least.Goals as goal
-
-pub returns : goal.returns
-returns c = first_double_is_least

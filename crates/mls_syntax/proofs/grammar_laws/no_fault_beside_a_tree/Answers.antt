@@ -1,5 +1,0 @@
-use Rattle.mls_syntax.proofs.FirstStops.{no_fault_beside_a_tree}
-use Rattle.mls_syntax.proofs.grammar_laws.no_fault_beside_a_tree.Goals as goal
-
-pub returns : goal.returns
-returns c = no_fault_beside_a_tree

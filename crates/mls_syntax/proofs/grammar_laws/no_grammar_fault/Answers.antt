@@ -1,5 +1,0 @@
-use Rattle.mls_syntax.proofs.OneTree.{no_fault_beside_a_tree}
-use Rattle.mls_syntax.proofs.grammar_laws.no_grammar_fault.Goals as goal
-
-pub returns : goal.returns
-returns c = no_fault_beside_a_tree

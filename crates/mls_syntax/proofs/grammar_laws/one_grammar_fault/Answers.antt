@@ -1,5 +1,0 @@
-use Rattle.mls_syntax.proofs.GrammarStops.{one_grammar_fault}
-use Rattle.mls_syntax.proofs.grammar_laws.one_grammar_fault.Goals as goal
-
-pub returns : goal.returns
-returns c = one_grammar_fault

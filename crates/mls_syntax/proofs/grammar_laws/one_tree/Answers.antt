@@ -1,5 +1,0 @@
-use Rattle.mls_syntax.proofs.OneTree.{one_tree}
-use Rattle.mls_syntax.proofs.grammar_laws.one_tree.Goals as goal
-
-pub returns : goal.returns
-returns c = one_tree

@@ -1,5 +1,0 @@
-use Rattle.mls_syntax.proofs.GrammarTotal.{phrase_or_fault}
-use Rattle.mls_syntax.proofs.grammar_laws.phrase_or_fault.Goals as goal
-
-pub returns : goal.returns
-returns c = phrase_or_fault

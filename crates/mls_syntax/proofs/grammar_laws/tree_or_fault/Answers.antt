@@ -1,5 +1,0 @@
-use Rattle.mls_syntax.proofs.FirstStops.{tree_or_fault}
-use Rattle.mls_syntax.proofs.grammar_laws.tree_or_fault.Goals as goal
-
-pub returns : goal.returns
-returns c = tree_or_fault

@@ -1,9 +1,0 @@
-use Rattle.std.proofs.Common.{◌≡◌, [], ◌++◌, length, reverse}
-use Rattle.mls_syntax.specs.Arranging.{arrangement}
-use Rattle.mls_syntax.proofs.nodes.arrange.Given as goal
-
-abbrev pub invariant-loop-piece : goal.invariant-loop-piece
-invariant-loop-piece l = l.backward.items ++ arrangement (reverse l.later.items) (reverse l.pieces.items) ≡ arrangement [] (reverse l.initial.pieces.items)
-
-abbrev pub decreases-loop-piece : goal.decreases-loop-piece
-decreases-loop-piece l = length l.pieces.items

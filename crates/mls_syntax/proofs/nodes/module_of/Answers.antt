@@ -1,5 +1,0 @@
-use Rattle.mls_syntax.proofs.OrderedPieces.{ok-told}
-use Rattle.mls_syntax.proofs.nodes.module_of.Goals as goal
-
-pub returns : goal.returns
-returns c = ok-told c.link.result c.args.pieces.items c.in_ok-backward.backward.items c.in_ok-backward.ensures c.link.ensures

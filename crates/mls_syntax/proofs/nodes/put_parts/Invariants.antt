@@ -1,6 +1,0 @@
-use Rattle.std.proofs.Common.{◌≡◌, ◌++◌, reverse}
-use Rattle.mls_syntax.specs.Arranging.{parts}
-use Rattle.mls_syntax.proofs.nodes.put_parts.Given as goal
-
-abbrev pub invariant-loop : goal.invariant-loop
-invariant-loop l = reverse l.later.items ≡ parts l.counter ++ reverse l.initial.later.items

@@ -1,5 +1,0 @@
-use Rattle.mls_syntax.proofs.OneResolution.{no_unknown_name_beside_a_resolution}
-use Rattle.mls_syntax.proofs.resolution_laws.no_unknown_name_beside_a_resolution.Goals as goal
-
-pub returns : goal.returns
-returns c = no_unknown_name_beside_a_resolution

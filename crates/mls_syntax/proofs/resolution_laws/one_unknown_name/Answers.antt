@@ -1,5 +1,0 @@
-use Rattle.mls_syntax.proofs.OneResolution.{one_unknown_name}
-use Rattle.mls_syntax.proofs.resolution_laws.one_unknown_name.Goals as goal
-
-pub returns : goal.returns
-returns c = one_unknown_name

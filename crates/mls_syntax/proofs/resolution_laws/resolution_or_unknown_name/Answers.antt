@@ -1,5 +1,0 @@
-use Rattle.mls_syntax.proofs.OneResolution.{resolution_or_unknown_name}
-use Rattle.mls_syntax.proofs.resolution_laws.resolution_or_unknown_name.Goals as goal
-
-pub returns : goal.returns
-returns c = resolution_or_unknown_name

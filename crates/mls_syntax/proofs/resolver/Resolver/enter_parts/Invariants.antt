@@ -1,7 +1,0 @@
-use Rattle.std.proofs.Common.{drop}
-use Rattle.mls_syntax.proofs.Tasks.{AreEntering}
-use Rattle.mls_syntax.proofs.resolver.Resolver.enter_parts.Given as goal
-
--- the parts so far wait
-abbrev pub invariant-loop-part : goal.invariant-loop-part
-invariant-loop-part l = AreEntering l.initial.self l.self l.fn.stretch l.parts l.rest (drop l.part-index l.parts)

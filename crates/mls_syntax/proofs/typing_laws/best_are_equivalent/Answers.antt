@@ -1,5 +1,0 @@
-use Rattle.mls_syntax.proofs.Metatheory.{best_equivalent}
-use Rattle.mls_syntax.proofs.typing_laws.best_are_equivalent.Goals as goal
-
-pub returns : goal.returns
-returns c = best_equivalent

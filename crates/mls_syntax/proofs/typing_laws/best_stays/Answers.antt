@@ -1,5 +1,0 @@
-use Rattle.mls_syntax.proofs.Metatheory.{best_more_general}
-use Rattle.mls_syntax.proofs.typing_laws.best_stays.Goals as goal
-
-pub returns : goal.returns
-returns c = best_more_general

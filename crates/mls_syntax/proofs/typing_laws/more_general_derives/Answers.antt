@@ -1,5 +1,0 @@
-use Rattle.mls_syntax.proofs.Metatheory.{more_general_derives}
-use Rattle.mls_syntax.proofs.typing_laws.more_general_derives.Goals as goal
-
-pub returns : goal.returns
-returns c = more_general_derives

@@ -1,0 +1,6 @@
+pub mod Environments
+pub mod Failures
+pub mod Metatheory
+pub mod MovedDerivations
+pub mod Rules
+pub mod Worked

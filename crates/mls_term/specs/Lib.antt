@@ -1,0 +1,4 @@
+pub mod Terms
+pub mod Derivations
+pub mod WellFormed
+pub mod TypingLaws
