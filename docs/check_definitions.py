@@ -113,8 +113,8 @@ def public_functions(path):
 
 
 def ghost_members(text, name):
-    """The ghost lines of the impls for a type."""
-    return [body for body in re.findall(rf"^impl[^\n]* for {name}(?:<[^\n]*)? \{{\n(.*?)^\}}", text, re.M | re.S)]
+    """The ghost lines of the model of a type."""
+    return re.findall(rf"^impl[^\n]*\bModel for {name}(?:<[^\n]*)? \{{\n(.*?)^\}}", text, re.M | re.S)
 
 
 class Closure:
@@ -151,6 +151,8 @@ class Closure:
     def definition(self, file, name):
         specs = self.specs(file)
         number = specs.where.get(name)
+        if number is None and name in specs.scope.names:
+            return self.word(name, specs.scope, None)
         if number is None or (file, number) in self.reached:
             return []
         self.reached[file, number] = specs.blocks[number]

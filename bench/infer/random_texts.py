@@ -1,4 +1,5 @@
 """Compares two programs that infer signatures on random texts of modules: their output and status have to agree.
+It ends with 1 where they differ.
 
     python3 bench/infer/random_texts.py FIRST SECOND SEED COUNT
 """
@@ -86,6 +87,7 @@ def main():
             differ += 1
             print(repr(text), said)
     print(dict(kinds), "differ:", differ)
+    return 1 if differ else 0
 
 
-main()
+sys.exit(main())

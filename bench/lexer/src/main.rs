@@ -3,7 +3,8 @@
 //! `lexer-bench write FOLDER` writes the texts, `lexer-bench run FOLDER ROUNDS` reads their tokens and prints
 //! the least time of a round for each, with the number of tokens and a sum over their places and kinds.
 
-use std::{env, fs, path::Path, time::Instant};
+use bench_common::arguments;
+use std::{fs, path::Path, time::Instant};
 
 const TEXTS: [&str; 4] = ["module", "names", "symbols", "comments"];
 const SIZE: usize = 1 << 20;
@@ -182,7 +183,7 @@ fn sum(found: &[Token]) -> u64 {
 }
 
 fn main() {
-    let words: Vec<String> = env::args().skip(1).collect();
+    let words = arguments();
     let folder = Path::new(&words[1]);
     if words[0] == "write" {
         for name in TEXTS {

@@ -1,72 +1,8 @@
 //! An unverified reader of the texts of types, to be measured beside `mls_typetext::read_type`; and the texts for both.
+use bench_common::{arguments, tokens, Fault, Kind, Token};
 use std::collections::{HashMap, HashSet};
 use std::time::Instant;
-use std::{env, fs, process, thread};
-
-#[derive(Clone, Copy, PartialEq, Eq)]
-enum Kind {
-    Name,
-    Number,
-    Word(&'static str),
-    Symbol(&'static str),
-}
-
-#[derive(Clone, Copy)]
-struct Token {
-    kind: Kind,
-    start: usize,
-    end: usize,
-}
-
-/// The number of a fault, and its place in bytes.
-struct Fault(usize, usize);
-
-const RESERVED: [&str; 18] = [
-    "and", "bool", "bot", "else", "false", "format", "fun", "if", "import", "in", "int", "let", "rec", "then",
-    "top", "true", "type", "val",
-];
-
-const SYMBOLS: [&str; 16] = ["==", "->", "=", "{", "}", "(", ")", ",", ".", ":", "+", "-", "*", "<", "|", "&"];
-
-fn tokens(text: &[u8]) -> Result<Vec<Token>, Fault> {
-    let mut found = Vec::new();
-    let mut at = 0;
-    while at < text.len() {
-        let start = at;
-        let kind = match text[at] {
-            b' ' | b'\t' | b'\n' | b'\r' => {
-                at += 1;
-                continue;
-            }
-            b'#' => {
-                at += text[at..].iter().take_while(|byte| **byte != b'\n').count();
-                continue;
-            }
-            b'a'..=b'z' => {
-                at += text[at..].iter().take_while(|byte| byte.is_ascii_alphanumeric() || **byte == b'_').count();
-                let word = &text[start..at];
-                RESERVED.iter().find(|reserved| reserved.as_bytes() == word).map_or(Kind::Name, |word| Kind::Word(word))
-            }
-            b'0'..=b'9' => {
-                at += text[at..].iter().take_while(|byte| byte.is_ascii_digit()).count();
-                let digits = std::str::from_utf8(&text[start..at]).expect("digits are ASCII");
-                if digits.parse::<i64>().is_err() {
-                    return Err(Fault(2, start));
-                }
-                Kind::Number
-            }
-            _ => match SYMBOLS.iter().find(|symbol| text[at..].starts_with(symbol.as_bytes())) {
-                Some(symbol) => {
-                    at += symbol.len();
-                    Kind::Symbol(symbol)
-                }
-                None => return Err(Fault(1, start)),
-            },
-        };
-        found.push(Token { kind, start, end: at });
-    }
-    Ok(found)
-}
+use std::{fs, process, thread};
 
 enum Tree<'a> {
     Name(usize, &'a [u8]),
@@ -369,7 +305,7 @@ fn write(folder: &str) -> std::io::Result<()> {
 }
 
 fn work() {
-    let words: Vec<String> = env::args().skip(1).collect();
+    let words: Vec<String> = arguments();
     let status = match words.iter().map(String::as_str).collect::<Vec<_>>()[..] {
         ["write", folder] => write(folder).map_or(1, |()| 0),
         ["run", ref paths @ ..] => {

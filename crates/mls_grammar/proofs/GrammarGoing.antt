@@ -7,10 +7,10 @@ use Rattle.mls_lexer.specs.steps.Machine.{run, can_end, onward}
 use Rattle.mls_lexer.proofs.Machine.{run-append, Phrases, spell, some_phrases, OpensSoundly, ReadsSoundly, IsSound, run-sound, empty_phrases}
 use Rattle.mls_grammar.specs.Phrases.{source, imports, bindings, bind_rest, expr, let_rest, compare_tail, sum, sum_tail, product, product_tail, apply, arguments, post, dots, atom, parts, more_parts, Phrase, whole, no_import, importing, no_binding, binding, simple, recursive, fun, fix, local, choice, plain, simple_in, recursive_in, no_compare, less, equal, summed, no_sum, plus, minus, multiplied, no_product, times, applied, no_argument, argument, posted, no_dot, dot, variable, literal, truth, parens, braces, no_part, first_part, last_part, next_part, yields}
 use Rattle.mls_grammar.specs.GrammarFaults.{IsSource, CanGoOn}
-use Rattle.mls_grammar.proofs.GrammarMachine.{Part, a, the_name, the_equals, the_arrow, the_then, the_else, the_in, the_paren, dots_row, arguments_row, product_row, sum_row, compare_row, atom_opens, opens, may_end, read, start, End, behind_imports, may_compare, compared, tails, end_of, left, reads}
+use Rattle.mls_grammar.proofs.GrammarMachine.{ToCome, a, the_name, the_equals, the_arrow, the_then, the_else, the_in, the_paren, dots_row, arguments_row, product_row, sum_row, compare_row, atom_opens, opens, may_end, read, start, End, behind_imports, may_compare, compared, tails, end_of, left, reads}
 
 -- phrases of parts, and what they spell
-abbrev pub PhraseOf : Part → Type 0
+abbrev pub PhraseOf : ToCome → Type 0
 PhraseOf (a n s) = Phrase s
 PhraseOf the_name = List ℕ
 PhraseOf the_equals = Unit {0}
@@ -20,7 +20,7 @@ PhraseOf the_else = Unit {0}
 PhraseOf the_in = Unit {0}
 PhraseOf the_paren = Unit {0}
 
-abbrev pub yields_of : (s : Part) → PhraseOf s → List Terminal → List Terminal
+abbrev pub yields_of : (s : ToCome) → PhraseOf s → List Terminal → List Terminal
 yields_of (a n s) p ts = yields p ts
 yields_of the_name x ts = name x ∷ ts
 yields_of the_equals p ts = word kind.Equals ∷ ts
@@ -46,7 +46,7 @@ some_sum = summed some_product no_sum
 abbrev some_expr : Phrase expr
 some_expr = plain some_sum no_compare
 
-some_phrase : (s : Part) → PhraseOf s
+some_phrase : (s : ToCome) → PhraseOf s
 some_phrase (a n source) = whole no_import no_binding
 some_phrase (a n imports) = no_import
 some_phrase (a n bindings) = no_binding
@@ -74,10 +74,10 @@ some_phrase the_in = tt
 some_phrase the_paren = tt
 
 -- an atom opens soundly, where it and what comes behind it make the part
-abbrev Builds : Part → List Part → Type 0
+abbrev Builds : ToCome → List ToCome → Type 0
 Builds s row = (x : Phrase atom) (qs : Phrases PhraseOf row) → (p : PhraseOf s) × ((ts : List Terminal) → yields_of s p ts ≡ yields x (spell PhraseOf yields_of row qs ts))
 
-atom-sound : (s : Part) (n : ℕ) (row : List Part) → Builds s row → (t : Terminal) → OpensSoundly PhraseOf yields_of s t (atom_opens n row t)
+atom-sound : (s : ToCome) (n : ℕ) (row : List ToCome) → Builds s row → (t : Terminal) → OpensSoundly PhraseOf yields_of s t (atom_opens n row t)
 unfolding yields
 atom-sound s n row build (name x) = λ qs. build (variable x) qs
 atom-sound s n row build (number value) = λ qs. build (literal value) qs
@@ -114,7 +114,7 @@ build_post n x qs = (posted x qs.0, λ ts. refl)
 build_atom : (n : ℕ) → Builds (a n atom) []
 build_atom n x qs = (x, λ ts. refl)
 
-opening : (s : Part) (t : Terminal) → OpensSoundly PhraseOf yields_of s t (opens s t)
+opening : (s : ToCome) (t : Terminal) → OpensSoundly PhraseOf yields_of s t (opens s t)
 unfolding yields
 opening (a n source) t = tt
 opening (a n imports) (word kind.WordImport) = λ qs. (importing qs.0 qs.1.0, λ ts. refl)
@@ -169,7 +169,7 @@ opening the_in _ = tt
 opening the_paren (word kind.ParenRight) = λ qs. (tt, λ ts. refl)
 opening the_paren _ = tt
 
-empty : (s : Part) → may_end s ≡ true → (p : PhraseOf s) × ((ts : List Terminal) → yields_of s p ts ≡ ts)
+empty : (s : ToCome) → may_end s ≡ true → (p : PhraseOf s) × ((ts : List Terminal) → yields_of s p ts ≡ ts)
 unfolding yields
 empty (a n imports) e = (no_import, λ ts. refl)
 empty (a n bindings) e = (no_binding, λ ts. refl)
@@ -200,12 +200,12 @@ empty the_paren e = absurd (cc)
 pub grammar_is_sound : IsSound opens may_end PhraseOf yields_of
 grammar_is_sound = record { opening = opening; empty = empty }
 
-abbrev pub IsThere : Option (List Part) → Type 0
+abbrev pub IsThere : Option (List ToCome) → Type 0
 IsThere None = ⊥
 IsThere (Some st) = Unit {0}
 
 -- what a whole module leaves
-abbrev pub left_of : Phrase source → List Part
+abbrev pub left_of : Phrase source → List ToCome
 left_of p = left source 0 (end_of 0 (behind_imports 0) p) []
 
 -- what begins a module is read
@@ -216,7 +216,7 @@ going-read us it = go (read start us) both
     both : onward (read start us) (λ next. read next it.0) ≡ Some (left_of it.1.0)
     both = sym (run-append opens may_end start us it.0) ∙ (ap (read start) (sym it.1.1) ∙ reads it.1.0 0 (behind_imports 0) [] [])
 
-    go : (o : Option (List Part)) → onward o (λ next. read next it.0) ≡ Some (left_of it.1.0) → IsThere o
+    go : (o : Option (List ToCome)) → onward o (λ next. read next it.0) ≡ Some (left_of it.1.0) → IsThere o
     go None e = cc
     go (Some st) e = tt
 
@@ -229,7 +229,7 @@ whole_of us ps e = (whole ps.0 ps.1.0, e)
 pub read-going : (us : List Terminal) → IsThere (read start us) → CanGoOn us
 read-going us there = go (read start us) (run-sound opens may_end PhraseOf yields_of grammar_is_sound us start) there
   where
-    go : (o : Option (List Part)) → ReadsSoundly PhraseOf yields_of start us o → IsThere o → CanGoOn us
+    go : (o : Option (List ToCome)) → ReadsSoundly PhraseOf yields_of start us o → IsThere o → CanGoOn us
     go None sound there = absurd there
     go (Some st) sound there =
         let qs : Phrases PhraseOf st = some_phrases PhraseOf some_phrase st in
@@ -242,21 +242,21 @@ left-ends (behind_imports n) = refl
 left-ends (may_compare n) = refl
 left-ends (compared n) = refl
 
-pub source-ends : (us : List Terminal) (st : List Part) → read start us ≡ Some st → IsSource us → can_end may_end st ≡ true
+pub source-ends : (us : List Terminal) (st : List ToCome) → read start us ≡ Some st → IsSource us → can_end may_end st ≡ true
 unfolding run
 source-ends us st is it =
     let whole_read : read start us ≡ Some (left_of it.0) = ap (read start) (sym it.1) ∙ reads it.0 0 (behind_imports 0) [] [] in
     let same : left_of it.0 ≡ st = same_some (left_of it.0) st (sym whole_read ∙ is) in
     ap (can_end may_end) (sym same) ∙ left-ends (end_of 0 (behind_imports 0) it.0)
   where
-    same_some : (x y : List Part) → Some x ≡ Some y → x ≡ y
+    same_some : (x y : List ToCome) → Some x ≡ Some y → x ≡ y
     same_some x y e = cc
 
 -- and terminals behind which nothing has to come are a module
-pub ends-source : (us : List Terminal) (st : List Part) → read start us ≡ Some st → can_end may_end st ≡ true → IsSource us
+pub ends-source : (us : List Terminal) (st : List ToCome) → read start us ≡ Some st → can_end may_end st ≡ true → IsSource us
 ends-source us st is can = go (read start us) (run-sound opens may_end PhraseOf yields_of grammar_is_sound us start) is
   where
-    go : (o : Option (List Part)) → ReadsSoundly PhraseOf yields_of start us o → o ≡ Some st → IsSource us
+    go : (o : Option (List ToCome)) → ReadsSoundly PhraseOf yields_of start us o → o ≡ Some st → IsSource us
     go None sound e = absurd (cc)
     go (Some next) sound e =
         let same : next ≡ st = cc in

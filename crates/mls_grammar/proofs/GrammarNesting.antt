@@ -8,64 +8,64 @@ use Rattle.mls_lexer.specs.Tokens.{Terminal, word}
 use Rattle.mls_lexer.specs.steps.Machine.{step}
 use Rattle.mls_grammar.specs.Phrases.{Sort, source, imports, bindings, bind_rest, expr, compare_tail, sum, sum_tail, product, product_tail, apply, arguments, post, dots, atom, more_parts, Phrase, whole, no_import, importing, no_binding, binding, simple, recursive, fun, fix, local, choice, plain, simple_in, recursive_in, no_compare, less, equal, summed, no_sum, plus, minus, multiplied, no_product, times, applied, no_argument, argument, posted, no_dot, dot, variable, literal, truth, parens, braces, no_part, first_part, last_part, next_part, yields, nesting}
 use Rattle.mls_grammar.specs.GrammarFaults.{begin_first, nestings, IsDeepAt}
-use Rattle.mls_grammar.proofs.GrammarMachine.{Part, a, the_then, the_else, the_in, the_paren, opens, may_end, start, End, behind_imports, may_compare, compared, tails, end_of, before, left}
+use Rattle.mls_grammar.proofs.GrammarMachine.{ToCome, a, the_then, the_else, the_in, the_paren, opens, may_end, start, End, behind_imports, may_compare, compared, tails, end_of, before, left}
 
 -- the nesting of the expression that a part is, and 0 for any other part
-abbrev pub own : Part → ℕ
+abbrev pub own : ToCome → ℕ
 own (a n expr) = suc n
 own _ = 0
 
-abbrev pub picked : Option (List Part) → Bool → ℕ → ℕ → ℕ
+abbrev pub picked : Option (List ToCome) → Bool → ℕ → ℕ → ℕ
 picked (Some new) empty n later = n
 picked None true n later = later
 picked None false n later = 0
 
 -- the nesting of the expression that begins at a terminal
-abbrev pub begun : List Part → Terminal → ℕ
+abbrev pub begun : List ToCome → Terminal → ℕ
 begun [] t = 0
 begun (s ∷ st) t = picked (opens s t) (may_end s) (own s) (begun st t)
 
-abbrev pub further : Option (List Part) → (List Part → List ℕ) → List ℕ
+abbrev pub further : Option (List ToCome) → (List ToCome → List ℕ) → List ℕ
 further None next = []
 further (Some st) next = next st
 
 -- and so for each of the terminals that the machine reads
-unfoldable pub marks : List Part → List Terminal → List ℕ
+unfoldable pub marks : List ToCome → List Terminal → List ℕ
 marks st [] = []
 marks st (t ∷ ts) = begun st t ∷ further (step opens may_end st t) (λ next. marks next ts)
 
 -- where an expression ends, no tail of it begins
-pass_let : (e : End) (n : ℕ) (st : List Part) (ts : List Terminal) → marks (tails e ++ a n bindings ∷ st) (word kind.WordLet ∷ ts) ≡ 0 ∷ marks (a n bind_rest ∷ st) ts
+pass_let : (e : End) (n : ℕ) (st : List ToCome) (ts : List Terminal) → marks (tails e ++ a n bindings ∷ st) (word kind.WordLet ∷ ts) ≡ 0 ∷ marks (a n bind_rest ∷ st) ts
 unfolding marks
 pass_let (behind_imports m) n st ts = refl
 pass_let (may_compare m) n st ts = refl
 pass_let (compared m) n st ts = refl
 
-pass_then : (e : End) (st : List Part) (ts : List Terminal) → marks (tails e ++ the_then ∷ st) (word kind.WordThen ∷ ts) ≡ 0 ∷ marks st ts
+pass_then : (e : End) (st : List ToCome) (ts : List Terminal) → marks (tails e ++ the_then ∷ st) (word kind.WordThen ∷ ts) ≡ 0 ∷ marks st ts
 unfolding marks
 pass_then (behind_imports m) st ts = refl
 pass_then (may_compare m) st ts = refl
 pass_then (compared m) st ts = refl
 
-pass_else : (e : End) (st : List Part) (ts : List Terminal) → marks (tails e ++ the_else ∷ st) (word kind.WordElse ∷ ts) ≡ 0 ∷ marks st ts
+pass_else : (e : End) (st : List ToCome) (ts : List Terminal) → marks (tails e ++ the_else ∷ st) (word kind.WordElse ∷ ts) ≡ 0 ∷ marks st ts
 unfolding marks
 pass_else (behind_imports m) st ts = refl
 pass_else (may_compare m) st ts = refl
 pass_else (compared m) st ts = refl
 
-pass_in : (e : End) (st : List Part) (ts : List Terminal) → marks (tails e ++ the_in ∷ st) (word kind.WordIn ∷ ts) ≡ 0 ∷ marks st ts
+pass_in : (e : End) (st : List ToCome) (ts : List Terminal) → marks (tails e ++ the_in ∷ st) (word kind.WordIn ∷ ts) ≡ 0 ∷ marks st ts
 unfolding marks
 pass_in (behind_imports m) st ts = refl
 pass_in (may_compare m) st ts = refl
 pass_in (compared m) st ts = refl
 
-pass_paren : (e : End) (st : List Part) (ts : List Terminal) → marks (tails e ++ the_paren ∷ st) (word kind.ParenRight ∷ ts) ≡ 0 ∷ marks st ts
+pass_paren : (e : End) (st : List ToCome) (ts : List Terminal) → marks (tails e ++ the_paren ∷ st) (word kind.ParenRight ∷ ts) ≡ 0 ∷ marks st ts
 unfolding marks
 pass_paren (behind_imports m) st ts = refl
 pass_paren (may_compare m) st ts = refl
 pass_paren (compared m) st ts = refl
 
-pass_part : (e : End) (n : ℕ) (p : Phrase more_parts) (st : List Part) (ts : List Terminal) → marks (tails e ++ a n more_parts ∷ st) (yields p ts) ≡ marks (a n more_parts ∷ st) (yields p ts)
+pass_part : (e : End) (n : ℕ) (p : Phrase more_parts) (st : List ToCome) (ts : List Terminal) → marks (tails e ++ a n more_parts ∷ st) (yields p ts) ≡ marks (a n more_parts ∷ st) (yields p ts)
 unfolding marks yields
 pass_part (behind_imports m) n last_part st ts = refl
 pass_part (may_compare m) n last_part st ts = refl
@@ -75,7 +75,7 @@ pass_part (may_compare m) n (next_part x e p) st ts = refl
 pass_part (compared m) n (next_part x e p) st ts = refl
 
 -- an operand begins with its first atom
-begins_plain : (n : ℕ) (x : Phrase atom) (st : List Part) (ts : List Terminal) → marks (a n expr ∷ st) (yields x ts) ≡ begin_first (suc n) (marks (a (suc n) sum ∷ a (suc n) compare_tail ∷ st) (yields x ts))
+begins_plain : (n : ℕ) (x : Phrase atom) (st : List ToCome) (ts : List Terminal) → marks (a n expr ∷ st) (yields x ts) ≡ begin_first (suc n) (marks (a (suc n) sum ∷ a (suc n) compare_tail ∷ st) (yields x ts))
 unfolding yields marks
 begins_plain n (variable x) st ts = refl
 begins_plain n (literal value) st ts = refl
@@ -84,7 +84,7 @@ begins_plain n (truth false) st ts = refl
 begins_plain n (parens e) st ts = refl
 begins_plain n (braces p) st ts = refl
 
-begins_sum : (n : ℕ) (x : Phrase atom) (st : List Part) (ts : List Terminal) → marks (a n sum ∷ st) (yields x ts) ≡ marks (a n product ∷ a n sum_tail ∷ st) (yields x ts)
+begins_sum : (n : ℕ) (x : Phrase atom) (st : List ToCome) (ts : List Terminal) → marks (a n sum ∷ st) (yields x ts) ≡ marks (a n product ∷ a n sum_tail ∷ st) (yields x ts)
 unfolding yields marks
 begins_sum n (variable x) st ts = refl
 begins_sum n (literal value) st ts = refl
@@ -93,7 +93,7 @@ begins_sum n (truth false) st ts = refl
 begins_sum n (parens e) st ts = refl
 begins_sum n (braces p) st ts = refl
 
-begins_product : (n : ℕ) (x : Phrase atom) (st : List Part) (ts : List Terminal) → marks (a n product ∷ st) (yields x ts) ≡ marks (a n apply ∷ a n product_tail ∷ st) (yields x ts)
+begins_product : (n : ℕ) (x : Phrase atom) (st : List ToCome) (ts : List Terminal) → marks (a n product ∷ st) (yields x ts) ≡ marks (a n apply ∷ a n product_tail ∷ st) (yields x ts)
 unfolding yields marks
 begins_product n (variable x) st ts = refl
 begins_product n (literal value) st ts = refl
@@ -102,7 +102,7 @@ begins_product n (truth false) st ts = refl
 begins_product n (parens e) st ts = refl
 begins_product n (braces p) st ts = refl
 
-begins_apply : (n : ℕ) (x : Phrase atom) (st : List Part) (ts : List Terminal) → marks (a n apply ∷ st) (yields x ts) ≡ marks (a n post ∷ a n arguments ∷ st) (yields x ts)
+begins_apply : (n : ℕ) (x : Phrase atom) (st : List ToCome) (ts : List Terminal) → marks (a n apply ∷ st) (yields x ts) ≡ marks (a n post ∷ a n arguments ∷ st) (yields x ts)
 unfolding yields marks
 begins_apply n (variable x) st ts = refl
 begins_apply n (literal value) st ts = refl
@@ -111,7 +111,7 @@ begins_apply n (truth false) st ts = refl
 begins_apply n (parens e) st ts = refl
 begins_apply n (braces p) st ts = refl
 
-begins_argument : (n : ℕ) (x : Phrase atom) (st : List Part) (ts : List Terminal) → marks (a n dots ∷ a n arguments ∷ st) (yields x ts) ≡ marks (a n post ∷ a n arguments ∷ st) (yields x ts)
+begins_argument : (n : ℕ) (x : Phrase atom) (st : List ToCome) (ts : List Terminal) → marks (a n dots ∷ a n arguments ∷ st) (yields x ts) ≡ marks (a n post ∷ a n arguments ∷ st) (yields x ts)
 unfolding yields marks
 begins_argument n (variable x) st ts = refl
 begins_argument n (literal value) st ts = refl
@@ -120,7 +120,7 @@ begins_argument n (truth false) st ts = refl
 begins_argument n (parens e) st ts = refl
 begins_argument n (braces p) st ts = refl
 
-begins_post : (n : ℕ) (x : Phrase atom) (st : List Part) (ts : List Terminal) → marks (a n post ∷ st) (yields x ts) ≡ marks (a n atom ∷ a n dots ∷ st) (yields x ts)
+begins_post : (n : ℕ) (x : Phrase atom) (st : List ToCome) (ts : List Terminal) → marks (a n post ∷ st) (yields x ts) ≡ marks (a n atom ∷ a n dots ∷ st) (yields x ts)
 unfolding yields marks
 begins_post n (variable x) st ts = refl
 begins_post n (literal value) st ts = refl
@@ -129,28 +129,28 @@ begins_post n (truth false) st ts = refl
 begins_post n (parens e) st ts = refl
 begins_post n (braces p) st ts = refl
 
-plain_begins : (n : ℕ) (s : Phrase sum) (st : List Part) (ts : List Terminal) → marks (a n expr ∷ st) (yields s ts) ≡ begin_first (suc n) (marks (a (suc n) sum ∷ a (suc n) compare_tail ∷ st) (yields s ts))
+plain_begins : (n : ℕ) (s : Phrase sum) (st : List ToCome) (ts : List Terminal) → marks (a n expr ∷ st) (yields s ts) ≡ begin_first (suc n) (marks (a (suc n) sum ∷ a (suc n) compare_tail ∷ st) (yields s ts))
 unfolding yields
 plain_begins n (summed (multiplied (applied (posted x d) m) t) u) st ts = begins_plain n x st (yields d (yields m (yields t (yields u ts))))
 
-sum_begins : (n : ℕ) (p : Phrase product) (st : List Part) (ts : List Terminal) → marks (a n sum ∷ st) (yields p ts) ≡ marks (a n product ∷ a n sum_tail ∷ st) (yields p ts)
+sum_begins : (n : ℕ) (p : Phrase product) (st : List ToCome) (ts : List Terminal) → marks (a n sum ∷ st) (yields p ts) ≡ marks (a n product ∷ a n sum_tail ∷ st) (yields p ts)
 unfolding yields
 sum_begins n (multiplied (applied (posted x d) m) t) st ts = begins_sum n x st (yields d (yields m (yields t ts)))
 
-product_begins : (n : ℕ) (p : Phrase apply) (st : List Part) (ts : List Terminal) → marks (a n product ∷ st) (yields p ts) ≡ marks (a n apply ∷ a n product_tail ∷ st) (yields p ts)
+product_begins : (n : ℕ) (p : Phrase apply) (st : List ToCome) (ts : List Terminal) → marks (a n product ∷ st) (yields p ts) ≡ marks (a n apply ∷ a n product_tail ∷ st) (yields p ts)
 unfolding yields
 product_begins n (applied (posted x d) m) st ts = begins_product n x st (yields d (yields m ts))
 
-apply_begins : (n : ℕ) (p : Phrase post) (st : List Part) (ts : List Terminal) → marks (a n apply ∷ st) (yields p ts) ≡ marks (a n post ∷ a n arguments ∷ st) (yields p ts)
+apply_begins : (n : ℕ) (p : Phrase post) (st : List ToCome) (ts : List Terminal) → marks (a n apply ∷ st) (yields p ts) ≡ marks (a n post ∷ a n arguments ∷ st) (yields p ts)
 unfolding yields
 apply_begins n (posted x d) st ts = begins_apply n x st (yields d ts)
 
-argument_begins : (n : ℕ) (p : Phrase post) (st : List Part) (ts : List Terminal) → marks (a n dots ∷ a n arguments ∷ st) (yields p ts) ≡ marks (a n post ∷ a n arguments ∷ st) (yields p ts)
+argument_begins : (n : ℕ) (p : Phrase post) (st : List ToCome) (ts : List Terminal) → marks (a n dots ∷ a n arguments ∷ st) (yields p ts) ≡ marks (a n post ∷ a n arguments ∷ st) (yields p ts)
 unfolding yields
 argument_begins n (posted x d) st ts = begins_argument n x st (yields d ts)
 
 -- the machine marks the terminals of a phrase as the phrase does
-pub marked : {s : Sort} (p : Phrase s) (n : ℕ) (e : End) (st : List Part) (ts : List Terminal) → marks (before s n e st) (yields p ts) ≡ nestings n p (marks (left s n (end_of n e p) st) ts)
+pub marked : {s : Sort} (p : Phrase s) (n : ℕ) (e : End) (st : List ToCome) (ts : List Terminal) → marks (before s n e st) (yields p ts) ≡ nestings n p (marks (left s n (end_of n e p) st) ts)
 unfolding yields marks end_of nestings
 marked (whole i b) n e st ts = marked i n e (a n bindings ∷ st) (yields b ts) ∙ ap (nestings n i) (marked b n (behind_imports n) st ts)
 marked no_import n e st ts = refl
@@ -220,13 +220,13 @@ unfolding marks
 marked-source p = marked p 0 (behind_imports 0) [] []
 
 -- a mark depends on the terminals up to its own alone
-pub marks-front : (us xs ys : List Terminal) (st : List Part) (k : ℕ) → k < length us → slice_get (marks st (us ++ xs)) k ≡ slice_get (marks st (us ++ ys)) k
+pub marks-front : (us xs ys : List Terminal) (st : List ToCome) (k : ℕ) → k < length us → slice_get (marks st (us ++ xs)) k ≡ slice_get (marks st (us ++ ys)) k
 unfolding marks
 marks-front [] xs ys st k low = absurd (omega arith)
 marks-front (u ∷ us) xs ys st zero low = refl
 marks-front (u ∷ us) xs ys st (suc k) low = go (step opens may_end st u) (λ next. marks-front us xs ys next k (omega arith))
   where
-    go : (o : Option (List Part)) → ((next : List Part) → slice_get (marks next (us ++ xs)) k ≡ slice_get (marks next (us ++ ys)) k) → slice_get (further o (λ next. marks next (us ++ xs))) k ≡ slice_get (further o (λ next. marks next (us ++ ys))) k
+    go : (o : Option (List ToCome)) → ((next : List ToCome) → slice_get (marks next (us ++ xs)) k ≡ slice_get (marks next (us ++ ys)) k) → slice_get (further o (λ next. marks next (us ++ xs))) k ≡ slice_get (further o (λ next. marks next (us ++ ys))) k
     go None later = refl
     go (Some next) later = later next
 

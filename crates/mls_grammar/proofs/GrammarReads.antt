@@ -10,7 +10,7 @@ use Rattle.mls_lexer.proofs.Machine.{run-append}
 use Rattle.mls_grammar.specs.declared.fault.Fault.TheVariants.{Unexpected, Ended, TooDeep}
 use Rattle.mls_grammar.specs.Phrases.{Phrase, source, yields}
 use Rattle.mls_grammar.specs.GrammarFaults.{nestings, IsDeepAt, NoneDeepBefore, HasGrammarFault, unexpected, ended, too_deep}
-use Rattle.mls_grammar.proofs.GrammarMachine.{Part, opens, may_end, read, start}
+use Rattle.mls_grammar.proofs.GrammarMachine.{ToCome, opens, may_end, read, start}
 use Rattle.mls_grammar.proofs.GrammarGoing.{IsThere, going-read, read-going, source-ends}
 use Rattle.mls_grammar.proofs.GrammarNesting.{own, picked, begun, further, marks, marked-source, marks-front}
 
@@ -31,26 +31,26 @@ pub deep-mark : (ts : List Terminal) (k : ℕ) → IsDeepAt ts k → slice_get (
 deep-mark ts k it = sym (front-mark ts it.more k it.phrase it.within it.spelled) ∙ it.deep
 
 -- where an expression begins the machine goes on
-begun-step : (st : List Part) (t : Terminal) (m : ℕ) → begun st t ≡ suc m → IsThere (step opens may_end st t)
+begun-step : (st : List ToCome) (t : Terminal) (m : ℕ) → begun st t ≡ suc m → IsThere (step opens may_end st t)
 begun-step [] t m e = cc
 begun-step (s ∷ st) t m e = go (opens s t) (may_end s) e (λ h. begun-step st t m h)
   where
-    go : (o : Option (List Part)) (b : Bool) → picked o b (own s) (begun st t) ≡ suc m → (begun st t ≡ suc m → IsThere (step opens may_end st t)) → IsThere (chosen o b st (step opens may_end st t))
+    go : (o : Option (List ToCome)) (b : Bool) → picked o b (own s) (begun st t) ≡ suc m → (begun st t ≡ suc m → IsThere (step opens may_end st t)) → IsThere (chosen o b st (step opens may_end st t))
     go (Some new) b e later = tt
     go None true e later = later e
     go None false e later = cc
 
-mark-there : (ts : List Terminal) (st : List Part) (k m : ℕ) → slice_get (marks st ts) k ≡ Some (suc m) → IsThere (read st (take (suc k) ts))
+mark-there : (ts : List Terminal) (st : List ToCome) (k m : ℕ) → slice_get (marks st ts) k ≡ Some (suc m) → IsThere (read st (take (suc k) ts))
 unfolding marks run
 mark-there [] st k m e = absurd (cc)
 mark-there (t ∷ ts) st zero m e = go (step opens may_end st t) (begun-step st t m cc)
   where
-    go : (o : Option (List Part)) → IsThere o → IsThere (onward o (λ next. Some next))
+    go : (o : Option (List ToCome)) → IsThere o → IsThere (onward o (λ next. Some next))
     go None there = there
     go (Some next) there = tt
 mark-there (t ∷ ts) st (suc k) m e = go (step opens may_end st t) e (λ next h. mark-there ts next k m h)
   where
-    go : (o : Option (List Part)) → slice_get (further o (λ next. marks next ts)) k ≡ Some (suc m) → ((next : List Part) → slice_get (marks next ts) k ≡ Some (suc m) → IsThere (read next (take (suc k) ts))) → IsThere (onward o (λ next. read next (take (suc k) ts)))
+    go : (o : Option (List ToCome)) → slice_get (further o (λ next. marks next ts)) k ≡ Some (suc m) → ((next : List ToCome) → slice_get (marks next ts) k ≡ Some (suc m) → IsThere (read next (take (suc k) ts))) → IsThere (onward o (λ next. read next (take (suc k) ts)))
     go None e later = cc
     go (Some next) e later = later next e
 
@@ -84,7 +84,7 @@ terminal_at text (t ∷ tokens) zero token e = let same : t ≡ token = cc in ap
 terminal_at text (t ∷ tokens) (suc k) token e = terminal_at text tokens k token e
 
 -- so the machine finds which token is unexpected,
-pub has_unexpected : (text : List ℕ) (tokens : List Token) (k : ℕ) (token : Token) (st : List Part) → slice_get tokens k ≡ Some token → read start (take k (terminals text tokens)) ≡ Some st → step opens may_end st (terminal text token) ≡ None → NoMarkBefore (terminals text tokens) k → HasGrammarFault text tokens (Unexpected token.start token.kind)
+pub has_unexpected : (text : List ℕ) (tokens : List Token) (k : ℕ) (token : Token) (st : List ToCome) → slice_get tokens k ≡ Some token → read start (take k (terminals text tokens)) ≡ Some st → step opens may_end st (terminal text token) ≡ None → NoMarkBefore (terminals text tokens) k → HasGrammarFault text tokens (Unexpected token.start token.kind)
 unfolding run
 has_unexpected text tokens k token st at is stuck none =
     let ts : List Terminal = terminals text tokens in
@@ -97,7 +97,7 @@ has_unexpected text tokens k token st at is stuck none =
     unexpected k token at (read-going (take k ts) (subst IsThere (sym is) tt)) (λ can. subst IsThere stopped (going-read (take (suc k) ts) can)) (none-deep ts k none)
 
 -- that the text ends too early,
-pub has_ended : (text : List ℕ) (tokens : List Token) (st : List Part) → read start (terminals text tokens) ≡ Some st → can_end may_end st ≡ false → NoMarkBefore (terminals text tokens) (length tokens) → HasGrammarFault text tokens Ended
+pub has_ended : (text : List ℕ) (tokens : List Token) (st : List ToCome) → read start (terminals text tokens) ≡ Some st → can_end may_end st ≡ false → NoMarkBefore (terminals text tokens) (length tokens) → HasGrammarFault text tokens Ended
 has_ended text tokens st is owed none =
     ended (read-going (terminals text tokens) (subst IsThere (sym is) tt))
     (λ whole. let yes : can_end may_end st ≡ true = source-ends (terminals text tokens) st is whole in cc)

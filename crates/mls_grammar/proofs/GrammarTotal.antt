@@ -12,7 +12,7 @@ use Rattle.mls_grammar.specs.declared.fault.Fault.TheVariants.{Unexpected, Ended
 use Rattle.mls_grammar.specs.Phrases.{sum, atom, Phrase, source, whole, no_import, importing, no_binding, binding, simple, recursive, fun, fix, local, choice, plain, simple_in, recursive_in, no_compare, less, equal, summed, no_sum, plus, minus, multiplied, no_product, times, applied, no_argument, argument, posted, no_dot, dot, variable, literal, truth, parens, braces, no_part, first_part, last_part, next_part, Sort, nesting}
 use Rattle.mls_grammar.specs.GrammarFaults.{begin_first, nestings}
 use Rattle.mls_grammar.specs.GrammarLaws.{IsPhraseOrFault, PhraseOrFault}
-use Rattle.mls_grammar.proofs.GrammarMachine.{Part, opens, may_end, read, start}
+use Rattle.mls_grammar.proofs.GrammarMachine.{ToCome, opens, may_end, read, start}
 use Rattle.mls_grammar.proofs.GrammarGoing.{ends-source}
 use Rattle.mls_grammar.proofs.GrammarNesting.{further, marks, marked-source}
 use Rattle.mls_grammar.proofs.GrammarReads.{has_unexpected, has_ended, has_too_deep}
@@ -179,21 +179,21 @@ shallow p none = go (cases_lt 200 (nesting p))
     go (inr h) = h
 
 -- the machine reads all, or stops before a terminal
-abbrev Stop : List Terminal → List Part → Type 0
+abbrev Stop : List Terminal → List ToCome → Type 0
 Stop ts st =
-    ((next : List Part) × (read st ts ≡ Some next))
-    ⊎ ((k : ℕ) × (next : List Part) × (t : Terminal) × (slice_get ts k ≡ Some t) × (read st (take k ts) ≡ Some next) × (step opens may_end next t ≡ None))
+    ((next : List ToCome) × (read st ts ≡ Some next))
+    ⊎ ((k : ℕ) × (next : List ToCome) × (t : Terminal) × (slice_get ts k ≡ Some t) × (read st (take k ts) ≡ Some next) × (step opens may_end next t ≡ None))
 
-stop : (ts : List Terminal) (st : List Part) → Stop ts st
+stop : (ts : List Terminal) (st : List ToCome) → Stop ts st
 unfolding run
 stop [] st = inl (st, refl)
 stop (t ∷ ts) st = go (step opens may_end st t) refl (λ next. stop ts next)
   where
-    behind : (next : List Part) → step opens may_end st t ≡ Some next → Stop ts next → Stop (t ∷ ts) st
+    behind : (next : List ToCome) → step opens may_end st t ≡ Some next → Stop ts next → Stop (t ∷ ts) st
     behind next e (inl it) = inl (it.0, ap (λ o. onward o (λ next. read next ts)) e ∙ it.1)
     behind next e (inr it) = inr (suc it.0, it.1, it.2, it.3, ap (λ o. onward o (λ next. read next (take it.0 ts))) e ∙ it.4, it.5)
 
-    go : (o : Option (List Part)) → step opens may_end st t ≡ o → ((next : List Part) → Stop ts next) → Stop (t ∷ ts) st
+    go : (o : Option (List ToCome)) → step opens may_end st t ≡ o → ((next : List ToCome) → Stop ts next) → Stop (t ∷ ts) st
     go None e later = inr (0, st, t, refl, refl, e)
     go (Some next) e later = behind next e (later next)
 
@@ -224,13 +224,13 @@ first (x ∷ xs) = go (cases_lt x 201) (cases_lt 201 x) (first xs)
     go (inr h) (inl i) rest = first-later x xs (λ e. absurd (omega arith)) rest
     go (inr h) (inr i) rest = let here : x ≡ 201 = omega arith in inl (0, ap (λ y. Some y) here, (λ j low e. absurd (omega arith)))
 
-pub mark-within : (ts : List Terminal) (st : List Part) (k m : ℕ) → slice_get (marks st ts) k ≡ Some m → k < length ts
+pub mark-within : (ts : List Terminal) (st : List ToCome) (k m : ℕ) → slice_get (marks st ts) k ≡ Some m → k < length ts
 unfolding marks
 mark-within [] st k m e = absurd (cc)
 mark-within (t ∷ ts) st zero m e = omega arith
 mark-within (t ∷ ts) st (suc k) m e = go (step opens may_end st t) e (λ next h. mark-within ts next k m h)
   where
-    go : (o : Option (List Part)) → slice_get (further o (λ next. marks next ts)) k ≡ Some m → ((next : List Part) → slice_get (marks next ts) k ≡ Some m → k < length ts) → suc k < suc (length ts)
+    go : (o : Option (List ToCome)) → slice_get (further o (λ next. marks next ts)) k ≡ Some m → ((next : List ToCome) → slice_get (marks next ts) k ≡ Some m → k < length ts) → suc k < suc (length ts)
     go None e later = absurd (cc)
     go (Some next) e later = let low : k < length ts = later next e in omega arith
 
@@ -256,7 +256,7 @@ phrase_or_fault text tokens = by_mark (first (marks start ts))
     ts : List Terminal
     ts = terminals text tokens
 
-    read_all : (st : List Part) → read start ts ≡ Some st → ((j : ℕ) → slice_get (marks start ts) j ≡ Some 201 → ⊥) → (b : Bool) → can_end may_end st ≡ b → IsPhraseOrFault text tokens
+    read_all : (st : List ToCome) → read start ts ≡ Some st → ((j : ℕ) → slice_get (marks start ts) j ≡ Some 201 → ⊥) → (b : Bool) → can_end may_end st ≡ b → IsPhraseOrFault text tokens
     read_all st is none true e =
         let it = ends-source ts st is e in
         let same : nestings 0 it.0 [] ≡ marks start ts = sym (marked-source it.0) ∙ ap (marks start) it.1 in

@@ -1,4 +1,5 @@
 pub mod Distinct
+pub mod DoublesRise
 pub mod FaultsWithin
 pub mod FirstStops
 mod GrammarExamples
@@ -16,5 +17,4 @@ pub mod PlacesWithin
 pub mod TreesOfNodes
 pub mod Undoubled
 pub mod Widths
-pub mod DoublesRise
 pub mod BoundNames

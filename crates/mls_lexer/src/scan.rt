@@ -173,8 +173,8 @@ mod tests {
     }
 
     #[test]
-    fn takes_the_longest_tokens_and_the_first_fault(rt: HostRuntime) -> Result<(), Fail> {
-        let cases: [(&[u8], &str); 24] = [
+    fn takes_the_longest_tokens(rt: HostRuntime) -> Result<(), Fail> {
+        let cases: [(&[u8], &str); 15] = [
             (b"x==1", "Name 0..1 DoubleEquals 1..3 Number 3..4 "),
             (b"1a", "Number 0..1 Name 1..2 "),
             (b"a_B9-> ->", "Name 0..4 Arrow 4..6 Arrow 7..9 "),
@@ -190,17 +190,28 @@ mod tests {
             (b"a # \xff b\r c\nd", "Name 0..1 Name 11..12 "),
             (b"a# to the end", "Name 0..1 "),
             (b"#", ""),
+            (b"aA_", "Name 0..3 "),
+            (b"9223372036854775807", "Number 0..19 "),
+            (b"0009223372036854775807", "Number 0..22 "),
+        ];
+        for (text, want) in cases {
+            let line = shown(rt.alloc(), text)?;
+            assert_eq!(rt; line.as_str(), want);
+        }
+        Ok(())
+    }
+
+    #[test]
+    fn tells_the_first_fault(rt: HostRuntime) -> Result<(), Fail> {
+        let cases: [(&[u8], &str); 9] = [
             (b"a#\n#\n?", "BadByte(5)"),
             (b"\x00", "BadByte(0)"),
             (b"a\x7f", "BadByte(1)"),
             (b"a \x80", "BadByte(2)"),
             (b"\xff", "BadByte(0)"),
             (b"> $", "BadByte(0)"),
-            (b"aA_", "Name 0..3 "),
             (b"a A", "BadByte(2)"),
-            (b"9223372036854775807", "Number 0..19 "),
             (b"a 9223372036854775808 $", "BigNumber(2)"),
-            (b"0009223372036854775807", "Number 0..22 "),
             (b"18446744073709551616 ", "BigNumber(0)"),
         ];
         for (text, want) in cases {

@@ -9,6 +9,7 @@ pub mod OneResolution
 pub mod Resolving
 pub mod Scopes
 pub mod Tasks
+pub mod UnknownsRise
 pub mod Walking
 pub mod WholeWalks
 pub mod UnknownsRise

@@ -12,12 +12,12 @@ use Rattle.mls_grammar.specs.declared.fault.Fault.{Fault}
 use Rattle.mls_grammar.specs.declared.fault.Fault.TheVariants.{Ended}
 use Rattle.mls_reader.specs.declared.piece.Piece.{Piece}
 use Rattle.mls_reader.specs.declared.piece.Event.{Event}
-use Rattle.mls_reader.specs.declared.read.Reader.{Reader}
+use Rattle.mls_reader.specs.declared.read.ModuleReader.{ModuleReader}
 use Rattle.mls_grammar.specs.GrammarFaults.{nestings, HasGrammarFault}
 use Rattle.mls_reader.specs.steps.PieceMachine.{Todo, State, advance, build, last_told, beginning}
 use Rattle.mls_reader.specs.steps.Todos.{stack_of}
 use Rattle.mls_reader.specs.steps.PieceReaders.{state_of, IsNew, Went, Stopped, stuck, deep, Finished, placed, at_end, ReadsSource}
-use Rattle.mls_grammar.proofs.GrammarMachine.{Part, opens, may_end, read, start}
+use Rattle.mls_grammar.proofs.GrammarMachine.{ToCome, opens, may_end, read, start}
 use Rattle.mls_grammar.proofs.GrammarNesting.{begun, further, marks, marked-source}
 use Rattle.mls_grammar.proofs.GrammarGoing.{ends-source}
 use Rattle.mls_grammar.proofs.GrammarReads.{NoMarkBefore, has_unexpected, has_ended, has_too_deep}
@@ -39,7 +39,7 @@ build-append (u ∷ us) vs st told heard =
     build-append us vs next.stack next.told next.heard
 
 -- the mark of a terminal is what the machine says behind those before it
-mark-at : (ts : List Terminal) (n : ℕ) (t : Terminal) (st next : List Part) → read st (take n ts) ≡ Some next → slice_get ts n ≡ Some t → slice_get (marks st ts) n ≡ Some (begun next t)
+mark-at : (ts : List Terminal) (n : ℕ) (t : Terminal) (st next : List ToCome) → read st (take n ts) ≡ Some next → slice_get ts n ≡ Some t → slice_get (marks st ts) n ≡ Some (begun next t)
 unfolding run marks
 mark-at [] n t st next is at = absurd (cc)
 mark-at (u ∷ ts) zero t st next is at =
@@ -48,7 +48,7 @@ mark-at (u ∷ ts) zero t st next is at =
     λ i. Some (begun (same i) (here i))
 mark-at (u ∷ ts) (suc n) t st next is at = go (step opens may_end st u) is (λ middle h. mark-at ts n t middle next h at)
   where
-    go : (o : Option (List Part)) → onward o (λ middle. read middle (take n ts)) ≡ Some next → ((middle : List Part) → read middle (take n ts) ≡ Some next → slice_get (marks middle ts) n ≡ Some (begun next t))
+    go : (o : Option (List ToCome)) → onward o (λ middle. read middle (take n ts)) ≡ Some next → ((middle : List ToCome) → read middle (take n ts) ≡ Some next → slice_get (marks middle ts) n ≡ Some (begun next t))
         → slice_get (further o (λ middle. marks middle ts)) n ≡ Some (begun next t)
     go None e later = absurd (cc)
     go (Some middle) e later = later middle e
@@ -64,12 +64,12 @@ no_mark-more ts n m none is other j low e = go (cases_lt j n)
         other cc
 
 -- the reader has read the first n tokens
-pub record HasRead (text : List ℕ) (tokens : List Token) (n : ℕ) (reader : Reader) : Type 0 where
+pub record HasRead (text : List ℕ) (tokens : List Token) (n : ℕ) (reader : ModuleReader) : Type 0 where
   pub built : build beginning [] [] (take n (placed text tokens)) ≡ state_of reader
   pub going : read start (take n (terminals text tokens)) ≡ Some (all_parts (stack_of reader.stack.items))
   pub none : NoMarkBefore (terminals text tokens) n
 
-pub has_read-new : (text : List ℕ) (tokens : List Token) (reader : Reader) → IsNew reader → HasRead text tokens 0 reader
+pub has_read-new : (text : List ℕ) (tokens : List Token) (reader : ModuleReader) → IsNew reader → HasRead text tokens 0 reader
 unfolding build run
 has_read-new text tokens reader new = record {
   built = λ i. record { stack = sym new.stack i; told = sym new.pieces i; heard = sym new.events i };
@@ -86,11 +86,11 @@ module _ (text : List ℕ) (tokens : List Token) where
     placed-at : slice_get (placed text tokens) n ≡ Some (token.start, terminal text token)
     placed-at = slice_get-map (λ (token : Token). (token.start, terminal text token)) tokens n ∙ ap (option_map (λ (token : Token). (token.start, terminal text token))) at
 
-    module _ (old : Reader) (is : HasRead text tokens n old) where
+    module _ (old : ModuleReader) (is : HasRead text tokens n old) where
       mark-there : slice_get (marks start (terminals text tokens)) n ≡ Some (begun (all_parts (stack_of old.stack.items)) (terminal text token))
       mark-there = mark-at (terminals text tokens) n (terminal text token) start (all_parts (stack_of old.stack.items)) is.going terminal-at
 
-      built-more : (new : Reader) → Went text token old new → build beginning [] [] (take (suc n) (placed text tokens)) ≡ state_of new
+      built-more : (new : ModuleReader) → Went text token old new → build beginning [] [] (take (suc n) (placed text tokens)) ≡ state_of new
       unfolding build
       built-more new went =
           ap (build beginning [] []) (next_taken (placed text tokens) n (token.start, terminal text token) placed-at)
@@ -98,7 +98,7 @@ module _ (text : List ℕ) (tokens : List Token) where
           ∙ (ap (λ (s : State). advance token.start (terminal text token) s.stack s.told s.heard) is.built
           ∙ sym went.state))
 
-      going-more : (new : Reader) → Went text token old new → read start (take (suc n) (terminals text tokens)) ≡ Some (all_parts (stack_of new.stack.items))
+      going-more : (new : ModuleReader) → Went text token old new → read start (take (suc n) (terminals text tokens)) ≡ Some (all_parts (stack_of new.stack.items))
       unfolding run
       going-more new went =
           let t = terminal text token in
@@ -110,7 +110,7 @@ module _ (text : List ℕ) (tokens : List Token) where
           ∙ ap (λ (s : State). Some (all_parts s.stack)) (sym went.state))))
 
       -- one token more is read,
-      pub has_read-more : (new : Reader) → Went text token old new → HasRead text tokens (n + 1) new
+      pub has_read-more : (new : ModuleReader) → Went text token old new → HasRead text tokens (n + 1) new
       has_read-more new went =
           let next = goes (stack_of old.stack.items) token.start (terminal text token) old.pieces.items old.events.items went.nesting went.there in
           subst (λ m. HasRead text tokens m new) (sym (add-one n)) (record {
@@ -127,7 +127,7 @@ module _ (text : List ℕ) (tokens : List Token) where
           let next = goes (stack_of old.stack.items) token.start (terminal text token) old.pieces.items old.events.items 201 there in
           has_too_deep text tokens n token at (mark-there ∙ ap Some next.1) is.none
 
-  module _ (n : ℕ) (past : length tokens ≤ n) (reader : Reader) (is : HasRead text tokens n reader) where
+  module _ (n : ℕ) (past : length tokens ≤ n) (reader : ModuleReader) (is : HasRead text tokens n reader) where
     all-going : read start (terminals text tokens) ≡ Some (all_parts (stack_of reader.stack.items))
     all-going =
         let size : length (terminals text tokens) ≡ length tokens = length-map tokens (λ token. terminal text token) in
@@ -139,7 +139,7 @@ module _ (text : List ℕ) (tokens : List Token) where
         ap (build beginning [] []) (sym (take_all n (placed text tokens) (omega arith))) ∙ is.built
 
     -- behind the last token something has to come,
-    pub finished-early : (new : Reader) → Finished reader new false → HasGrammarFault text tokens Ended
+    pub finished-early : (new : ModuleReader) → Finished reader new false → HasGrammarFault text tokens Ended
     finished-early new owed =
         has_ended text tokens (all_parts (stack_of reader.stack.items)) all-going (ends (stack_of reader.stack.items) ∙ owed) (λ j low e. is.none j (omega arith) e)
 
@@ -150,7 +150,7 @@ module _ (text : List ℕ) (tokens : List Token) where
         is.none k (omega arith) e
 
     -- or it is a module
-    pub finished-reads : (new : Reader) → Finished reader new true → ReadsSource text tokens new.pieces.items new.events.items
+    pub finished-reads : (new : ModuleReader) → Finished reader new true → ReadsSource text tokens new.pieces.items new.events.items
     finished-reads new (can, told, heard) =
         let it = ends-source (terminals text tokens) (all_parts (stack_of reader.stack.items)) all-going (ends (stack_of reader.stack.items) ∙ can) in
         let same : nestings 0 it.0 [] ≡ marks start (terminals text tokens) = sym (marked-source it.0) ∙ ap (marks start) it.1 in

@@ -10,7 +10,7 @@ use Rattle.mls_grammar.specs.declared.fault.Fault.TheVariants.{Unexpected, Memor
 use Rattle.mls_reader.specs.declared.piece.Piece.{Piece}
 use Rattle.mls_reader.specs.declared.piece.Event.{Event}
 use Rattle.mls_reader.specs.declared.todo.Todo.{Todo as Kept}
-use Rattle.mls_reader.specs.declared.read.Reader.{Reader}
+use Rattle.mls_reader.specs.declared.read.ModuleReader.{ModuleReader}
 use Rattle.mls_reader.specs.steps.PieceMachine.{Todo, tell, Act, acts, took, advance, last_told}
 use Rattle.mls_reader.specs.steps.Todos.{todo_of, stack_of, may_be_empty}
 use Rattle.mls_reader.specs.steps.PieceReaders.{own, told_by, reached, mark, Refused, is_owed, is_too_deep, Stopped, stuck, deep}
@@ -33,11 +33,11 @@ advance-over todo at t st told heard e =
     ap (λ o. took o st told heard (advance at t st told heard)) e ∙ ap (λ ps. advance at t st ps heard) (sym (append-nil told))
 
 -- two readers do the same at a token
-pub record DoSame (text : List ℕ) (token : Token) (old new : Reader) : Type 0 where
+pub record DoSame (text : List ℕ) (token : Token) (old new : ModuleReader) : Type 0 where
   pub marks : mark token.start (terminal text token) (stack_of old.stack.items) ≡ mark token.start (terminal text token) (stack_of new.stack.items)
   pub states : advance token.start (terminal text token) (stack_of old.stack.items) old.pieces.items old.events.items ≡ advance token.start (terminal text token) (stack_of new.stack.items) new.pieces.items new.events.items
 
-module _ (text : List ℕ) (token : Token) (old here before : Reader) (todo : Kept) (same : DoSame text token old here) (pop : here.stack.items ≡ before.stack.items ++ todo ∷ []) where
+module _ (text : List ℕ) (token : Token) (old here before : ModuleReader) (todo : Kept) (same : DoSame text token old here) (pop : here.stack.items ≡ before.stack.items ++ todo ∷ []) where
   mark-popped : mark token.start (terminal text token) (stack_of old.stack.items) ≡ reached (acts (todo_of todo) token.start (terminal text token)) (may_be_empty (todo_of todo)) (own (todo_of todo)) (mark token.start (terminal text token) (stack_of before.stack.items))
   mark-popped = same.marks ∙ ap (mark token.start (terminal text token)) (popped here.stack.items before.stack.items todo pop)
 
@@ -46,11 +46,11 @@ module _ (text : List ℕ) (token : Token) (old here before : Reader) (todo : Ke
   refused-stopped _ (is_owed is owed) = stuck (mark-popped ∙ (λ i. reached (is i) (owed i) (own (todo_of todo)) (mark token.start (terminal text token) (stack_of before.stack.items))))
   refused-stopped _ (is_too_deep it is nesting) = deep (mark-popped ∙ (ap (λ o. reached o (may_be_empty (todo_of todo)) (own (todo_of todo)) (mark token.start (terminal text token) (stack_of before.stack.items))) is ∙ ap Some nesting))
 
-pub all-over : (text : List ℕ) (token : Token) (old here : Reader) → DoSame text token old here → here.stack.items ≡ [] → Stopped text token old (Unexpected token.start token.kind)
+pub all-over : (text : List ℕ) (token : Token) (old here : ModuleReader) → DoSame text token old here → here.stack.items ≡ [] → Stopped text token old (Unexpected token.start token.kind)
 all-over text token old here same e = stuck (same.marks ∙ ap (λ st. mark token.start (terminal text token) (stack_of st)) e)
 
 -- two readers do the same at the end of the text
-pub record EndSame (old new : Reader) : Type 0 where
+pub record EndSame (old new : ModuleReader) : Type 0 where
   pub owed : list_all may_be_empty (stack_of old.stack.items) ≡ list_all may_be_empty (stack_of new.stack.items)
   pub told : last_told (stack_of old.stack.items) old.pieces.items ≡ last_told (stack_of new.stack.items) new.pieces.items
   pub events : new.events.items ≡ old.events.items

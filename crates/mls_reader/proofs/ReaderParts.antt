@@ -14,13 +14,13 @@ use Rattle.mls_reader.specs.steps.PieceMachine as build
 use Rattle.mls_reader.specs.steps.PieceMachine.{Todo, arguments_of, let_of, the_import, the_binding, the_fun, the_fix, the_local, the_label, the_part, tell, Act, acts, atom_acts, apply_row, product_row, sum_row, compare_row, State, advance}
 use Rattle.mls_reader.specs.steps.Todos.{may_be_empty}
 use Rattle.mls_reader.specs.steps.PieceReaders.{own, told_by, reached, mark}
-use Rattle.mls_grammar.proofs.GrammarMachine.{Part, a, the_name, the_equals, the_arrow, the_then, the_else, the_in, the_paren, atom_opens, opens, may_end}
+use Rattle.mls_grammar.proofs.GrammarMachine.{ToCome, a, the_name, the_equals, the_arrow, the_then, the_else, the_in, the_paren, atom_opens, opens, may_end}
 use Rattle.mls_grammar.proofs.GrammarNesting.{picked, begun}
 use Rattle.mls_reader.proofs.ReaderLoops.{advance-acts, advance-over}
 
 -- What is to do as parts of the grammar: what is to tell is none of it.
 -- Two forms are never to do, and stand here for what nothing begins with.
-abbrev pub parts_of : Todo → List Part
+abbrev pub parts_of : Todo → List ToCome
 parts_of (build.a n let_rest) = a n source ∷ []
 parts_of (build.a n arguments) = a n source ∷ []
 parts_of (build.a n s) = a n s ∷ []
@@ -41,7 +41,7 @@ parts_of build.the_in = the_in ∷ []
 parts_of build.the_paren = the_paren ∷ []
 parts_of (tell piece) = []
 
-abbrev pub all_parts : List Todo → List Part
+abbrev pub all_parts : List Todo → List ToCome
 all_parts [] = []
 all_parts (todo ∷ st) = parts_of todo ++ all_parts st
 
@@ -50,16 +50,16 @@ all_parts-append [] st = refl
 all_parts-append (todo ∷ row) st = ap (λ ps. parts_of todo ++ ps) (all_parts-append row st) ∙ sym (append_assoc (parts_of todo) (all_parts row) (all_parts st))
 
 -- what the machine of the grammar does by a part of this nesting before other parts, where the other machine has this act or none
-abbrev IsAlike : Option Act → Bool → ℕ → (st : List Part) → Terminal → Option (List Part) → ℕ → Type 0
+abbrev IsAlike : Option Act → Bool → ℕ → (st : List ToCome) → Terminal → Option (List ToCome) → ℕ → Type 0
 IsAlike (Some it) empty n st t next m = (next ≡ Some (all_parts it.row ++ st)) × (m ≡ n)
 IsAlike None true n st t next m = (next ≡ step opens may_end st t) × (m ≡ begun st t)
 IsAlike None false n st t next m = (next ≡ None) × (m ≡ 0)
 
-alike-none : (empty : Bool) (n : ℕ) (st : List Part) (t : Terminal) → IsAlike None empty n st t (chosen None empty st (step opens may_end st t)) (picked None empty n (begun st t))
+alike-none : (empty : Bool) (n : ℕ) (st : List ToCome) (t : Terminal) → IsAlike None empty n st t (chosen None empty st (step opens may_end st t)) (picked None empty n (begun st t))
 alike-none true n st t = (refl, refl)
 alike-none false n st t = (refl, refl)
 
-alike-atom : (n at : ℕ) (row : List Todo) (empty : Bool) (m : ℕ) (st : List Part) (t : Terminal)
+alike-atom : (n at : ℕ) (row : List Todo) (empty : Bool) (m : ℕ) (st : List ToCome) (t : Terminal)
     → IsAlike (atom_acts n row at t) empty m st t (chosen (atom_opens n (all_parts row) t) empty st (step opens may_end st t)) (picked (atom_opens n (all_parts row) t) empty m (begun st t))
 alike-atom n at row empty m st (name x) = (refl, refl)
 alike-atom n at row empty m st (number value) = (refl, refl)
@@ -69,7 +69,7 @@ alike-atom n at row empty m st (word kind.ParenLeft) = (refl, refl)
 alike-atom n at row empty m st (word kind.BraceLeft) = (refl, refl)
 alike-atom n at row empty m st t = alike-none empty m st t
 
-alike : (todo : Todo) (at : ℕ) (t : Terminal) (st : List Part) → IsAlike (acts todo at t) (may_be_empty todo) (own todo) st t (step opens may_end (parts_of todo ++ st) t) (begun (parts_of todo ++ st) t)
+alike : (todo : Todo) (at : ℕ) (t : Terminal) (st : List ToCome) → IsAlike (acts todo at t) (may_be_empty todo) (own todo) st t (step opens may_end (parts_of todo ++ st) t) (begun (parts_of todo ++ st) t)
 alike (build.a n source) at t st = (refl, refl)
 alike (build.a n imports) at (word kind.WordImport) st = (refl, refl)
 alike (build.a n imports) at _ st = (refl, refl)
@@ -168,7 +168,7 @@ stops (todo ∷ st) at t e = go (acts todo at t) (may_be_empty todo) (alike todo
     go None false same e later = same.0
 
 -- both end at the same places
-ends-todo : (todo : Todo) (st : List Part) (rest : Bool) → can_end may_end st ≡ rest → can_end may_end (parts_of todo ++ st) ≡ (may_be_empty todo && rest)
+ends-todo : (todo : Todo) (st : List ToCome) (rest : Bool) → can_end may_end st ≡ rest → can_end may_end (parts_of todo ++ st) ≡ (may_be_empty todo && rest)
 ends-todo (build.a n source) st rest e = refl
 ends-todo (build.a n imports) st rest e = e
 ends-todo (build.a n bindings) st rest e = e

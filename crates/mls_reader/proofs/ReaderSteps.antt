@@ -7,11 +7,11 @@ use Rattle.mls_lexer.specs.declared.token.Kind.TheVariants as kind
 use Rattle.mls_lexer.specs.declared.token.Token.{Token}
 use Rattle.mls_lexer.specs.Tokens.{terminal, terminal_of}
 use Rattle.mls_grammar.specs.declared.fault.Fault.TheVariants.{Unexpected, TooDeep}
-use Rattle.mls_reader.specs.declared.todo.Part.{Part}
-use Rattle.mls_reader.specs.declared.todo.Part.TheVariants as part
+use Rattle.mls_reader.specs.declared.todo.PiecePart.{PiecePart}
+use Rattle.mls_reader.specs.declared.todo.PiecePart.TheVariants as part
 use Rattle.mls_reader.specs.declared.todo.Word.{Word}
 use Rattle.mls_reader.specs.declared.todo.Word.TheVariants as word
-use Rattle.mls_reader.specs.declared.read.Reader.{Reader}
+use Rattle.mls_reader.specs.declared.read.ModuleReader.{ModuleReader}
 use Rattle.mls_grammar.specs.Phrases.{expr}
 use Rattle.mls_reader.specs.steps.PieceMachine.{Todo, a, Act, acts, expr_acts}
 use Rattle.mls_reader.specs.steps.Todos.{part_of, word_of, begins_expr, is_deep, may_be_empty}
@@ -72,22 +72,22 @@ word-tells_nothing : (w : Word) → told_by (word_of w) ≡ []
 word-tells_nothing word.Equals = refl
 word-tells_nothing _ = refl
 
-part-tells_nothing : (p : Part) → told_by (part_of p) ≡ []
+part-tells_nothing : (p : PiecePart) → told_by (part_of p) ≡ []
 part-tells_nothing (part.Word w) = word-tells_nothing w
 part-tells_nothing _ = refl
 
-module _ (text : List ℕ) (token : Token) (part : Part) where
+module _ (text : List ℕ) (token : Token) (part : PiecePart) where
   pub deep-refused : is_deep (part_of part) token.kind ≡ true → Refused text token (part_of part) (TooDeep token.start)
   deep-refused e = let it = deep-act (part_of part) token.start token.kind _ e in is_too_deep it.0 it.1 it.2
 
-  pub owed-refused : (old new : Reader) (begun : Bool) → Acted (acts (part_of part) token.start (terminal text token)) old new begun → begun ≡ false → may_be_empty (part_of part) ≡ false → Refused text token (part_of part) (Unexpected token.start token.kind)
+  pub owed-refused : (old new : ModuleReader) (begun : Bool) → Acted (acts (part_of part) token.start (terminal text token)) old new begun → begun ≡ false → may_be_empty (part_of part) ≡ false → Refused text token (part_of part) (Unexpected token.start token.kind)
   owed-refused old new begun did e owed = go (acts (part_of part) token.start (terminal text token)) refl did
     where
       go : (o : Option Act) → acts (part_of part) token.start (terminal text token) ≡ o → Acted o old new begun → Refused text token (part_of part) (Unexpected token.start token.kind)
       go (Some it) is did = absurd (cc)
       go None is did = is_owed is owed
 
-  pub acted-tried : (old new : Reader) (begun : Bool) → is_deep (part_of part) token.kind ≡ false → Acted (acts (part_of part) token.start (terminal text token)) old new begun → (begun ≡ false → may_be_empty (part_of part) ≡ true) → Tried text token (part_of part) old new begun
+  pub acted-tried : (old new : ModuleReader) (begun : Bool) → is_deep (part_of part) token.kind ≡ false → Acted (acts (part_of part) token.start (terminal text token)) old new begun → (begun ≡ false → may_be_empty (part_of part) ≡ true) → Tried text token (part_of part) old new begun
   acted-tried old new begun shallow did empty = go begun (acts (part_of part) token.start (terminal text token)) refl did empty
     where
       go : (b : Bool) (o : Option Act) → acts (part_of part) token.start (terminal text token) ≡ o → Acted o old new b → (b ≡ false → may_be_empty (part_of part) ≡ true) → Tried text token (part_of part) old new b

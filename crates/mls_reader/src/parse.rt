@@ -5,7 +5,7 @@ ghost use Rattle.mls_grammar.specs.FirstFaults.{HasFirstFault};
 
 use crate::doubles::first_double;
 use crate::nodes::module_of;
-use crate::read::{Reading, read};
+use crate::read::{SourcePieces, read};
 pub use mls_grammar::fault::Fault;
 use mls_grammar::module::Module;
 use mls_lexer::scan::tokens;
@@ -26,7 +26,7 @@ pub fn parse_module(alloc: Global, text: &[u8]) -> Result<Module, Fault>
     ensures fault { IfErr result (λ fault. fault ≢ Fault.Memory → HasFirstFault text.now fault) }
 {
     let tokens = tokens(alloc, text)?;
-    let Reading { pieces, events } = read(alloc, text, &tokens)?;
+    let SourcePieces { pieces, events } = read(alloc, text, &tokens)?;
     if let Some(fault) = first_double(alloc, events)? {
         return Err(fault);
     }
@@ -124,8 +124,8 @@ mod tests {
     }
 
     #[test]
-    fn reads_names_and_operators(rt: HostRuntime) -> Result<(), Fail> {
-        let cases: [(&[u8], &str); 15] = [
+    fn reads_imports_and_bindings(rt: HostRuntime) -> Result<(), Fail> {
+        let cases: [(&[u8], &str); 8] = [
             (b"", ""),
             (b"# nothing", ""),
             (b"import k", "import k@7; "),
@@ -134,14 +134,27 @@ mod tests {
                 "import k@7; import m@16; a@22: 1@26; ",
             ),
             (b"let a = 1 let b = 2", "a@4: 1@8; b@14: 2@18; "),
+            (
+                b"let t = true let f = false",
+                "t@4: true@8; f@17: false@21; ",
+            ),
+            (b"import a let a = 1", "import a@7; a@13: 1@17; "),
+            (b"let x = x# x\nlet y = x", "x@4: x@8; y@17: x@21; "),
+        ];
+        for (text, want) in cases {
+            let line = shown(rt.alloc(), text)?;
+            assert_eq!(rt; line.as_str(), want);
+        }
+        Ok(())
+    }
+
+    #[test]
+    fn reads_names_functions_and_applications(rt: HostRuntime) -> Result<(), Fail> {
+        let cases: [(&[u8], &str); 9] = [
             (b"let a = 007", "a@4: 7@8; "),
             (
                 b"let n = 9223372036854775807",
                 "n@4: 9223372036854775807@8; ",
-            ),
-            (
-                b"let t = true let f = false",
-                "t@4: true@8; f@17: false@21; ",
             ),
             (b"let id = fun x -> x", "id@4: x@18 fun x 0@9; "),
             (
@@ -152,15 +165,15 @@ mod tests {
                 b"let a = fun x -> x 1",
                 "a@4: x@17 1@19 apply 0 1@17 fun x 2@8; ",
             ),
-            (b"let a = rec f -> f", "a@4: f@17 rec f 0@8; "),
-            (b"let rec f = f", "f@8: f@12 rec f 0@4; "),
             (
-                b"let a = 1 + 2",
-                "a@4: +@10 1@8 apply 0 1@10 2@12 apply 2 3@10; ",
+                b"let a = f x y",
+                "a@4: f@8 x@10 apply 0 1@8 y@12 apply 2 3@8; ",
             ),
+            (b"let a = 1 2", "a@4: 1@8 2@10 apply 0 1@8; "),
+            (b"let a = (1) 2", "a@4: 1@9 2@12 apply 0 1@8; "),
             (
-                b"let a = 1 + 2 - 3",
-                "a@4: -@14 +@10 1@8 apply 1 2@10 2@12 apply 3 4@10 apply 0 5@14 3@16 apply 6 7@14; ",
+                b"let a = f (x y)",
+                "a@4: f@8 x@11 y@13 apply 1 2@11 apply 0 3@8; ",
             ),
         ];
         for (text, want) in cases {
@@ -171,8 +184,16 @@ mod tests {
     }
 
     #[test]
-    fn reads_applications_and_records(rt: HostRuntime) -> Result<(), Fail> {
-        let cases: [(&[u8], &str); 15] = [
+    fn reads_operators(rt: HostRuntime) -> Result<(), Fail> {
+        let cases: [(&[u8], &str); 9] = [
+            (
+                b"let a = 1 + 2",
+                "a@4: +@10 1@8 apply 0 1@10 2@12 apply 2 3@10; ",
+            ),
+            (
+                b"let a = 1 + 2 - 3",
+                "a@4: -@14 +@10 1@8 apply 1 2@10 2@12 apply 3 4@10 apply 0 5@14 3@16 apply 6 7@14; ",
+            ),
             (
                 b"let a = 1 + 2 * 3",
                 "a@4: +@10 1@8 apply 0 1@10 *@14 2@12 apply 3 4@14 3@16 apply 5 6@14 apply 2 7@10; ",
@@ -198,25 +219,8 @@ mod tests {
                 "a@4: ==@16 <@11 1@9 apply 1 2@11 2@13 apply 3 4@11 apply 0 5@16 t@19 apply 6 7@16; ",
             ),
             (
-                b"let a = f x y",
-                "a@4: f@8 x@10 apply 0 1@8 y@12 apply 2 3@8; ",
-            ),
-            (b"let a = 1 2", "a@4: 1@8 2@10 apply 0 1@8; "),
-            (b"let a = (1) 2", "a@4: 1@9 2@12 apply 0 1@8; "),
-            (
-                b"let a = f (x y)",
-                "a@4: f@8 x@11 y@13 apply 1 2@11 apply 0 3@8; ",
-            ),
-            (
                 b"let a = f x + g y",
                 "a@4: +@12 f@8 x@10 apply 1 2@8 apply 0 3@12 g@14 y@16 apply 5 6@14 apply 4 7@12; ",
-            ),
-            (b"let a = r.l.m", "a@4: r@8 0.l@10 1.m@12; "),
-            (b"let a = f r.l", "a@4: f@8 r@10 1.l@12 apply 0 2@8; "),
-            (b"let a = (f x).l", "a@4: f@9 x@11 apply 0 1@9 2.l@14; "),
-            (
-                b"let a = r.f x.y 1",
-                "a@4: r@8 0.f@10 x@12 2.y@14 apply 1 3@8 1@16 apply 4 5@8; ",
             ),
         ];
         for (text, want) in cases {
@@ -227,8 +231,15 @@ mod tests {
     }
 
     #[test]
-    fn reads_choices_and_lets(rt: HostRuntime) -> Result<(), Fail> {
-        let cases: [(&[u8], &str); 14] = [
+    fn reads_records_and_projections(rt: HostRuntime) -> Result<(), Fail> {
+        let cases: [(&[u8], &str); 10] = [
+            (b"let a = r.l.m", "a@4: r@8 0.l@10 1.m@12; "),
+            (b"let a = f r.l", "a@4: f@8 r@10 1.l@12 apply 0 2@8; "),
+            (b"let a = (f x).l", "a@4: f@9 x@11 apply 0 1@9 2.l@14; "),
+            (
+                b"let a = r.f x.y 1",
+                "a@4: r@8 0.f@10 x@12 2.y@14 apply 1 3@8 1@16 apply 4 5@8; ",
+            ),
             (b"let a = {}", "a@4: { }@8; "),
             (
                 b"let a = {x = 1, y = {}}",
@@ -241,6 +252,19 @@ mod tests {
                 b"let a = {x = 1 + 2, y = f z}",
                 "a@4: +@15 1@13 apply 0 1@15 2@17 apply 2 3@15 f@24 z@26 apply 5 6@24 { x:4 y:7 }@8; ",
             ),
+        ];
+        for (text, want) in cases {
+            let line = shown(rt.alloc(), text)?;
+            assert_eq!(rt; line.as_str(), want);
+        }
+        Ok(())
+    }
+
+    #[test]
+    fn reads_choices_lets_and_recursions(rt: HostRuntime) -> Result<(), Fail> {
+        let cases: [(&[u8], &str); 8] = [
+            (b"let a = rec f -> f", "a@4: f@17 rec f 0@8; "),
+            (b"let rec f = f", "f@8: f@12 rec f 0@4; "),
             (
                 b"let a = if b then 1 else 2",
                 "a@4: b@11 1@18 2@25 if 0 1 2@8; ",
@@ -262,8 +286,6 @@ mod tests {
                 b"let a = (let x = 1 in x) 2",
                 "a@4: 1@17 x@22 let x 0 1@9 2@25 apply 2 3@8; ",
             ),
-            (b"import a let a = 1", "import a@7; a@13: 1@17; "),
-            (b"let x = x# x\nlet y = x", "x@4: x@8; y@17: x@21; "),
         ];
         for (text, want) in cases {
             let line = shown(rt.alloc(), text)?;
@@ -273,17 +295,25 @@ mod tests {
     }
 
     #[test]
-    fn answers_what_ends_too_early(rt: HostRuntime) -> Result<(), Fail> {
-        let cases: [(&[u8], &str); 16] = [
+    fn answers_the_fault_of_the_tokens(rt: HostRuntime) -> Result<(), Fail> {
+        let cases: [(&[u8], &str); 6] = [
             (b"$", "BadByte(0)"),
             (b"let a = @", "BadByte(8)"),
             (b"let n = 9223372036854775808", "BigNumber(8)"),
             (b"let n = 9223372036854775808 $", "BigNumber(8)"),
             (b"let a = ) $", "BadByte(10)"),
             (b"import k import k $", "BadByte(18)"),
-            (b"a", "Unexpected(0, Name)"),
-            (b"l", "Unexpected(0, Name)"),
-            (b"le", "Unexpected(0, Name)"),
+        ];
+        for (text, want) in cases {
+            let line = shown(rt.alloc(), text)?;
+            assert_eq!(rt; line.as_str(), want);
+        }
+        Ok(())
+    }
+
+    #[test]
+    fn answers_bindings_that_end_too_early(rt: HostRuntime) -> Result<(), Fail> {
+        let cases: [(&[u8], &str); 9] = [
             (b"let", "Ended"),
             (b"let a", "Ended"),
             (b"let a =", "Ended"),
@@ -291,6 +321,8 @@ mod tests {
             (b"import", "Ended"),
             (b"let a = (", "Ended"),
             (b"let a = (1", "Ended"),
+            (b"let a = {", "Ended"),
+            (b"let a = {x", "Ended"),
         ];
         for (text, want) in cases {
             let line = shown(rt.alloc(), text)?;
@@ -300,10 +332,8 @@ mod tests {
     }
 
     #[test]
-    fn answers_what_is_unexpected(rt: HostRuntime) -> Result<(), Fail> {
-        let cases: [(&[u8], &str); 16] = [
-            (b"let a = {", "Ended"),
-            (b"let a = {x", "Ended"),
+    fn answers_expressions_that_end_too_early(rt: HostRuntime) -> Result<(), Fail> {
+        let cases: [(&[u8], &str); 9] = [
             (b"let a = {x =", "Ended"),
             (b"let a = {x = 1", "Ended"),
             (b"let a = {x = 1,", "Ended"),
@@ -313,11 +343,6 @@ mod tests {
             (b"let a = if 1 then 2", "Ended"),
             (b"let a = let x = 1", "Ended"),
             (b"let a = let x = 1 in", "Ended"),
-            (b"import let", "Unexpected(7, WordLet)"),
-            (b"let a = 1 import k", "Unexpected(10, WordImport)"),
-            (b"let a = )", "Unexpected(8, ParenRight)"),
-            (b"let a = 1)", "Unexpected(9, ParenRight)"),
-            (b"let let", "Unexpected(4, WordLet)"),
         ];
         for (text, want) in cases {
             let line = shown(rt.alloc(), text)?;
@@ -327,24 +352,58 @@ mod tests {
     }
 
     #[test]
-    fn answers_where_no_module_goes_on(rt: HostRuntime) -> Result<(), Fail> {
-        let cases: [(&[u8], &str); 16] = [
+    fn answers_an_unexpected_word(rt: HostRuntime) -> Result<(), Fail> {
+        let cases: [(&[u8], &str); 10] = [
+            (b"import let", "Unexpected(7, WordLet)"),
+            (b"let a = 1 import k", "Unexpected(10, WordImport)"),
+            (b"let let", "Unexpected(4, WordLet)"),
             (b"let and = 1", "Unexpected(4, WordAnd)"),
+            (b"let a = f fun x -> x", "Unexpected(10, WordFun)"),
+            (b"let a = 1 + fun x -> x", "Unexpected(12, WordFun)"),
+            (b"let a = if 1 else 2", "Unexpected(13, WordElse)"),
+            (b"let a = let x = 1 let b = 2", "Unexpected(18, WordLet)"),
+            (b"let a = 1 in 2", "Unexpected(10, WordIn)"),
+            (b"val x : int", "Unexpected(0, WordVal)"),
+        ];
+        for (text, want) in cases {
+            let line = shown(rt.alloc(), text)?;
+            assert_eq!(rt; line.as_str(), want);
+        }
+        Ok(())
+    }
+
+    #[test]
+    fn answers_an_unexpected_name_number_or_symbol(rt: HostRuntime) -> Result<(), Fail> {
+        let cases: [(&[u8], &str); 9] = [
+            (b"a", "Unexpected(0, Name)"),
+            (b"l", "Unexpected(0, Name)"),
+            (b"le", "Unexpected(0, Name)"),
+            (b"let a = )", "Unexpected(8, ParenRight)"),
+            (b"let a = 1)", "Unexpected(9, ParenRight)"),
             (b"let a a", "Unexpected(6, Name)"),
             (b"let a = =", "Unexpected(8, Equals)"),
             (b"let f = fun x x", "Unexpected(14, Name)"),
             (b"let f = fun 1", "Unexpected(12, Number)"),
+        ];
+        for (text, want) in cases {
+            let line = shown(rt.alloc(), text)?;
+            assert_eq!(rt; line.as_str(), want);
+        }
+        Ok(())
+    }
+
+    #[test]
+    fn answers_an_unexpected_token_of_an_expression(rt: HostRuntime) -> Result<(), Fail> {
+        let cases: [(&[u8], &str); 9] = [
             (b"let a = 1 < 2 < 3", "Unexpected(14, Less)"),
             (b"let a = 1 < 2 == 3", "Unexpected(14, DoubleEquals)"),
-            (b"let a = f fun x -> x", "Unexpected(10, WordFun)"),
-            (b"let a = 1 + fun x -> x", "Unexpected(12, WordFun)"),
             (b"let a = {1}", "Unexpected(9, Number)"),
             (b"let a = {x 1}", "Unexpected(11, Number)"),
             (b"let a = {x = 1,}", "Unexpected(15, BraceRight)"),
             (b"let a = {x = 1 y = 2}", "Unexpected(17, Equals)"),
             (b"let a = r.1", "Unexpected(10, Number)"),
-            (b"let a = if 1 else 2", "Unexpected(13, WordElse)"),
-            (b"let a = let x = 1 let b = 2", "Unexpected(18, WordLet)"),
+            (b"let a = 1 | 2", "Unexpected(10, Bar)"),
+            (b"let a = {x = 1, x = 2} )", "Unexpected(23, ParenRight)"),
         ];
         for (text, want) in cases {
             let line = shown(rt.alloc(), text)?;
@@ -355,10 +414,7 @@ mod tests {
 
     #[test]
     fn answers_what_is_given_twice(rt: HostRuntime) -> Result<(), Fail> {
-        let cases: [(&[u8], &str); 14] = [
-            (b"let a = 1 in 2", "Unexpected(10, WordIn)"),
-            (b"val x : int", "Unexpected(0, WordVal)"),
-            (b"let a = 1 | 2", "Unexpected(10, Bar)"),
+        let cases: [(&[u8], &str); 10] = [
             (b"let a = 1 let a = 2", "DuplicateBinding(14)"),
             (b"let a = 1 let rec a = 2", "DuplicateBinding(18)"),
             (b"import k\nimport k", "DuplicateImport(16)"),
@@ -375,7 +431,6 @@ mod tests {
                 b"import k import k let a = {x = 1, x = 2}",
                 "DuplicateImport(16)",
             ),
-            (b"let a = {x = 1, x = 2} )", "Unexpected(23, ParenRight)"),
         ];
         for (text, want) in cases {
             let line = shown(rt.alloc(), text)?;

@@ -7,7 +7,7 @@ ghost use Rattle.mls_reader.specs.steps.Todos.{part_of, todo_of, stack_of, opera
 ghost use Rattle.mls_reader.specs.steps.PieceReaders.{if_row, ReadsSource, name_in, leaf, Acted, Tried, Refused, Went, Stopped, Finished, IsNew, Puts, PutsRow, PutsAndTells};
 
 use crate::piece::{Event, Piece};
-use crate::todo::{Depth, Operand, Part, Tail, Todo, Word};
+use crate::todo::{Depth, Operand, PiecePart, Tail, Todo, Word};
 use mls_base::memory::Memory;
 use mls_book::name::Name;
 use mls_grammar::fault::Fault;
@@ -18,7 +18,7 @@ use std::alloc::Global;
 
 // What is still to do, the next last, and what was told and given so far.
 #[derive(Drop)]
-struct Reader {
+struct ModuleReader {
     stack: Vec<Todo>,
     pieces: Vec<Piece>,
     events: Vec<Event>,
@@ -26,30 +26,30 @@ struct Reader {
 
 /// What was read: the pieces of a module, each behind those that it is made of, and the names and labels that it gives.
 #[derive(Drop)]
-pub struct Reading {
+pub struct SourcePieces {
     pub pieces: Vec<Piece>,
     pub events: Vec<Event>,
 }
 
 /// Reads the tokens of a module. It takes no recursion.
-pub fn read(alloc: Global, text: &[u8], tokens: &[Token]) -> Result<Reading, Fault>
+pub fn read(alloc: Global, text: &[u8], tokens: &[Token]) -> Result<SourcePieces, Fault>
     requires { IsTokens text.now tokens.now }
     ensures read { IfOk result (λ r. ReadsSource text.now tokens.now r.pieces.items r.events.items) }
     ensures fault { IfErr result (λ fault. fault ≢ Fault.Memory → HasGrammarFault text.now tokens.now fault) }
 {
-    let mut reader = Reader::new(alloc)?;
+    let mut reader = ModuleReader::new(alloc)?;
     for token in tokens {
         reader.read_token(alloc, text, *token)?;
     }
     if !reader.finish()? {
         return Err(Fault::Ended);
     }
-    let Reader {
+    let ModuleReader {
         stack: _,
         pieces,
         events,
     } = reader;
-    Ok(Reading { pieces, events })
+    Ok(SourcePieces { pieces, events })
 }
 
 // The name that the token is, if it is one.
@@ -100,15 +100,15 @@ fn copy_of(name: &Name) -> Result<Name, Memory>
     Ok(name.clone()?)
 }
 
-impl Reader {
+impl ModuleReader {
     // A reader before the first token.
-    fn new(alloc: Global) -> Result<Reader, Memory>
+    fn new(alloc: Global) -> Result<ModuleReader, Memory>
         ensures { IfOk result IsNew }
     {
         let mut stack = Vec::new(alloc);
-        stack.push(Todo::Read(Part::Bindings))?;
-        stack.push(Todo::Read(Part::Imports))?;
-        Ok(Reader {
+        stack.push(Todo::Read(PiecePart::Bindings))?;
+        stack.push(Todo::Read(PiecePart::Imports))?;
+        Ok(ModuleReader {
             stack,
             pieces: Vec::new(alloc),
             events: Vec::new(alloc),
@@ -156,7 +156,7 @@ impl Reader {
         alloc: Global,
         text: &[u8],
         token: Token,
-        part: Part,
+        part: PiecePart,
     ) -> Result<bool, Fault>
         requires { IsToken text.now token }
         ensures tried { IfOk result (λ begun. Tried text.now token (part_of part) self.old self.new begun) }
@@ -207,38 +207,38 @@ impl Reader {
         alloc: Global,
         text: &[u8],
         token: Token,
-        part: Part,
+        part: PiecePart,
     ) -> Result<bool, Memory>
         requires of_text { IsToken text.now token }
         requires shallow { is_deep (part_of part) token.kind ≡ false }
         ensures { IfOk result (λ begun. Acted (acts (part_of part) token.start (terminal text.now token)) self.old self.new begun) }
     {
         match part {
-            Part::Imports => self.begin_imports(token.kind),
-            Part::Import => self.begin_import(alloc, text, token),
-            Part::Bindings => self.begin_bindings(token.kind),
-            Part::BindRest => self.begin_bind_rest(alloc, text, token),
-            Part::Binding(rec_at) => self.begin_binding(alloc, text, token, rec_at),
-            Part::Expr(around) => match around.deeper() {
+            PiecePart::Imports => self.begin_imports(token.kind),
+            PiecePart::Import => self.begin_import(alloc, text, token),
+            PiecePart::Bindings => self.begin_bindings(token.kind),
+            PiecePart::BindRest => self.begin_bind_rest(alloc, text, token),
+            PiecePart::Binding(rec_at) => self.begin_binding(alloc, text, token, rec_at),
+            PiecePart::Expr(around) => match around.deeper() {
                 Some(depth) => self.begin_expr(alloc, text, token, depth),
                 None => Ok(false),
             },
-            Part::Fun(around, at) => self.begin_fun(alloc, text, token, around, at),
-            Part::Fix(around, at) => self.begin_fix(alloc, text, token, around, at),
-            Part::Let(around, at) => self.begin_let(alloc, text, token, around, at),
-            Part::Local(around, at, rec_at) => {
+            PiecePart::Fun(around, at) => self.begin_fun(alloc, text, token, around, at),
+            PiecePart::Fix(around, at) => self.begin_fix(alloc, text, token, around, at),
+            PiecePart::Let(around, at) => self.begin_let(alloc, text, token, around, at),
+            PiecePart::Local(around, at, rec_at) => {
                 self.begin_local(alloc, text, token, around, at, rec_at)
             }
-            Part::Operand(around, operand) => {
+            PiecePart::Operand(around, operand) => {
                 self.begin_operand(alloc, text, token, around, operand)
             }
-            Part::Arguments(around, at) => self.begin_argument(alloc, text, token, around, at),
-            Part::Tail(around, tail) => self.begin_tail(token, around, tail),
-            Part::Label => self.begin_label(alloc, text, token),
-            Part::Fields(around) => self.begin_fields(alloc, text, token, around),
-            Part::MoreFields(around) => self.begin_more_fields(token.kind, around),
-            Part::Field(around) => self.begin_field(alloc, text, token, around),
-            Part::Word(word) => Ok(token.kind == word.kind()),
+            PiecePart::Arguments(around, at) => self.begin_argument(alloc, text, token, around, at),
+            PiecePart::Tail(around, tail) => self.begin_tail(token, around, tail),
+            PiecePart::Label => self.begin_label(alloc, text, token),
+            PiecePart::Fields(around) => self.begin_fields(alloc, text, token, around),
+            PiecePart::MoreFields(around) => self.begin_more_fields(token.kind, around),
+            PiecePart::Field(around) => self.begin_field(alloc, text, token, around),
+            PiecePart::Word(word) => Ok(token.kind == word.kind()),
         }
     }
 
@@ -249,7 +249,10 @@ impl Reader {
         if kind != Kind::WordImport {
             return Ok(false);
         }
-        self.put([Todo::Read(Part::Imports), Todo::Read(Part::Import)])?;
+        self.put([
+            Todo::Read(PiecePart::Imports),
+            Todo::Read(PiecePart::Import),
+        ])?;
         Ok(true)
     }
 
@@ -274,7 +277,7 @@ impl Reader {
         if kind != Kind::WordLet {
             return Ok(false);
         }
-        self.put([Todo::Read(Part::BindRest)])?;
+        self.put([Todo::Read(PiecePart::BindRest)])?;
         Ok(true)
     }
 
@@ -289,15 +292,15 @@ impl Reader {
                 self.events
                     .push(Event::Binding(token.start, copy_of(&name)?))?;
                 self.put([
-                    Todo::Read(Part::Bindings),
+                    Todo::Read(PiecePart::Bindings),
                     Todo::Tell(Piece::Binding(token.start, name)),
-                    Todo::Read(Part::Expr(Depth::outermost())),
-                    Todo::Read(Part::Word(Word::Equals)),
+                    Todo::Read(PiecePart::Expr(Depth::outermost())),
+                    Todo::Read(PiecePart::Word(Word::Equals)),
                 ])?;
                 Ok(true)
             }
             Kind::WordRec => {
-                self.put([Todo::Read(Part::Binding(token.start))])?;
+                self.put([Todo::Read(PiecePart::Binding(token.start))])?;
                 Ok(true)
             }
             _ => Ok(false),
@@ -321,11 +324,11 @@ impl Reader {
         self.events
             .push(Event::Binding(token.start, copy_of(&name)?))?;
         self.put([
-            Todo::Read(Part::Bindings),
+            Todo::Read(PiecePart::Bindings),
             Todo::Tell(Piece::Binding(token.start, copy_of(&name)?)),
             Todo::Tell(Piece::Rec(rec_at, name)),
-            Todo::Read(Part::Expr(Depth::outermost())),
-            Todo::Read(Part::Word(Word::Equals)),
+            Todo::Read(PiecePart::Expr(Depth::outermost())),
+            Todo::Read(PiecePart::Word(Word::Equals)),
         ])?;
         Ok(true)
     }
@@ -343,15 +346,15 @@ impl Reader {
     {
         match token.kind {
             Kind::WordFun => {
-                self.put([Todo::Read(Part::Fun(depth, token.start))])?;
+                self.put([Todo::Read(PiecePart::Fun(depth, token.start))])?;
                 Ok(true)
             }
             Kind::WordRec => {
-                self.put([Todo::Read(Part::Fix(depth, token.start))])?;
+                self.put([Todo::Read(PiecePart::Fix(depth, token.start))])?;
                 Ok(true)
             }
             Kind::WordLet => {
-                self.put([Todo::Read(Part::Let(depth, token.start))])?;
+                self.put([Todo::Read(PiecePart::Let(depth, token.start))])?;
                 Ok(true)
             }
             Kind::WordIf => {
@@ -368,11 +371,11 @@ impl Reader {
     {
         self.put([
             Todo::Tell(Piece::If(at)),
-            Todo::Read(Part::Expr(depth)),
-            Todo::Read(Part::Word(Word::Else)),
-            Todo::Read(Part::Expr(depth)),
-            Todo::Read(Part::Word(Word::Then)),
-            Todo::Read(Part::Expr(depth)),
+            Todo::Read(PiecePart::Expr(depth)),
+            Todo::Read(PiecePart::Word(Word::Else)),
+            Todo::Read(PiecePart::Expr(depth)),
+            Todo::Read(PiecePart::Word(Word::Then)),
+            Todo::Read(PiecePart::Expr(depth)),
         ])
     }
 
@@ -393,8 +396,8 @@ impl Reader {
         };
         self.put([
             Todo::Tell(Piece::Fun(at, name)),
-            Todo::Read(Part::Expr(around)),
-            Todo::Read(Part::Word(Word::Arrow)),
+            Todo::Read(PiecePart::Expr(around)),
+            Todo::Read(PiecePart::Word(Word::Arrow)),
         ])?;
         Ok(true)
     }
@@ -416,8 +419,8 @@ impl Reader {
         };
         self.put([
             Todo::Tell(Piece::Rec(at, name)),
-            Todo::Read(Part::Expr(around)),
-            Todo::Read(Part::Word(Word::Arrow)),
+            Todo::Read(PiecePart::Expr(around)),
+            Todo::Read(PiecePart::Word(Word::Arrow)),
         ])?;
         Ok(true)
     }
@@ -439,15 +442,15 @@ impl Reader {
                 let name = name_of(alloc, text, token)?;
                 self.put([
                     Todo::Tell(Piece::Let(at, name)),
-                    Todo::Read(Part::Expr(around)),
-                    Todo::Read(Part::Word(Word::In)),
-                    Todo::Read(Part::Expr(around)),
-                    Todo::Read(Part::Word(Word::Equals)),
+                    Todo::Read(PiecePart::Expr(around)),
+                    Todo::Read(PiecePart::Word(Word::In)),
+                    Todo::Read(PiecePart::Expr(around)),
+                    Todo::Read(PiecePart::Word(Word::Equals)),
                 ])?;
                 Ok(true)
             }
             Kind::WordRec => {
-                self.put([Todo::Read(Part::Local(around, at, token.start))])?;
+                self.put([Todo::Read(PiecePart::Local(around, at, token.start))])?;
                 Ok(true)
             }
             _ => Ok(false),
@@ -472,11 +475,11 @@ impl Reader {
         };
         self.put([
             Todo::Tell(Piece::Let(at, copy_of(&name)?)),
-            Todo::Read(Part::Expr(around)),
-            Todo::Read(Part::Word(Word::In)),
+            Todo::Read(PiecePart::Expr(around)),
+            Todo::Read(PiecePart::Word(Word::In)),
             Todo::Tell(Piece::Rec(rec_at, name)),
-            Todo::Read(Part::Expr(around)),
-            Todo::Read(Part::Word(Word::Equals)),
+            Todo::Read(PiecePart::Expr(around)),
+            Todo::Read(PiecePart::Word(Word::Equals)),
         ])?;
         Ok(true)
     }
@@ -520,14 +523,14 @@ impl Reader {
             Kind::Less => {
                 self.put([
                     Todo::Tell(Piece::Binary(token.start, Op::Less)),
-                    Todo::Read(Part::Operand(around, Operand::Sum)),
+                    Todo::Read(PiecePart::Operand(around, Operand::Sum)),
                 ])?;
                 Ok(true)
             }
             Kind::DoubleEquals => {
                 self.put([
                     Todo::Tell(Piece::Binary(token.start, Op::Equal)),
-                    Todo::Read(Part::Operand(around, Operand::Sum)),
+                    Todo::Read(PiecePart::Operand(around, Operand::Sum)),
                 ])?;
                 Ok(true)
             }
@@ -542,17 +545,17 @@ impl Reader {
         match token.kind {
             Kind::Plus => {
                 self.put([
-                    Todo::Read(Part::Tail(around, Tail::Sum)),
+                    Todo::Read(PiecePart::Tail(around, Tail::Sum)),
                     Todo::Tell(Piece::Binary(token.start, Op::Plus)),
-                    Todo::Read(Part::Operand(around, Operand::Product)),
+                    Todo::Read(PiecePart::Operand(around, Operand::Product)),
                 ])?;
                 Ok(true)
             }
             Kind::Minus => {
                 self.put([
-                    Todo::Read(Part::Tail(around, Tail::Sum)),
+                    Todo::Read(PiecePart::Tail(around, Tail::Sum)),
                     Todo::Tell(Piece::Binary(token.start, Op::Minus)),
-                    Todo::Read(Part::Operand(around, Operand::Product)),
+                    Todo::Read(PiecePart::Operand(around, Operand::Product)),
                 ])?;
                 Ok(true)
             }
@@ -568,9 +571,9 @@ impl Reader {
             return Ok(false);
         }
         self.put([
-            Todo::Read(Part::Tail(around, Tail::Product)),
+            Todo::Read(PiecePart::Tail(around, Tail::Product)),
             Todo::Tell(Piece::Binary(token.start, Op::Times)),
-            Todo::Read(Part::Operand(around, Operand::Apply)),
+            Todo::Read(PiecePart::Operand(around, Operand::Apply)),
         ])?;
         Ok(true)
     }
@@ -583,8 +586,8 @@ impl Reader {
             return Ok(false);
         }
         self.put([
-            Todo::Read(Part::Tail(around, Tail::Dots)),
-            Todo::Read(Part::Label),
+            Todo::Read(PiecePart::Tail(around, Tail::Dots)),
+            Todo::Read(PiecePart::Label),
         ])?;
         Ok(true)
     }
@@ -631,7 +634,7 @@ impl Reader {
                 Ok(true)
             }
             Kind::Comma => {
-                self.put([Todo::Read(Part::Field(around))])?;
+                self.put([Todo::Read(PiecePart::Field(around))])?;
                 Ok(true)
             }
             _ => Ok(false),
@@ -656,9 +659,9 @@ impl Reader {
             .push(Event::Label(token.start, copy_of(&name)?))?;
         self.put([
             Todo::Tell(Piece::Field(name)),
-            Todo::Read(Part::MoreFields(around)),
-            Todo::Read(Part::Expr(around)),
-            Todo::Read(Part::Word(Word::Equals)),
+            Todo::Read(PiecePart::MoreFields(around)),
+            Todo::Read(PiecePart::Expr(around)),
+            Todo::Read(PiecePart::Word(Word::Equals)),
         ])?;
         Ok(true)
     }
@@ -675,11 +678,11 @@ impl Reader {
         ensures { IfOk result (λ begun. Acted (atom_acts around (compare_row around token.start) token.start (terminal text.now token)) self.old self.new begun) }
     {
         let row = [
-            Todo::Read(Part::Tail(around, Tail::Compare)),
-            Todo::Read(Part::Tail(around, Tail::Sum)),
-            Todo::Read(Part::Tail(around, Tail::Product)),
-            Todo::Read(Part::Arguments(around, token.start)),
-            Todo::Read(Part::Tail(around, Tail::Dots)),
+            Todo::Read(PiecePart::Tail(around, Tail::Compare)),
+            Todo::Read(PiecePart::Tail(around, Tail::Sum)),
+            Todo::Read(PiecePart::Tail(around, Tail::Product)),
+            Todo::Read(PiecePart::Arguments(around, token.start)),
+            Todo::Read(PiecePart::Tail(around, Tail::Dots)),
         ];
         self.begin_atom(alloc, text, token, around, row)
     }
@@ -696,10 +699,10 @@ impl Reader {
         ensures { IfOk result (λ begun. Acted (atom_acts around (sum_row around token.start) token.start (terminal text.now token)) self.old self.new begun) }
     {
         let row = [
-            Todo::Read(Part::Tail(around, Tail::Sum)),
-            Todo::Read(Part::Tail(around, Tail::Product)),
-            Todo::Read(Part::Arguments(around, token.start)),
-            Todo::Read(Part::Tail(around, Tail::Dots)),
+            Todo::Read(PiecePart::Tail(around, Tail::Sum)),
+            Todo::Read(PiecePart::Tail(around, Tail::Product)),
+            Todo::Read(PiecePart::Arguments(around, token.start)),
+            Todo::Read(PiecePart::Tail(around, Tail::Dots)),
         ];
         self.begin_atom(alloc, text, token, around, row)
     }
@@ -716,9 +719,9 @@ impl Reader {
         ensures { IfOk result (λ begun. Acted (atom_acts around (product_row around token.start) token.start (terminal text.now token)) self.old self.new begun) }
     {
         let row = [
-            Todo::Read(Part::Tail(around, Tail::Product)),
-            Todo::Read(Part::Arguments(around, token.start)),
-            Todo::Read(Part::Tail(around, Tail::Dots)),
+            Todo::Read(PiecePart::Tail(around, Tail::Product)),
+            Todo::Read(PiecePart::Arguments(around, token.start)),
+            Todo::Read(PiecePart::Tail(around, Tail::Dots)),
         ];
         self.begin_atom(alloc, text, token, around, row)
     }
@@ -735,8 +738,8 @@ impl Reader {
         ensures { IfOk result (λ begun. Acted (atom_acts around (apply_row around token.start) token.start (terminal text.now token)) self.old self.new begun) }
     {
         let row = [
-            Todo::Read(Part::Arguments(around, token.start)),
-            Todo::Read(Part::Tail(around, Tail::Dots)),
+            Todo::Read(PiecePart::Arguments(around, token.start)),
+            Todo::Read(PiecePart::Tail(around, Tail::Dots)),
         ];
         self.begin_atom(alloc, text, token, around, row)
     }
@@ -754,9 +757,9 @@ impl Reader {
         ensures { IfOk result (λ begun. Acted (acts (arguments_of around at) token.start (terminal text.now token)) self.old self.new begun) }
     {
         let row = [
-            Todo::Read(Part::Arguments(around, at)),
+            Todo::Read(PiecePart::Arguments(around, at)),
             Todo::Tell(Piece::Apply(at)),
-            Todo::Read(Part::Tail(around, Tail::Dots)),
+            Todo::Read(PiecePart::Tail(around, Tail::Dots)),
         ];
         self.begin_atom(alloc, text, token, around, row)
     }
@@ -782,8 +785,8 @@ impl Reader {
             Kind::ParenLeft => {
                 self.put(row)?;
                 self.put([
-                    Todo::Read(Part::Word(Word::ParenRight)),
-                    Todo::Read(Part::Expr(around)),
+                    Todo::Read(PiecePart::Word(Word::ParenRight)),
+                    Todo::Read(PiecePart::Expr(around)),
                 ])?;
                 Ok(true)
             }
@@ -792,7 +795,7 @@ impl Reader {
                 self.put(row)?;
                 self.put([
                     Todo::Tell(Piece::Make(token.start)),
-                    Todo::Read(Part::Fields(around)),
+                    Todo::Read(PiecePart::Fields(around)),
                 ])?;
                 Ok(true)
             }

@@ -52,7 +52,7 @@ impl Depth {
 /// A part of the grammar that is still to come, with the expressions that lie around it. Where a place is given, it is
 /// that of the word with which the part began.
 #[derive(Drop)]
-pub enum Part {
+pub enum PiecePart {
     Imports,
     /// The name behind `import`.
     Import,
@@ -116,17 +116,17 @@ pub enum Word {
 /// What is still to do: a part has to come, or a piece is told once what stands before it is over.
 #[derive(Drop)]
 pub enum Todo {
-    Read(Part),
+    Read(PiecePart),
     Tell(Piece),
 }
 
-impl Part {
+impl PiecePart {
     /// Whether it is an expression that begins with a token of this kind, and that is nested too deep.
     pub fn is_too_deep(&self, kind: Kind) -> bool
         ensures { result ≡ is_deep (part_of self.now) kind }
     {
         match self {
-            Part::Expr(around) => around.deeper().is_none() && begins_expr(kind),
+            PiecePart::Expr(around) => around.deeper().is_none() && begins_expr(kind),
             _ => false,
         }
     }
@@ -137,7 +137,10 @@ impl Part {
     {
         matches!(
             self,
-            Part::Imports | Part::Bindings | Part::Arguments(_, _) | Part::Tail(_, _)
+            PiecePart::Imports
+                | PiecePart::Bindings
+                | PiecePart::Arguments(_, _)
+                | PiecePart::Tail(_, _)
         )
     }
 }

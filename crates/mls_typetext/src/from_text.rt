@@ -177,8 +177,8 @@ mod tests {
     }
 
     #[test]
-    fn reads_a_text_or_answers_its_first_fault(rt: HostRuntime) -> Result<(), Fail> {
-        let cases: [(&[u8], &str); 67] = [
+    fn reads_names_and_functions(rt: HostRuntime) -> Result<(), Fail> {
+        let cases: [(&[u8], &str); 11] = [
             (b"int", "int; root 0; 0 vars"),
             (b"bool", "bool; root 0; 0 vars"),
             (b"bot", "bot; root 0; 0 vars"),
@@ -188,12 +188,39 @@ mod tests {
             (b"a -> b", "1->2, v0, v1; root 0; 2 vars"),
             (b"a -> b -> a", "1->2, v0, 3->4, v1, v0; root 0; 2 vars"),
             (b"(a -> b) -> c", "1->4, 2->3, v0, v1, v2; root 0; 3 vars"),
+            (b"top -> bot", "1->2, top, bot; root 0; 0 vars"),
+            (b"# before\n int # behind", "int; root 0; 0 vars"),
+        ];
+        for (text, want) in cases {
+            let line = shown(rt.alloc(), text)?;
+            assert_eq!(rt; line.as_str(), want);
+        }
+        Ok(())
+    }
+
+    #[test]
+    fn reads_joins_and_meets(rt: HostRuntime) -> Result<(), Fail> {
+        let cases: [(&[u8], &str); 6] = [
             (b"a | b", "v0, v1, 0|1; root 2; 2 vars"),
             (b"a | b | c", "v0, v1, 0|1, v2, 2|3; root 4; 3 vars"),
             (b"a & b -> c", "3->4, v0, v1, 1&2, v2; root 0; 3 vars"),
             (b"(a & b) -> c", "3->4, v0, v1, 1&2, v2; root 0; 3 vars"),
             (b"a -> b | c", "1->4, v0, v1, v2, 2|3; root 0; 3 vars"),
-            (b"top -> bot", "1->2, top, bot; root 0; 0 vars"),
+            (
+                b"(a -> b & c) -> d",
+                "1->6, 2->5, v0, v1, v2, 3&4, v3; root 0; 4 vars",
+            ),
+        ];
+        for (text, want) in cases {
+            let line = shown(rt.alloc(), text)?;
+            assert_eq!(rt; line.as_str(), want);
+        }
+        Ok(())
+    }
+
+    #[test]
+    fn reads_records(rt: HostRuntime) -> Result<(), Fail> {
+        let cases: [(&[u8], &str); 5] = [
             (b"{}", "{ }; root 0; 0 vars"),
             (b"{l: a}", "{ l:1 }, v0; root 0; 1 vars"),
             (
@@ -205,6 +232,17 @@ mod tests {
                 "{ a:2 b:1 }, int, bool; root 0; 0 vars",
             ),
             (b"{a: {a: int}}", "{ a:1 }, { a:2 }, int; root 0; 0 vars"),
+        ];
+        for (text, want) in cases {
+            let line = shown(rt.alloc(), text)?;
+            assert_eq!(rt; line.as_str(), want);
+        }
+        Ok(())
+    }
+
+    #[test]
+    fn reads_recursive_types(rt: HostRuntime) -> Result<(), Fail> {
+        let cases: [(&[u8], &str); 14] = [
             (b"rec a. {l: a}", "{ l:0 }; root 0; 0 vars"),
             (b"rec a. {l: a | int}", "{ l:2 }, int, 0|1; root 0; 0 vars"),
             (b"rec a. int -> a", "1->0, int; root 0; 0 vars"),
@@ -231,14 +269,20 @@ mod tests {
             ),
             (b"a -> rec b. a -> b", "1->2, v0, 3->2, v0; root 0; 1 vars"),
             (
-                b"(a -> b & c) -> d",
-                "1->6, 2->5, v0, v1, v2, 3&4, v3; root 0; 4 vars",
-            ),
-            (
                 b"rec a. {l: b, m: a, n: b}",
                 "{ l:1 m:0 n:2 }, v0, v0; root 0; 1 vars",
             ),
-            (b"# before\n int # behind", "int; root 0; 0 vars"),
+        ];
+        for (text, want) in cases {
+            let line = shown(rt.alloc(), text)?;
+            assert_eq!(rt; line.as_str(), want);
+        }
+        Ok(())
+    }
+
+    #[test]
+    fn answers_the_fault_of_the_tokens_or_the_grammar(rt: HostRuntime) -> Result<(), Fail> {
+        let cases: [(&[u8], &str); 13] = [
             (b"$", "BadByte(0)"),
             (b"{l: 9223372036854775808", "BigNumber(4)"),
             (b"", "Ended"),
@@ -252,6 +296,17 @@ mod tests {
             (b"int)", "Unexpected(3, ParenRight)"),
             (b"int | rec a. {l: a}", "Unexpected(6, WordRec)"),
             (b"top)", "Unexpected(3, ParenRight)"),
+        ];
+        for (text, want) in cases {
+            let line = shown(rt.alloc(), text)?;
+            assert_eq!(rt; line.as_str(), want);
+        }
+        Ok(())
+    }
+
+    #[test]
+    fn answers_what_is_not_polar(rt: HostRuntime) -> Result<(), Fail> {
+        let cases: [(&[u8], &str); 9] = [
             (b"top", "NotPolar(0)"),
             (b"bot -> int", "NotPolar(0)"),
             (b"int -> top", "NotPolar(7)"),
@@ -261,6 +316,17 @@ mod tests {
             (b"(a -> b | c) -> d", "NotPolar(8)"),
             (b"top | {a: int, a: int}", "NotPolar(0)"),
             (b"{a: top, a: int}", "NotPolar(4)"),
+        ];
+        for (text, want) in cases {
+            let line = shown(rt.alloc(), text)?;
+            assert_eq!(rt; line.as_str(), want);
+        }
+        Ok(())
+    }
+
+    #[test]
+    fn answers_a_recursive_name_or_a_label_given_twice(rt: HostRuntime) -> Result<(), Fail> {
+        let cases: [(&[u8], &str); 9] = [
             (b"rec a. a", "Unguarded(7)"),
             (b"rec a. int | a", "Unguarded(13)"),
             (b"rec a. rec b. a", "Unguarded(14)"),

@@ -469,7 +469,7 @@ mod tests {
     }
 
     #[test]
-    fn tells_the_first_fault(rt: HostRuntime) -> Result<(), Fail> {
+    fn tells_what_is_not_polar(rt: HostRuntime) -> Result<(), Fail> {
         let cases = [
             ("top", "NotPolar(0)"),
             ("bot int ->", "NotPolar(0)"),
@@ -477,6 +477,23 @@ mod tests {
             // int | bool -> int
             ("int bool | int ->", "NotPolar(2)"),
             ("int bool & top ->", "NotPolar(3)"),
+            // {l: top, l: top}
+            ("top top . l: l: {}", "NotPolar(0)"),
+            // top & bot
+            ("top bot &", "NotPolar(0)"),
+            // int & top
+            ("int top &", "NotPolar(2)"),
+        ];
+        for (words, want) in cases {
+            let line = shown(rt.alloc(), words)?;
+            assert_eq!(rt; line.as_str(), want);
+        }
+        Ok(())
+    }
+
+    #[test]
+    fn tells_a_recursive_name_or_a_label_given_twice(rt: HostRuntime) -> Result<(), Fail> {
+        let cases = [
             ("a rec.a", "Unguarded(0)"),
             ("int a | rec.a", "Unguarded(1)"),
             ("int a rec.a ->", "Unguarded(1)"),
@@ -486,14 +503,11 @@ mod tests {
             // {l: int, m: int, l: bool}
             ("int int bool . l: m: l: {}", "DuplicateLabel(4)"),
             ("int int int . l: l: l: {}", "DuplicateLabel(5)"),
-            // {l: top, l: top}, {l: int, l: top}
-            ("top top . l: l: {}", "NotPolar(0)"),
+            // {l: int, l: top}
             ("int top . l: l: {}", "DuplicateLabel(3)"),
-            // top & bot, int & top
-            ("top bot &", "NotPolar(0)"),
-            ("int top &", "NotPolar(2)"),
-            // rec a. a | (a -> int), rec a. (a -> int) | a
+            // rec a. a | (a -> int)
             ("a a int -> | rec.a", "Unguarded(0)"),
+            // rec a. (a -> int) | a
             ("a int -> a | rec.a", "Contravariant(0)"),
         ];
         for (words, want) in cases {

@@ -10,35 +10,35 @@ use Rattle.mls_reader.specs.declared.piece.Piece.{Piece}
 use Rattle.mls_reader.specs.declared.piece.Piece.TheVariants as piece
 use Rattle.mls_reader.specs.declared.piece.Event.{Event}
 use Rattle.mls_reader.specs.declared.todo.Todo.{Todo as Kept}
-use Rattle.mls_reader.specs.declared.read.Reader.{Reader}
+use Rattle.mls_reader.specs.declared.read.ModuleReader.{ModuleReader}
 use Rattle.mls_grammar.specs.Phrases.{Phrase, source, expr, yields, nesting}
 use Rattle.mls_reader.specs.steps.Todos.{stack_of, may_be_empty}
 use Rattle.mls_reader.specs.steps.PieceMachine.{Todo, a, the_then, the_else, tell, Act, acts, State, advance, build, last_told, beginning}
 
 -- a reader as the state of the machine
-abbrev pub state_of : Reader → State
+abbrev pub state_of : ModuleReader → State
 state_of reader = record { stack = stack_of reader.stack.items; told = reader.pieces.items; heard = reader.events.items }
 
 -- a reader before the first token
-pub record IsNew (reader : Reader) : Type 0 where
+pub record IsNew (reader : ModuleReader) : Type 0 where
   pub stack : stack_of reader.stack.items ≡ beginning
   pub pieces : reader.pieces.items ≡ []
   pub events : reader.events.items ≡ []
 
 -- the row was put on the stack, and nothing else was changed
-pub record Puts (row : List Kept) (old new : Reader) : Type 0 where
+pub record Puts (row : List Kept) (old new : ModuleReader) : Type 0 where
   pub stack : stack_of new.stack.items ≡ stack_of row ++ stack_of old.stack.items
   pub pieces : new.pieces.items ≡ old.pieces.items
   pub events : new.events.items ≡ old.events.items
 
 -- the same, for a row of the machine
-pub record PutsRow (row : List Todo) (old new : Reader) : Type 0 where
+pub record PutsRow (row : List Todo) (old new : ModuleReader) : Type 0 where
   pub stack : stack_of new.stack.items ≡ row ++ stack_of old.stack.items
   pub pieces : new.pieces.items ≡ old.pieces.items
   pub events : new.events.items ≡ old.events.items
 
 -- the row was put on the stack, and a piece was told
-pub record PutsAndTells (row : List Kept) (piece : Piece) (old new : Reader) : Type 0 where
+pub record PutsAndTells (row : List Kept) (piece : Piece) (old new : ModuleReader) : Type 0 where
   pub stack : stack_of new.stack.items ≡ stack_of row ++ stack_of old.stack.items
   pub pieces : new.pieces.items ≡ old.pieces.items ++ piece ∷ []
   pub events : new.events.items ≡ old.events.items
@@ -48,19 +48,19 @@ abbrev pub if_row : (depth at : ℕ) → List Todo
 if_row m at = a m expr ∷ the_then ∷ a m expr ∷ the_else ∷ a m expr ∷ tell (piece.If at) ∷ []
 
 -- the act was done
-pub record Did (it : Act) (old new : Reader) : Type 0 where
+pub record Did (it : Act) (old new : ModuleReader) : Type 0 where
   pub stack : stack_of new.stack.items ≡ it.row ++ stack_of old.stack.items
   pub pieces : new.pieces.items ≡ old.pieces.items ++ it.told
   pub events : new.events.items ≡ old.events.items ++ it.heard
 
 -- nothing was changed
-pub record Stays (old new : Reader) : Type 0 where
+pub record Stays (old new : ModuleReader) : Type 0 where
   pub stack : new.stack.items ≡ old.stack.items
   pub pieces : new.pieces.items ≡ old.pieces.items
   pub events : new.events.items ≡ old.events.items
 
 -- a part did its act exactly where it has one
-abbrev pub Acted : Option Act → (old new : Reader) → Bool → Type 0
+abbrev pub Acted : Option Act → (old new : ModuleReader) → Bool → Type 0
 Acted (Some it) old new begun = (begun ≡ true) × Did it old new
 Acted None old new begun = (begun ≡ false) × Stays old new
 
@@ -98,7 +98,7 @@ told_by (tell piece) = piece ∷ []
 told_by _ = []
 
 -- what was to do did its act, or is over
-abbrev pub Tried : (text : List ℕ) (token : Token) → Todo → (old new : Reader) → Bool → Type 0
+abbrev pub Tried : (text : List ℕ) (token : Token) → Todo → (old new : ModuleReader) → Bool → Type 0
 Tried text token todo old new true = (it : Act) × (acts todo token.start (terminal text token) ≡ Some it) × Did it old new × (own todo ≢ 201)
 Tried text token todo old new false =
     (acts todo token.start (terminal text token) ≡ None)
@@ -113,19 +113,19 @@ pub data Refused (text : List ℕ) (token : Token) (todo : Todo) : Fault → Typ
   is_too_deep : (it : Act) → acts todo token.start (terminal text token) ≡ Some it → own todo ≡ 201 → Refused text token todo (TooDeep token.start)
 
 -- the token was read, and no expression begins with it that is nested too deep
-pub record Went (text : List ℕ) (token : Token) (old new : Reader) : Type 0 where
+pub record Went (text : List ℕ) (token : Token) (old new : ModuleReader) : Type 0 where
   pub nesting : ℕ
   pub there : mark token.start (terminal text token) (stack_of old.stack.items) ≡ Some nesting
   pub shallow : nesting ≢ 201
   pub state : state_of new ≡ advance token.start (terminal text token) (stack_of old.stack.items) old.pieces.items old.events.items
 
 -- why a token was not read
-pub data Stopped (text : List ℕ) (token : Token) (old : Reader) : Fault → Type 0 where
+pub data Stopped (text : List ℕ) (token : Token) (old : ModuleReader) : Fault → Type 0 where
   stuck : mark token.start (terminal text token) (stack_of old.stack.items) ≡ None → Stopped text token old (Unexpected token.start token.kind)
   deep : mark token.start (terminal text token) (stack_of old.stack.items) ≡ Some 201 → Stopped text token old (TooDeep token.start)
 
 -- whether nothing more has to come, and then what is told at last
-abbrev pub Finished : (old new : Reader) → Bool → Type 0
+abbrev pub Finished : (old new : ModuleReader) → Bool → Type 0
 Finished old new true =
     (list_all may_be_empty (stack_of old.stack.items) ≡ true)
     × (new.pieces.items ≡ last_told (stack_of old.stack.items) old.pieces.items)

@@ -3,8 +3,8 @@ use Rattle.std.specs.Prelude.{Bool, true, false, ◌&&◌, ◌==◌, is_some, Li
 use Rattle.mls_lexer.specs.declared.token.Kind.{Kind}
 use Rattle.mls_lexer.specs.declared.token.Kind.TheVariants as kind
 use Rattle.mls_lexer.specs.Tokens.{terminal_of}
-use Rattle.mls_reader.specs.declared.todo.Part.{Part}
-use Rattle.mls_reader.specs.declared.todo.Part.TheVariants as part
+use Rattle.mls_reader.specs.declared.todo.PiecePart.{PiecePart}
+use Rattle.mls_reader.specs.declared.todo.PiecePart.TheVariants as part
 use Rattle.mls_reader.specs.declared.todo.Operand.{Operand}
 use Rattle.mls_reader.specs.declared.todo.Operand.TheVariants as operand
 use Rattle.mls_reader.specs.declared.todo.Tail.{Tail}
@@ -46,7 +46,7 @@ word_kind word.In = kind.WordIn
 word_kind word.ParenRight = kind.ParenRight
 
 -- a part as the machine has it
-abbrev pub part_of : Part → Todo
+abbrev pub part_of : PiecePart → Todo
 part_of part.Imports = a 0 imports
 part_of part.Import = the_import
 part_of part.Bindings = a 0 bindings

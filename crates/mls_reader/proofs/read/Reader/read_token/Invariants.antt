@@ -1,9 +1,0 @@
-use Rattle.std.proofs.Common.{length}
-use Rattle.mls_reader.proofs.ReaderLoops.{DoSame}
-use Rattle.mls_reader.proofs.read.Reader.read_token.Given as goal
-
-abbrev pub invariant-loop-todo : goal.invariant-loop-todo
-invariant-loop-todo l = DoSame l.text l.token l.initial.self l.self
-
-abbrev pub decreases-loop-todo : goal.decreases-loop-todo
-decreases-loop-todo l = length l.self.stack.items
