@@ -12,4 +12,4 @@ pub mod Tasks
 pub mod UnknownsRise
 pub mod Walking
 pub mod WholeWalks
-pub mod UnknownsRise
+pub mod NumberedTerms
