@@ -17,3 +17,4 @@ pub mod PlacesWithin
 pub mod TreesOfNodes
 pub mod Undoubled
 pub mod Widths
+pub mod BoundNames

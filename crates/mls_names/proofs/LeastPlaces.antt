@@ -3,7 +3,7 @@ use Rattle.std.proofs.Common.{◌≡◌, ℕ, ◌+◌, ◌<◌, ◌≤◌, Bool,
 use Rattle.std.specs.Prelude.{Option, IfSome}
 use Rattle.std.proofs.lemmas.List.{append_assoc, append-nil, take_more, take_all, map-append}
 use Rattle.std.proofs.lemmas.Bool.{cases_lt}
-use Rattle.std.proofs.lemmas.List.Elements.{All-nil, All-cons, All-push, All-weaker, Contains-push, Contains-append_left, filter_more, All-head, All-tail}
+use Rattle.std.proofs.lemmas.List.Elements.{All-nil, All-cons, All-push, All-weaker, Contains-push, Contains-append_left, Contains-append_right, Contains-get_or, filter_more, All-head, All-tail}
 use Rattle.mls_term.specs.declared.term.Resolved.{Resolved}
 use Rattle.mls_term.specs.declared.term.ResolvedBinding.{ResolvedBinding}
 use Rattle.mls_term.specs.declared.term.TermNode.{TermNode}
@@ -77,7 +77,7 @@ among_none (node ∷ nodes) h =
     (λ i. map (λ (node : TermNode). node.at) (cond (not (All-head (λ (node : TermNode). is_built node.form ≡ true) node nodes h i)) (node ∷ filter (λ (node : TermNode). not (is_built node.form)) nodes) (filter (λ (node : TermNode). not (is_built node.form)) nodes)))
     ∙ among_none nodes (All-tail (λ (node : TermNode). is_built node.form ≡ true) node nodes h)
 
-none_of : (bindings : List ResolvedBinding) → unbuilt_of bindings ≡ [] → All (λ (b : ResolvedBinding). AreBuilt b.term.nodes) bindings
+pub none_of : (bindings : List ResolvedBinding) → unbuilt_of bindings ≡ [] → All (λ (b : ResolvedBinding). AreBuilt b.term.nodes) bindings
 none_of [] h = All-nil (λ (b : ResolvedBinding). AreBuilt b.term.nodes)
 none_of (b ∷ bs) h =
     All-cons (λ (b : ResolvedBinding). AreBuilt b.term.nodes) b bs (none_among b.term.nodes (no_left (unbuilt_among b.term.nodes) (unbuilt_of bs) h)) (none_of bs (no_right (unbuilt_among b.term.nodes) (unbuilt_of bs) h))
@@ -106,3 +106,30 @@ module _ (m : Resolved) (k : ℕ) (past : length m.bindings ≤ k) where
 -- where every form is built there is no such place
 pub none_unbuilt : (m : Resolved) (at : ℕ) → IsBuilt m → IsLeastUnbuilt m at → ⊥
 none_unbuilt m at built least = let there : Contains [] at = subst (λ ps. Contains ps at) (of_none m.bindings built) least.there in absurd (omega (arith, there.1))
+
+-- some places have a least one, where there are any
+least_among : (places : List ℕ) → (places ≡ []) ⊎ ((at : ℕ) × Contains places at × All (λ other. at ≤ other) places)
+least_among [] = inl refl
+least_among (place ∷ places) = inr (by_rest (least_among places))
+  where
+    Least : Type 0
+    Least = (at : ℕ) × Contains (place ∷ places) at × All (λ other. at ≤ other) (place ∷ places)
+
+    by_order : (at : ℕ) → Contains places at → All (λ other. at ≤ other) places → (at < place) ⊎ (place ≤ at) → Least
+    by_order at there all (inl less) = (at, Contains-append_right (place ∷ []) places at there, All-cons (λ other. at ≤ other) place places (omega arith) all)
+    by_order at there all (inr past) =
+        (place, Contains-get_or (place ∷ places) 0 0 (omega arith), All-cons (λ other. place ≤ other) place places (omega arith) (All-weaker (λ other. at ≤ other) (λ other. place ≤ other) (λ other le. omega arith) places all))
+
+    by_rest : (places ≡ []) ⊎ ((at : ℕ) × Contains places at × All (λ other. at ≤ other) places) → Least
+    by_rest (inl none) =
+        (place, Contains-get_or (place ∷ places) 0 0 (omega arith), All-cons (λ other. place ≤ other) place places (omega arith) (subst (All (λ other. place ≤ other)) (sym none) (All-nil (λ other. place ≤ other))))
+    by_rest (inr (at, there, all)) = by_order at there all (cases_lt at place)
+
+-- every form is built, or there is a least place of one that is not
+pub built_or_least : (m : Resolved) → IsBuilt m ⊎ ((at : ℕ) × IsLeastUnbuilt m at)
+built_or_least m = by_places (least_among (unbuilt_of m.bindings))
+  where
+    by_places : (unbuilt_of m.bindings ≡ []) ⊎ ((at : ℕ) × Contains (unbuilt_of m.bindings) at × All (λ other. at ≤ other) (unbuilt_of m.bindings))
+        → IsBuilt m ⊎ ((at : ℕ) × IsLeastUnbuilt m at)
+    by_places (inl none) = inl (none_of m.bindings none)
+    by_places (inr (at, there, all)) = inr (at, record { there = there; least = all })

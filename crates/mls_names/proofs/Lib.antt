@@ -12,3 +12,4 @@ pub mod Tasks
 pub mod UnknownsRise
 pub mod Walking
 pub mod WholeWalks
+pub mod NumberedTerms

@@ -1,5 +1,5 @@
 //! Laws of names, each the contract of a function that does nothing.
-ghost use Rattle.mls_names.specs.ResolutionLaws.{OneResolution, OneUnknownName, FirstUnknownIsLeast};
+ghost use Rattle.mls_names.specs.ResolutionLaws.{OneResolution, OneUnknownName, FirstUnknownIsLeast, ResolvedAreTerms};
 ghost use Rattle.mls_names.specs.ResolutionLaws.{NoUnknownNameBesideAResolution, ResolutionOrUnknownName};
 
 /// A module has one resolution at most.
@@ -25,4 +25,10 @@ pub fn resolution_or_unknown_name()
 /// Of the names of a text's module that have no meaning, the first in the order of the text has the least place.
 pub fn first_unknown_is_least()
     ensures { FirstUnknownIsLeast }
+{}
+
+/// The bindings of a resolved module are terms: the postorder of one tree each, with all names in scope and all
+/// binders and lets numbered once.
+pub fn resolved_are_terms()
+    ensures { ResolvedAreTerms }
 {}

@@ -4,3 +4,4 @@ pub mod Metatheory
 pub mod MovedDerivations
 pub mod Rules
 pub mod Worked
+pub mod TreesOfTerms

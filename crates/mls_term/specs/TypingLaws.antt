@@ -2,7 +2,7 @@
 use Rattle.std.specs.Prelude.{◌≡◌, ℕ, slice_get, Some}
 use Rattle.std.specs.FinMap as env
 use Rattle.mls_book.specs.Schemes.{Scheme, IsScheme, Subsumes, AreEquivalent}
-use Rattle.mls_term.specs.Terms.{TermTree}
+use Rattle.mls_term.specs.Terms.{TermTree, postorder}
 use Rattle.mls_term.specs.Derivations.{Known, Derives, IsBest}
 
 -- what is known are schemes
@@ -38,3 +38,7 @@ abbrev pub BestStays : Type 0
 BestStays =
     (first second : Known) (t : TermTree) (s : Scheme) → IsMoreGeneral first second → IsMoreGeneral second first
     → AreSchemes first → AreSchemes second → IsBest first t s → IsBest second t s
+
+-- a list of nodes is the postorder of one tree
+abbrev pub OneTermTree : Type 0
+OneTermTree = (t u : TermTree) → postorder 0 t ≡ postorder 0 u → t ≡ u

@@ -1,5 +1,6 @@
 //! Laws of the rules of typing, each the contract of a function that does nothing.
 ghost use Rattle.mls_term.specs.TypingLaws.{InstancesDerive, MoreGeneralDerives, BestAreEquivalent, BestStays};
+ghost use Rattle.mls_term.specs.TypingLaws.{OneTermTree};
 
 /// Every instance of a derivable scheme is derivable.
 pub fn instances_derive()
@@ -19,4 +20,9 @@ pub fn best_are_equivalent()
 /// A best scheme is best in every environment that is as general.
 pub fn best_stays()
     ensures { BestStays }
+{}
+
+/// A list of nodes is the postorder of one tree.
+pub fn one_term_tree()
+    ensures { OneTermTree }
 {}

@@ -1,10 +1,15 @@
+pub mod AnswersExist
+pub mod ChainBest
 pub mod ChainBooks
 pub mod ChainDerived
 pub mod ChainLeast
-pub mod ChainBest
 pub mod ChainTexts
 pub mod ChainTypes
 pub mod Entries
+pub mod HeldFiles
 pub mod Inferring
+pub mod OneAnswer
+pub mod OneLines
+pub mod Operators
 pub mod Running
 pub mod Written

@@ -1,5 +1,5 @@
 -- The answers of the commands.
-use Rattle.std.specs.Prelude.{◌≡◌, ℕ, List, ◌++◌, Some, None}
+use Rattle.std.specs.Prelude.{◌≡◌, ℕ, List, ◌++◌, Option, Some, None, IfSome}
 use Rattle.mls_base.specs.Files.{Files}
 use Rattle.mls_top.specs.declared.command.Command.{Command}
 use Rattle.mls_top.specs.declared.command.Command.TheVariants.{Infer}
@@ -8,6 +8,10 @@ use Rattle.mls_top.specs.declared.status.Status.TheVariants.{Usage}
 use Rattle.mls_top.specs.Commands.{command_of}
 use Rattle.mls_top.specs.Lines.{usage_line}
 use Rattle.mls_top.specs.Outcomes.{Outcome, Infers, outcome_status, outcome_text}
+
+-- these files may be those of a store: where it tells its files, they are those
+abbrev pub MayBeThose : Option Files → Files → Type 0
+MayBeThose told files = IfSome told (λ those. files ≡ those)
 
 -- the command answers with this status and this text over these files
 pub data IsAnswerOf (files : Files) : Command → Status → List ℕ → Type 0 where
@@ -30,3 +34,9 @@ pub record IsFrontOfAnswer (files : Files) (words : List (List ℕ)) (front : Li
   pub status : Status
   pub left : List ℕ
   pub answer : IsAnswer files words status (front ++ left)
+
+-- the command answers so over files that may be those of a store
+pub record IsAnswerFor (told : Option Files) (command : Command) (status : Status) (text : List ℕ) : Type 0 where
+  pub files : Files
+  pub of_store : MayBeThose told files
+  pub answer : IsAnswerOf files command status text

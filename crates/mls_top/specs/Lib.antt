@@ -1,7 +1,10 @@
 pub mod Answers
 pub mod Commands
+pub mod Entries
+pub mod Laws
 pub mod Lines
 pub mod Outcomes
+pub mod Refusals
 pub mod Runs
 pub mod Statuses
 pub mod Writing

@@ -1,7 +1,7 @@
 //! The middle phase of a run: the answer of a command. A new command adds a case here.
-ghost use Rattle.std.specs.Prelude.{◌≡◌, IfSome, IfOk, IfErr, IsTrue, Ok, Err};
+ghost use Rattle.std.specs.Prelude.{◌≡◌, IfOk, IfErr, IsTrue, Ok, Err};
 ghost use Rattle.mls_io.specs.Stores.{Follows};
-ghost use Rattle.mls_top.specs.Answers.{IsAnswerOf};
+ghost use Rattle.mls_top.specs.Answers.{IsAnswerFor};
 ghost use Rattle.mls_top.specs.steps.Answering.{IsCaused, IsRefused};
 ghost use Rattle.mls_top.specs.Statuses.{is_answer};
 
@@ -39,8 +39,8 @@ pub enum Halt {
 /// The answer of a command over a store.
 pub fn answer_to<S: Store>(alloc: Global, command: &Command, store: &mut S) -> Result<Answer, Halt>
     ensures follows { Follows (S.holdings store.old) (S.holdings store.new) }
-    ensures answer { IfSome (S.holdings store.old).files
-        (λ files. IfOk result (λ answer. IsAnswerOf files command.now answer.status answer.text.items)) }
+    ensures answer { IfOk result (λ answer. IsAnswerFor
+        (S.holdings store.old).files command.now answer.status answer.text.items) }
     ensures caused { IsCaused (S.holdings store.old) (S.holdings store.new) result }
     ensures status { IfOk result (λ answer. IsTrue (is_answer answer.status)) }
 {
@@ -63,8 +63,8 @@ fn or_halt<T>(step: Result<T, Memory>) -> Result<T, Halt>
 // The answer of `infer` over a store.
 fn infer_from<S: Store>(alloc: Global, name: &Name, store: &mut S) -> Result<Answer, Halt>
     ensures follows { Follows (S.holdings store.old) (S.holdings store.new) }
-    ensures answer { IfSome (S.holdings store.old).files
-        (λ files. IfOk result (λ answer. IsAnswerOf files (Command.Infer name.now) answer.status answer.text.items)) }
+    ensures answer { IfOk result (λ answer. IsAnswerFor (S.holdings store.old).files
+        (Command.Infer name.now) answer.status answer.text.items) }
     ensures caused { IsCaused (S.holdings store.old) (S.holdings store.new) result }
     ensures status { IfOk result (λ answer. IsTrue (is_answer answer.status)) }
 {

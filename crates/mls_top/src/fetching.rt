@@ -1,8 +1,7 @@
 //! The first phase of a run: the texts that a command needs are fetched. No sink is in scope here.
-ghost use Rattle.std.specs.Prelude.{◌≡◌, Ok, Err, IfSome, IfOk, IfErr};
+ghost use Rattle.std.specs.Prelude.{Ok, IfOk, IfErr};
 ghost use Rattle.mls_io.specs.Stores.{Follows};
-ghost use Rattle.mls_top.specs.Outcomes.{text_at};
-ghost use Rattle.mls_top.specs.steps.Fetching.{IsCounted, HoldsOf};
+ghost use Rattle.mls_top.specs.steps.Fetching.{IsCounted, IsTextIn, HoldsOf};
 
 use mls_io::store::{Fetch, Store};
 use std::alloc::Global;
@@ -28,10 +27,8 @@ pub fn text_of<S: Store>(
     limit: usize,
 ) -> Result<Vec<u8>, Stop>
     ensures follows { Follows (S.holdings store.old) (S.holdings store.new) }
-    ensures found { IfSome (S.holdings store.old).files
-        (λ files. IfOk result (λ text. text_at files file.now limit ≡ Ok text.items)) }
-    ensures stopped { IfSome (S.holdings store.old).files
-        (λ files. IfErr result (λ stop. HoldsOf stop files file.now limit)) }
+    ensures found { IfOk result (λ text. IsTextIn (S.holdings store.old).files file.now limit (Ok text.items)) }
+    ensures stopped { IfErr result (λ stop. HoldsOf stop (S.holdings store.old).files file.now limit) }
     ensures counted { IfErr result (λ stop. IsCounted stop (S.holdings store.old) (S.holdings store.new)) }
 {
     let mut text = Vec::new(alloc);

@@ -1,7 +1,9 @@
 //! The signature of a module, as a function of the module's text. No store and no sink is in scope here.
 ghost use Rattle.std.specs.Prelude.{◌≡◌, ◌≢◌, ◌≤◌, length, IfOk};
 ghost use Rattle.mls_top.specs.Lines.{module_file, fault_place};
-ghost use Rattle.mls_top.specs.Outcomes.{IsInferred, InfersFrom, refused, bad_text};
+ghost use Rattle.mls_base.specs.Files.{Files};
+ghost use Rattle.mls_top.specs.Outcomes.{IsInferred, InfersText, refused};
+ghost use Rattle.mls_top.specs.Refusals.{for_fault};
 
 use crate::answer::Answer;
 use crate::lines::{fault_line, fault_number, fault_place, fault_text, module_file};
@@ -45,8 +47,8 @@ pub fn infer(alloc: Global, name: &Name, text: &[u8]) -> Result<Answer, Memory>
 
 // The answer for a text that is refused for this fault.
 fn bad_text(alloc: Global, name: &Name, text: &[u8], fault: Fault) -> Result<Answer, Memory>
-    requires found { fault ≢ Fault.Memory → InfersFrom name.now text.now
-        (refused (bad_text (module_file name.now) text.now fault)) }
+    requires found { fault ≢ Fault.Memory → (files : Files)
+        → InfersText files name.now text.now (refused (for_fault (module_file name.now) text.now fault)) }
     requires within { fault ≢ Fault.Memory → fault_place (length text.now) fault ≤ length text.now }
     ensures { IfOk result (λ answer. IsInferred name.now text.now answer.status answer.text.items) }
 {

@@ -5,6 +5,7 @@ mod answer;
 mod command;
 mod fetching;
 mod infer;
+pub mod laws;
 mod lines;
 pub mod run;
 mod signature;

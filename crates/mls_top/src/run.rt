@@ -1,12 +1,12 @@
 //! The run of a command.
-ghost use Rattle.std.specs.Prelude.{◌≡◌, ◌⊎◌, map, string_bytes, IsFalse, IfSome, None};
+ghost use Rattle.std.specs.Prelude.{◌≡◌, map, string_bytes, IsFalse, None};
 ghost use Rattle.mls_io.specs.Counts.{Rose};
 ghost use Rattle.mls_io.specs.Stores as stores;
 ghost use Rattle.mls_io.specs.Sinks as sinks;
-ghost use Rattle.mls_io.specs.Sinks.{Adds, TakesNone};
+ghost use Rattle.mls_io.specs.Sinks.{Adds};
 ghost use Rattle.mls_top.specs.Commands.{command_of};
 ghost use Rattle.mls_top.specs.Lines.{usage_line};
-ghost use Rattle.mls_top.specs.Runs.{IsAnswered, IsCutOff, IsCutOffOrNothing, IsWithoutCommand, CanBeInferred};
+ghost use Rattle.mls_top.specs.Runs.{IsRun, IsWithoutCommand};
 ghost use Rattle.mls_top.specs.Writing.{IsTold};
 ghost use Rattle.mls_top.specs.Statuses.{is_cut};
 
@@ -36,15 +36,10 @@ pub fn run<S: Store, K: Sink>(
     ensures store { stores.Follows (S.holdings store.old) (S.holdings store.new) }
     ensures sink { sinks.Follows (K.written sink.old) (K.written sink.new) }
 
-    // Where the store tells, the status is that of an answer, and where the sink tells, its text was written.
-    ensures answer { IfSome (S.holdings store.old).files (λ files. IsFalse (is_cut result)
-        → IsAnswered files (map string_bytes words.now.items) (K.written sink.old) (K.written sink.new) result) }
-    // A write fault leaves a front of an answer's text, and want of memory that or nothing.
-    ensures cut { IfSome (S.holdings store.old).files (λ files. result ≡ Status.WriteFault
-        → IsCutOff files (map string_bytes words.now.items) (K.written sink.old) (K.written sink.new)) }
-    ensures memory { IfSome (S.holdings store.old).files (λ files. result ≡ Status.Memory
-        → IsCutOffOrNothing files (map string_bytes words.now.items) (K.written sink.old) (K.written sink.new)) }
-    ensures read_fault { result ≡ Status.ReadFault → TakesNone (K.written sink.old) (K.written sink.new) }
+    // There are files over which the run is right, and where the store tells its files, they are those: the status is
+    // that of an answer over them, whose text was written; or a counted fault or want of memory cut the writing off.
+    ensures run { IsRun (S.holdings store.old).files (map string_bytes words.now.items) (K.written sink.old)
+        (K.written sink.new) result }
 
     // Each fault of the store or the sink was counted in this call.
     ensures read_fault_counted { result ≡ Status.ReadFault
@@ -63,13 +58,6 @@ pub fn run<S: Store, K: Sink>(
     ensures no_command { command_of (map string_bytes words.now.items) ≡ None
         → IsWithoutCommand (K.written sink.old) (K.written sink.new) result
         × (S.holdings store.new ≡ S.holdings store.old) }
-
-    // A module that is there and has no fault has a signature, unless the store, the sink or memory fails.
-    ensures complete { IfSome (S.holdings store.old).files
-        (λ files. CanBeInferred files (map string_bytes words.now.items)
-        → ¬ Rose (S.holdings store.old).faults (S.holdings store.new).faults
-        → ¬ Rose (K.written sink.old).faults (K.written sink.new).faults → (result ≡ Status.Done)
-        ⊎ (result ≡ Status.Memory)) }
 {
     let command = match command_of(alloc, words) {
         Ok(Some(command)) => command,

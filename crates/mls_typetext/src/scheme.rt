@@ -1,6 +1,7 @@
 //! What the text of a type is read as.
 ghost use Rattle.std.specs.Prelude.{◌≡◌};
 
+use mls_base::list::List;
 use mls_base::memory::Memory;
 use mls_book::book::{Book, NodeId};
 use mls_lexer::token::{Kind, LexFault};
@@ -14,6 +15,12 @@ pub struct ReadScheme {
     pub book: Book,
     pub root: NodeId,
     pub vars: usize,
+}
+
+/// An environment by number: the schemes that names mean, each under its number from 0.
+#[derive(Drop)]
+pub struct Names {
+    pub schemes: List<ReadScheme>,
 }
 
 /// The first fault of a text of a type, with its place in the text in bytes.

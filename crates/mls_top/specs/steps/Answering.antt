@@ -1,5 +1,5 @@
 -- What the phases of a run say to one another.
-use Rattle.std.specs.Prelude.{◌≡◌, ℕ, List, [], ◌++◌, Result, Err, MatchResult}
+use Rattle.std.specs.Prelude.{◌≡◌, ℕ, List, ◌++◌, length, Result, Err, MatchResult}
 use Rattle.mls_io.specs.Counts.{Rose}
 use Rattle.mls_io.specs.Stores.{Holdings}
 use Rattle.mls_term.specs.declared.term.ResolvedBinding.{ResolvedBinding}
@@ -11,7 +11,7 @@ use Rattle.mls_top.specs.declared.fetching.Stop.TheVariants as stop
 use Rattle.mls_top.specs.declared.status.Status.{Status}
 use Rattle.mls_top.specs.declared.status.Status.TheVariants.{NoFile, TooLong, ReadFault, Memory}
 use Rattle.mls_top.specs.Lines.{not_found_line, too_long_line}
-use Rattle.mls_top.specs.Outcomes.{Entry, IsEntryOf, AreEntriesOf, entry_line, signature_text}
+use Rattle.mls_top.specs.Entries.{Declared, Entry, IsEntryOf, AreEntriesOf, entry_line, signature_text}
 
 -- the status of a run that has no answer
 abbrev pub halt_status : Halt → Status
@@ -44,11 +44,12 @@ IsRefused stop.Memory file limit result = result ≡ Err halt.Memory
 -- the line of an entry of the binding was added
 pub record AddsEntry (old new : List ℕ) (b : ResolvedBinding) : Type 0 where
   pub entry : Entry
-  pub is_entry : (earlier : List Entry) → IsEntryOf earlier b entry
+  pub is_entry : (declared : Declared) (earlier : List Entry) → IsEntryOf declared earlier b entry
   pub adds : new ≡ old ++ entry_line entry
 
 -- the text is that of a signature of these bindings
 pub record IsSignature (bindings : List ResolvedBinding) (text : List ℕ) : Type 0 where
   pub entries : List Entry
-  pub are_entries : AreEntriesOf [] bindings entries
+  pub count : length entries ≡ length bindings
+  pub are_entries : (declared : Declared) → AreEntriesOf declared bindings entries
   pub text_is : text ≡ signature_text entries

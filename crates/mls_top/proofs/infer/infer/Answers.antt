@@ -2,12 +2,12 @@ use Rattle.std.proofs.Common.{[], sym, ◌∙◌}
 use Rattle.mls_names.proofs.BuiltChains.{built_chains}
 use Rattle.mls_grammar.proofs.FaultsWithin.{fault-within}
 use Rattle.mls_names.proofs.NamesWithin.{import-within, unknown-within, unbuilt-within}
-use Rattle.mls_top.specs.Outcomes.{faulty, imports_first, unknown, unbuilt}
-use Rattle.mls_top.proofs.Inferring.{first_is, none_is, signed_is_inferred}
+use Rattle.mls_top.specs.Outcomes.{bad_module, is_faulty}
+use Rattle.mls_top.proofs.Inferring.{first_is, none_is, import_refused, unknown_refused, unbuilt_refused, signed_is_inferred}
 use Rattle.mls_top.proofs.infer.infer.Goals as goal
 
 pub bad_text-requires-clause-found : goal.bad_text-requires-clause-found
-bad_text-requires-clause-found c = λ other. faulty (c.in-Err.ensures.fault other)
+bad_text-requires-clause-found c = λ other files. bad_module (is_faulty (c.in-Err.ensures.fault other))
 
 pub bad_text-requires-clause-within : goal.bad_text-requires-clause-within
 bad_text-requires-clause-within c = λ other. fault-within c.args.text.now c.in-Err.fault (c.in-Err.ensures.fault other)
@@ -15,7 +15,7 @@ bad_text-requires-clause-within c = λ other. fault-within c.args.text.now c.in-
 pub bad_text-requires-in-Some-clause-found : goal.bad_text-requires-in-Some-clause-found
 bad_text-requires-in-Some-clause-found c = λ other.
     let it = first_is c.as_slice.result.now c.in-Some.import.now c.in-Some.ensures.value in
-    imports_first c.in-Ok.ensures.found (sym c.as_slice.ensures ∙ it.1)
+    import_refused c.args.name.now c.args.text.now c.in-Ok.source c.in-Ok.ensures.found c.in-Some.import.now it.0 (sym c.as_slice.ensures ∙ it.1)
 
 pub bad_text-requires-in-Some-clause-within : goal.bad_text-requires-in-Some-clause-within
 bad_text-requires-in-Some-clause-within c = λ other.
@@ -24,7 +24,8 @@ bad_text-requires-in-Some-clause-within c = λ other.
 
 pub bad_text-requires-in-Err-resolve-clause-found : goal.bad_text-requires-in-Err-resolve-clause-found
 bad_text-requires-in-Err-resolve-clause-found c = λ other.
-    unknown c.in-Ok.ensures.found (sym c.as_slice.ensures ∙ none_is c.as_slice.result.now c.in_default.ensures.value) (c.in-Err-resolve.ensures.fault other)
+    unknown_refused c.args.name.now c.args.text.now c.in-Ok.source c.in-Ok.ensures.found c.in-Err-resolve.fault
+    (sym c.as_slice.ensures ∙ none_is c.as_slice.result.now c.in_default.ensures.value) (c.in-Err-resolve.ensures.fault other)
 
 pub bad_text-requires-in-Err-resolve-clause-within : goal.bad_text-requires-in-Err-resolve-clause-within
 bad_text-requires-in-Err-resolve-clause-within c = λ other.
@@ -32,7 +33,8 @@ bad_text-requires-in-Err-resolve-clause-within c = λ other.
 
 pub bad_text-requires-in-Some-first_unbuilt-clause-found : goal.bad_text-requires-in-Some-first_unbuilt-clause-found
 bad_text-requires-in-Some-first_unbuilt-clause-found c = λ other.
-    unbuilt c.in-Ok.ensures.found (sym c.as_slice.ensures ∙ none_is c.as_slice.result.now c.in_default.ensures.value) c.in-Ok-resolve.ensures.found c.in-Some-first_unbuilt.ensures.least
+    unbuilt_refused c.args.name.now c.args.text.now c.in-Ok.source c.in-Ok.ensures.found c.in-Ok-resolve.resolved c.in-Some-first_unbuilt.at
+    (sym c.as_slice.ensures ∙ none_is c.as_slice.result.now c.in_default.ensures.value) c.in-Ok-resolve.ensures.found c.in-Some-first_unbuilt.ensures.least
 
 pub bad_text-requires-in-Some-first_unbuilt-clause-within : goal.bad_text-requires-in-Some-first_unbuilt-clause-within
 bad_text-requires-in-Some-first_unbuilt-clause-within c = λ other.
@@ -43,7 +45,7 @@ signature-requires c = built_chains c.in-Ok.source [] c.in-Ok-resolve.resolved c
 
 pub returns : goal.returns
 returns c =
-    signed_is_inferred _ _ _ c.in-Ok.source c.in-Ok-resolve.resolved c.in-Ok.ensures.found
+    signed_is_inferred c.args.name.now c.args.text.now c.in-Ok.source c.in-Ok.ensures.found _ c.in-Ok-resolve.resolved
     (sym c.as_slice.ensures ∙ none_is c.as_slice.result.now c.in_default.ensures.value)
     c.in-Ok-resolve.ensures.found
     (c.first_unbuilt.ensures.none.0 c.in_default-first_unbuilt.is)

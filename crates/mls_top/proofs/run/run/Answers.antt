@@ -1,28 +1,19 @@
-use Rattle.std.proofs.Common.{rules, refl}
-use Rattle.mls_top.proofs.Running.{answered, cut, memory, usage_answer, command_answer, complete}
+use Rattle.std.proofs.Common.{rules, refl, inl, inr}
+use Rattle.mls_top.proofs.Running.{usage_run, command_run, stopped_run}
 use Rattle.mls_top.proofs.run.run.Goals as goal
 
-pub returns-in-Ok-None-clause-answer : goal.returns-in-Ok-None-clause-answer
-returns-in-Ok-None-clause-answer g c = answered _ _ _ _ _ _ _ (usage_answer _ _ (search rules)) refl c.told.ensures.cases
+pub returns-in-Ok-None-clause-run : goal.returns-in-Ok-None-clause-run
+returns-in-Ok-None-clause-run g c = usage_run _ _ _ _ (search rules) _ c.told.ensures.cases
 
-pub returns-in-Ok-None-clause-cut : goal.returns-in-Ok-None-clause-cut
-returns-in-Ok-None-clause-cut g c = cut _ _ _ _ _ _ _ (usage_answer _ _ (search rules)) refl c.told.ensures.cases
+pub returns-in-Err-clause-run : goal.returns-in-Err-clause-run
+returns-in-Err-clause-run g c = stopped_run _ _ _ _ _ refl (inr refl)
 
-pub returns-in-Ok-None-clause-memory : goal.returns-in-Ok-None-clause-memory
-returns-in-Ok-None-clause-memory g c = memory _ _ _ _ _ _ _ (usage_answer _ _ (search rules)) refl c.told.ensures.cases
+pub returns-in-Ok-clause-run : goal.returns-in-Ok-clause-run
+returns-in-Ok-clause-run g c =
+    command_run _ _ _ _ c.in-Ok-Some.command _ _ _ (search rules) c.as_slice.ensures.value c.in-Ok.ensures.answer c.in-Ok.ensures.status _ c.told-in-Ok.ensures.cases
 
-pub returns-in-Ok-clause-answer : goal.returns-in-Ok-clause-answer
-returns-in-Ok-clause-answer g c =
-    answered _ _ _ _ _ _ _ (command_answer _ _ c.in-Ok-Some.command _ _ _ (search rules) c.as_slice.ensures.value c.in-Ok.ensures.answer) (search rules) c.told-in-Ok.ensures.cases
+pub returns-in-Err-ReadFault-clause-run : goal.returns-in-Err-ReadFault-clause-run
+returns-in-Err-ReadFault-clause-run g c = stopped_run _ _ _ _ _ refl (inl refl)
 
-pub returns-in-Ok-clause-cut : goal.returns-in-Ok-clause-cut
-returns-in-Ok-clause-cut g c =
-    cut _ _ _ _ _ _ _ (command_answer _ _ c.in-Ok-Some.command _ _ _ (search rules) c.as_slice.ensures.value c.in-Ok.ensures.answer) (search rules) c.told-in-Ok.ensures.cases
-
-pub returns-in-Ok-clause-memory : goal.returns-in-Ok-clause-memory
-returns-in-Ok-clause-memory g c =
-    memory _ _ _ _ _ _ _ (command_answer _ _ c.in-Ok-Some.command _ _ _ (search rules) c.as_slice.ensures.value c.in-Ok.ensures.answer) (search rules) c.told-in-Ok.ensures.cases
-
-pub returns-in-Ok-clause-complete : goal.returns-in-Ok-clause-complete
-returns-in-Ok-clause-complete g c =
-    complete _ _ _ _ _ _ _ _ (command_answer _ _ c.in-Ok-Some.command _ _ _ (search rules) c.as_slice.ensures.value c.in-Ok.ensures.answer) c.told-in-Ok.ensures.cases
+pub returns-clause-run : goal.returns-clause-run
+returns-clause-run g c = stopped_run _ _ _ _ _ refl (inr refl)

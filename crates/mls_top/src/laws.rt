@@ -1,0 +1,22 @@
+//! Laws of answers, each the contract of a function that does nothing.
+ghost use Rattle.mls_top.specs.Laws.{OneAnswer, AnswerExists, EachIsOneLine, OperatorsStandFirst};
+
+/// Two answers of the same words over the same files have one status, and where it is not Done one text.
+pub fn one_answer()
+    ensures { OneAnswer }
+{}
+
+/// All words have an answer over all files.
+pub fn answer_exists()
+    ensures { AnswerExists }
+{}
+
+/// A signature has one line for each entry.
+pub fn each_is_one_line()
+    ensures { EachIsOneLine }
+{}
+
+/// The environment of a binding begins with the five operators, each at its number with its type.
+pub fn operators_stand_first()
+    ensures { OperatorsStandFirst }
+{}
