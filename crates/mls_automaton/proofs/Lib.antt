@@ -1,3 +1,7 @@
+pub mod Reaching
+pub mod Searches
+pub mod IndexedAppends
+pub mod Renumbered
 pub mod Refusals
 pub mod RisingLabels
 pub mod IndexedFlows

@@ -1,3 +1,4 @@
+pub mod Environments
 pub mod Indexed
 pub mod Sets
 pub mod Automata
@@ -8,3 +9,4 @@ pub mod Models
 pub mod Schemes
 pub mod Embeddings
 pub mod Reached
+pub mod steps

@@ -13,6 +13,7 @@ ghost use Rattle.mls_automaton.specs.Embeddings.{appended};
 ghost use Rattle.mls_automaton.specs.Models.{HasArmsIn, HasFieldsIn, HasRisingLabels, HasSingleArms, HasSingleFields, IsClosed, IsClosedState, IsDeterministic, IsSingle, IsSingleState};
 ghost use Rattle.mls_automaton.specs.Sets.{Rises};
 
+use crate::renumber::push_all;
 use crate::state_set::{StateId, StateSet};
 use mls_base::memory::Memory;
 use mls_book::name::Name;
@@ -267,7 +268,24 @@ impl Automaton {
         ensures number { IfOk result (λ number. number ≡ length self.old.states) }
         ensures err { OnErr result (self.new ≡ self.old) }
     {
-        Err(Memory)
+        let states = self.states.len();
+        let flows = self.flows.len();
+        match push_all(
+            &mut self.states,
+            &mut self.flows,
+            &mut self.partners,
+            other.states.as_slice(),
+            other.flows.as_slice(),
+            other.partners.as_slice(),
+        ) {
+            Ok(()) => Ok(states),
+            Err(e) => {
+                self.states.truncate(states);
+                self.flows.truncate(flows);
+                self.partners.truncate(states);
+                Err(e)
+            }
+        }
     }
 
     /// The same automaton once more.
@@ -278,7 +296,9 @@ impl Automaton {
     pub fn copy(&self) -> Result<Automaton, Memory>
         ensures { IfOk result (λ copy. copy ≡ self.now) }
     {
-        Err(Memory)
+        let mut copy = Automaton::new(*self.states.allocator());
+        copy.append(self)?;
+        Ok(copy)
     }
 
     /// How many states there are.

@@ -2,5 +2,7 @@
 #![tactic(auto)]
 
 pub mod automaton;
+mod reach;
+mod renumber;
 pub mod scheme;
 pub mod state_set;
