@@ -1,3 +1,5 @@
+pub mod KeptSchemes
+pub mod KeptNumbers
 pub mod Reaching
 pub mod Searches
 pub mod IndexedAppends

@@ -1,7 +1,7 @@
 //! Automata: states that name one another, each positive or negative, and flow edges from negative to positive states.
 //!
 //! They are the type automata of Dolan, Algebraic Subtyping, PhD thesis, University of Cambridge.
-ghost use Rattle.std.specs.Prelude.{◌≡◌, ◌↔◌, ◌<◌, ◌++◌, ◌∷◌, [], length, option_map, All, Contains, IfOk, OnOk, OnErr, IsTrue};
+ghost use Rattle.std.specs.Prelude.{◌≡◌, ◌↔◌, ◌⊎◌, ◌<◌, ◌++◌, ◌∷◌, [], length, option_map, All, Contains, IfOk, OnOk, OnErr, IsTrue};
 ghost use Rattle.std.specs.Ordering.{nat_cmp};
 ghost use Rattle.std.specs.declared.cmp.Ordering.TheVariants.{Less};
 ghost use Rattle.std.specs.Cmp.Lexicographic.{slice_cmp};
@@ -242,6 +242,8 @@ impl Automaton {
         requires positive { IsState self.old Positive positive.0 }
         ensures there { OnOk result (HasFlow self.old negative.0 positive.0 → self.new ≡ self.old) }
         ensures added { OnOk result (¬ HasFlow self.old negative.0 positive.0 → self.new ≡ with_flow self.old (flow negative.0 positive.0)) }
+        ensures flows { OnOk result ((n p : _) → HasFlow self.new n p ↔ HasFlow self.old n p ⊎ ((n ≡ negative.0) × (p ≡ positive.0))) }
+        ensures states { self.new.states ≡ self.old.states }
         ensures err { OnErr result (self.new ≡ self.old) }
     {
         if self.has_flow(negative, positive) {
@@ -334,7 +336,8 @@ impl Automaton {
 
     /// The edges, in the order in which they were added.
     pub fn flows(&self) -> &[Flow]
-        ensures { result.now ≡ self.now.flows }
+        ensures flows { result.now ≡ self.now.flows }
+        ensures ends { HasTrueFlows self.now }
     {
         self.flows.as_slice()
     }

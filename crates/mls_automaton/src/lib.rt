@@ -2,6 +2,7 @@
 #![tactic(auto)]
 
 pub mod automaton;
+mod keep;
 mod reach;
 mod renumber;
 pub mod scheme;

@@ -3,9 +3,12 @@ ghost use Rattle.std.specs.Prelude.{◌≡◌, ◌↔◌, ◌<◌, ◌++◌, ◌
 ghost use Rattle.mls_automaton.specs.declared.scheme.EnvEntry.{EnvEntry};
 ghost use Rattle.mls_automaton.specs.declared.state_set.StateId.{StateId};
 ghost use Rattle.mls_automaton.specs.Environments.{BindersRise};
-ghost use Rattle.mls_automaton.specs.Schemes.{state_of};
+ghost use Rattle.mls_automaton.specs.Reached.{KeepsReached};
+ghost use Rattle.mls_automaton.specs.Schemes.{AreEquivalentSchemes, IsScheme, state_of};
 
 use crate::automaton::Automaton;
+use crate::keep::{keep, keep_env, keep_flows, keep_states};
+use crate::reach::reached;
 use crate::state_set::StateId;
 use mls_base::memory::Memory;
 use std::alloc::Global;
@@ -68,6 +71,11 @@ impl Env {
         self.entries.as_slice()
     }
 
+    // The allocator of the environment.
+    fn allocator(&self) -> Global {
+        *self.entries.allocator()
+    }
+
     /// Whether there is no binder.
     pub fn is_empty(&self) -> bool
         ensures { IsTrue result ↔ (self.now ≡ []) }
@@ -92,4 +100,33 @@ pub struct Scheme {
     pub automaton: Automaton,
     pub env: Env,
     pub root: StateId,
+}
+
+impl Scheme {
+    /// The scheme over the states alone that heads reach from the root and the binders, in their order, with the
+    /// edges between them.
+    ///
+    /// # Errors
+    ///
+    /// `Memory` where memory is wanting.
+    pub fn keep_reachable(&self) -> Result<Scheme, Memory>
+        requires { IsScheme self.now }
+        ensures kept { IfOk result (λ kept. KeepsReached kept self.now) }
+        ensures scheme { IfOk result IsScheme }
+        ensures equivalent { IfOk result (AreEquivalentSchemes self.now) }
+    {
+        let alloc = self.env.allocator();
+        let marks = reached(alloc, self)?;
+        let kept = keep(alloc, marks.as_slice())?;
+        let mut automaton = keep_states(alloc, &self.automaton, &kept)?;
+        let flows = self.automaton.flows();
+        keep_flows(&mut automaton, flows, marks.as_slice(), &kept.numbers)?;
+        let env = keep_env(alloc, &self.env, &kept.numbers)?;
+        let root = kept.numbers.of(self.root.0)?;
+        Ok(Scheme {
+            automaton,
+            env,
+            root: StateId(root),
+        })
+    }
 }
