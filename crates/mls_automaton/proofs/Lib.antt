@@ -1,3 +1,4 @@
+pub mod Entries
 pub mod KeptSchemes
 pub mod KeptNumbers
 pub mod Reaching

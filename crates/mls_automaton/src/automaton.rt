@@ -483,3 +483,32 @@ fn are_rising(fields: &[FieldSet]) -> bool
     }
     true
 }
+
+#[cfg(test)]
+mod tests {
+    use super::*;
+    use std::test::Fail;
+
+    // The states and the edge of `[x : a] a`.
+    fn variable(alloc: Global) -> Result<Automaton, Memory> {
+        let mut a = Automaton::new(alloc);
+        let negative = a.state(Polarity::Negative, Head::empty())?;
+        let positive = a.state(Polarity::Positive, Head::empty())?;
+        a.add_flow(negative, positive)?;
+        a.add_flow(negative, positive)?;
+        Ok(a)
+    }
+
+    #[test]
+    fn stands_behind_its_copy(rt: HostRuntime) -> Result<(), Fail> {
+        let first = variable(rt.alloc())?;
+        let mut both = first.copy()?;
+        let up = both.append(&first)?;
+        assert_eq!(rt; up, 2, "number added");
+        assert_eq!(rt; both.len(), 4, "states");
+        assert_eq!(rt; both.flows().len(), 2, "edges");
+        assert_eq!(rt; both.is_closed(), true, "closed");
+        assert_eq!(rt; both.is_deterministic(), true, "deterministic");
+        Ok(())
+    }
+}

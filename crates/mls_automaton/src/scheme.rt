@@ -1,8 +1,8 @@
 //! Schemes over automata.
-ghost use Rattle.std.specs.Prelude.{◌≡◌, ◌↔◌, ◌<◌, ◌++◌, ◌∷◌, [], length, option_map, All, IfOk, OnOk, OnErr, IsTrue};
+ghost use Rattle.std.specs.Prelude.{◌≡◌, ◌≢◌, ◌↔◌, ◌<◌, ◌++◌, ◌∷◌, [], length, option_map, All, IfOk, IfSome, OnOk, OnErr, IsTrue, None};
 ghost use Rattle.mls_automaton.specs.declared.scheme.EnvEntry.{EnvEntry};
 ghost use Rattle.mls_automaton.specs.declared.state_set.StateId.{StateId};
-ghost use Rattle.mls_automaton.specs.Environments.{BindersRise};
+ghost use Rattle.mls_automaton.specs.Environments.{BindersRise, HasNoEntry, IsPlaceOf};
 ghost use Rattle.mls_automaton.specs.Reached.{KeepsReached};
 ghost use Rattle.mls_automaton.specs.Schemes.{AreEquivalentSchemes, IsScheme, state_of};
 
@@ -71,6 +71,19 @@ impl Env {
         self.entries.as_slice()
     }
 
+    /// Takes a binder out, and answers its state. None comes where it is not there, and nothing then changes.
+    pub fn remove(&mut self, binder: usize) -> Option<StateId>
+        ensures result { option_map (λ (s : StateId). s.0) result ≡ state_of self.old binder }
+        ensures gone { state_of self.new binder ≡ None }
+        ensures others { (x : _) → x ≢ binder → state_of self.new x ≡ state_of self.old x }
+        ensures none { result ≡ None → self.new ≡ self.old }
+    {
+        match place_of(self.entries.as_slice(), binder) {
+            Some(at) => Some(self.entries.remove(at).state),
+            None => None,
+        }
+    }
+
     // The allocator of the environment.
     fn allocator(&self) -> Global {
         *self.entries.allocator()
@@ -92,6 +105,19 @@ impl Env {
             .find(|entry| entry.binder == binder)
             .map(|entry| entry.state)
     }
+}
+
+// The place of the entry of a binder.
+fn place_of(entries: &[EnvEntry], binder: usize) -> Option<usize>
+    ensures some { IfSome result (IsPlaceOf entries.now binder) }
+    ensures none { result ≡ None → HasNoEntry entries.now binder (length entries.now) }
+{
+    for i in 0..entries.len() {
+        if entries[i].binder == binder {
+            return Some(i);
+        }
+    }
+    None
 }
 
 /// A type, and the types of the binders that it needs, as states of an automaton.
@@ -128,5 +154,49 @@ impl Scheme {
             env,
             root: StateId(root),
         })
+    }
+}
+
+#[cfg(test)]
+mod tests {
+    use super::*;
+    use crate::automaton::{Arms, Head, Polarity};
+    use crate::state_set::StateSet;
+    use std::test::Fail;
+
+    // The set of one state.
+    fn one(alloc: Global, s: usize) -> Result<StateSet, Memory> {
+        StateSet::one(alloc, StateId(s))
+    }
+
+    // `fun x -> x`, and behind it a state that nothing reaches.
+    fn identity(alloc: Global) -> Result<Scheme, Memory> {
+        let mut automaton = Automaton::new(alloc);
+        let lost = automaton.state(Polarity::Positive, Head::empty())?;
+        let negative = automaton.state(Polarity::Negative, Head::empty())?;
+        let positive = automaton.state(Polarity::Positive, Head::empty())?;
+        let mut head = Head::empty();
+        head.function = Some(Arms {
+            domain: one(alloc, negative.0)?,
+            codomain: one(alloc, positive.0)?,
+        });
+        let root = automaton.state(Polarity::Positive, head)?;
+        automaton.add_flow(negative, positive)?;
+        automaton.add_flow(negative, lost)?;
+        Ok(Scheme {
+            automaton,
+            env: Env::new(alloc),
+            root,
+        })
+    }
+
+    #[test]
+    fn keeps_what_is_reached(rt: HostRuntime) -> Result<(), Fail> {
+        let kept = identity(rt.alloc())?.keep_reachable()?;
+        let a = &kept.automaton;
+        assert_eq!(rt; a.len(), 3, "states");
+        assert_eq!(rt; a.flows().len(), 1, "edges");
+        assert_eq!(rt; kept.root.0, 2, "root");
+        Ok(())
     }
 }
