@@ -1,0 +1,12 @@
+pub mod Environments
+pub mod Indexed
+pub mod Sets
+pub mod Automata
+pub mod Heads
+pub mod Families
+pub mod States
+pub mod Models
+pub mod Schemes
+pub mod Embeddings
+pub mod Reached
+pub mod steps

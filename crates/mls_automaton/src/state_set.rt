@@ -1,0 +1,150 @@
+//! Sets of states.
+ghost use Rattle.std.specs.Prelude.{◌≡◌, ◌≢◌, ◌↔◌, ◌⊎◌, ◌<◌, ◌++◌, ◌∷◌, [], length, get_or, All, Contains, IfOk, OnOk, OnErr, IsTrue};
+ghost use Rattle.mls_automaton.specs.Sets.{Rises};
+
+use mls_base::memory::Memory;
+use std::alloc::Global;
+use std::marker::Model;
+
+/// The number of a state in its automaton, from 0.
+#[derive(Clone, Copy, Debug, PartialEq, Eq, PartialOrd, Ord, Hash)]
+pub struct StateId(pub usize);
+
+/// A set of states. Contracts see the list of their numbers, which rise.
+#[derive(Clone, Debug, Drop)]
+pub struct StateSet {
+    numbers: Vec<usize>,
+}
+
+impl Model for StateSet {
+    ghost use Rattle.std.specs.Prelude.{List, ℕ};
+    ghost use Rattle.mls_automaton.specs.Sets.{Rises};
+
+    ghost Value = { List ℕ };
+
+    ghost view = { λ a. a.numbers.items };
+
+    ghost invariant = { λ a. Rises a.numbers.items };
+}
+
+impl StateSet {
+    /// The set of no state. It allocates nothing.
+    pub fn new(alloc: Global) -> StateSet
+        ensures { result ≡ [] }
+    {
+        StateSet {
+            numbers: Vec::new(alloc),
+        }
+    }
+
+    /// The set of one state.
+    ///
+    /// # Errors
+    ///
+    /// `Memory` where memory is wanting.
+    pub fn one(alloc: Global, s: StateId) -> Result<StateSet, Memory>
+        ensures { IfOk result (λ set. set ≡ s.0 ∷ []) }
+    {
+        let numbers = vec![in alloc; s.0]?;
+        Ok(StateSet { numbers })
+    }
+
+    /// Adds a state that has a higher number than all members.
+    ///
+    /// # Errors
+    ///
+    /// `Memory` where memory is wanting; the set is then as before.
+    pub fn push(&mut self, s: StateId) -> Result<(), Memory>
+        requires { All (λ j. j < s.0) self.old }
+        ensures ok { OnOk result (self.new ≡ self.old ++ s.0 ∷ []) }
+        ensures err { OnErr result (self.new ≡ self.old) }
+    {
+        self.numbers.push(s.0)?;
+        Ok(())
+    }
+
+    /// Adds a state. One that is a member stays one.
+    ///
+    /// # Errors
+    ///
+    /// `Memory` where memory is wanting; the set is then as before.
+    pub fn insert(&mut self, s: StateId) -> Result<(), Memory>
+        ensures ok { OnOk result ((j : _) → Contains self.new j ↔ (j ≡ s.0) ⊎ Contains self.old j) }
+        ensures rises { Rises self.new }
+        ensures err { OnErr result (self.new ≡ self.old) }
+    {
+        match self.numbers.binary_search(&s.0) {
+            Ok(_) => Ok(()),
+            Err(at) => {
+                self.numbers.insert(at, s.0)?;
+                Ok(())
+            }
+        }
+    }
+
+    /// The set of the states that are in one of the two.
+    ///
+    /// # Errors
+    ///
+    /// `Memory` where memory is wanting.
+    pub fn union(&self, other: &StateSet) -> Result<StateSet, Memory>
+        ensures { IfOk result (λ both. (j : _) → Contains both j ↔ Contains self.now j ⊎ Contains other.now j) }
+    {
+        let mut both = self.clone()?;
+        for s in other.as_slice() {
+            both.insert(StateId(*s))?;
+        }
+        Ok(both)
+    }
+
+    /// Takes a state out.
+    pub fn remove(&mut self, s: StateId)
+        ensures members { (j : _) → Contains self.new j ↔ Contains self.old j × (j ≢ s.0) }
+        ensures rises { Rises self.new }
+    {
+        match self.numbers.binary_search(&s.0) {
+            Ok(at) => {
+                self.numbers.remove(at);
+            }
+            Err(_) => {}
+        }
+    }
+
+    /// How many members the set has.
+    pub fn len(&self) -> usize
+        ensures len { result ≡ length self.now }
+        ensures rises { Rises self.now }
+    {
+        self.numbers.len()
+    }
+
+    /// Whether there is no member.
+    pub fn is_empty(&self) -> bool
+        ensures { IsTrue result ↔ (self.now ≡ []) }
+    {
+        self.numbers.is_empty()
+    }
+
+    /// The member of this place in rising order.
+    pub fn get(&self, i: usize) -> StateId
+        requires { i < length self.now }
+        ensures { result.0 ≡ get_or self.now i 0 }
+    {
+        StateId(self.numbers[i])
+    }
+
+    /// The numbers of the members, which rise.
+    pub fn as_slice(&self) -> &[usize]
+        ensures members { result.now ≡ self.now }
+        ensures rises { Rises self.now }
+    {
+        self.numbers.as_slice()
+    }
+
+    /// Whether the state is a member, in time logarithmic in the number of members.
+    pub fn contains(&self, s: StateId) -> bool
+        ensures { IsTrue result ↔ Contains self.now s.0 }
+    {
+        self.numbers.binary_search(&s.0).is_ok()
+    }
+}
