@@ -1,9 +1,10 @@
 //! Rooms: the space in which the closed relation is found.
-ghost use Rattle.std.specs.Prelude.{◌≡◌, ◌↔◌, ℕ, ◌+◌, ◌*◌, ◌<◌, ◌≤◌, ◌++◌, ◌∷◌, [], length, get_or, All, Contains, IfOk, IsTrue, MatchOption};
-ghost use Rattle.mls_biunify.specs.Rooms.{Holds};
+ghost use Rattle.std.specs.Prelude.{◌≡◌, ◌↔◌, ℕ, ◌+◌, ◌*◌, ◌<◌, ◌≤◌, ◌++◌, ◌∷◌, [], length, count_by, get_or, All, Contains, IfOk, IsTrue, MatchOption};
+ghost use Rattle.mls_biunify.specs.Rooms.{Fits, Holds, is_positive, is_negative};
 ghost use Rattle.mls_biunify.specs.steps.Growth.{Relates};
 
 use crate::cells::Cells;
+use mls_automaton::automaton::{Automaton, Polarity};
 use mls_automaton::state_set::StateId;
 use mls_base::memory::Memory;
 use std::alloc::Global;
@@ -32,6 +33,34 @@ impl Model for Room {
     ghost view = { room_view };
 
     ghost invariant = { IsRoom };
+}
+
+// How many positive states there are.
+fn count_positives(a: &Automaton) -> usize
+    ensures { result ≡ count_by is_positive a.now.states }
+{
+    let mut count = 0usize;
+    for s in 0..a.len() {
+        match a.polarity(StateId(s)) {
+            Polarity::Positive => count += 1,
+            Polarity::Negative => {}
+        }
+    }
+    count
+}
+
+// How many negative states there are.
+fn count_negatives(a: &Automaton) -> usize
+    ensures { result ≡ count_by is_negative a.now.states }
+{
+    let mut count = 0usize;
+    for s in 0..a.len() {
+        match a.polarity(StateId(s)) {
+            Polarity::Positive => {}
+            Polarity::Negative => count += 1,
+        }
+    }
+    count
 }
 
 // So many times 0.
@@ -67,6 +96,13 @@ impl Room {
             column_count: 0,
             cells,
         })
+    }
+
+    /// Whether there is space for the states of the automaton.
+    pub fn fits(&self, a: &Automaton) -> bool
+        ensures { IsTrue result ↔ Fits a.now self.now }
+    {
+        count_positives(a) <= self.positives && count_negatives(a) <= self.negatives
     }
 
     // The row of a state, if it has one.

@@ -209,3 +209,6 @@ fn add_set(room: &mut Room, positive: usize, negatives: &[usize])
         room.add(positive, *n);
     }
 }
+
+#[cfg(test)]
+mod tests;
