@@ -128,7 +128,7 @@ module _ (t : Tables) (are : AreTables t) (room : Room) (is : room_of t ≡ room
         let read : pair_of t (source * W + it.0 * 1) ≡ (from, (pair_of t x).1) = row_pair source it.0 it.1 ∙ (λ i. (from_is i, second i)) in (
           (λ i. (written i).0) ∙ to_is,
           subst (λ (r : Room). Holds r from (pair_of t x).1) is
-          (subst (Contains (map (pair_of t) t.cells.members)) read (Contains-map (pair_of t) t.cells.members (source * W + it.0 * 1) it.3)),
+              (subst (Contains (map (pair_of t) t.cells.members)) read (Contains-map (pair_of t) t.cells.members (source * W + it.0 * 1) it.3)),
         )
 
     row_complete : (q m : ℕ) → (q ≡ to) × Holds room from m → (x : ℕ) × IsRowCell x × (pair_of t x ≡ (q, m))
@@ -214,7 +214,7 @@ module _ (t : Tables) (are : AreTables t) (room : Room) (is : room_of t ≡ room
         let read : pair_of t (source + it.0 * W) ≡ ((pair_of t x).0, from) = column_pair source it.0 upper_used ∙ (λ i. (first i, below_is i)) in (
           (λ i. (written i).1) ∙ above_is,
           subst (λ (r : Room). Holds r (pair_of t x).0 from) is
-          (subst (Contains (map (pair_of t) t.cells.members)) read (Contains-map (pair_of t) t.cells.members (source + it.0 * W) it.3)),
+              (subst (Contains (map (pair_of t) t.cells.members)) read (Contains-map (pair_of t) t.cells.members (source + it.0 * W) it.3)),
         )
 
     column_complete : (q m : ℕ) → (m ≡ to) × Holds room q from → (x : ℕ) × IsColumnCell x × (pair_of t x ≡ (q, m))

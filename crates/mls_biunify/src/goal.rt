@@ -1,10 +1,10 @@
 //! Goals, and the clashes that leave them without a solution.
 ghost use Rattle.std.specs.Prelude.{◌↔◌, All, IsTrue};
 ghost use Rattle.mls_automaton.specs.Automata.{IsState};
-use mls_automaton::automaton::{Automaton, Polarity};
-use mls_automaton::state_set::StateId;
 
 pub use mls_automaton::automaton::HeadKind;
+use mls_automaton::automaton::{Automaton, Polarity};
+use mls_automaton::state_set::StateId;
 
 /// A demand: the positive state is below the negative one.
 #[derive(Clone, Copy, Debug, PartialEq, Eq)]

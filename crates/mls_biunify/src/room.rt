@@ -158,7 +158,10 @@ impl Room {
         ensures column { Contains self.now.columns result.1.0 }
     {
         let cell = self.cells.get(i);
-        (StateId(self.rows[cell / self.negatives]), StateId(self.columns[cell % self.negatives]))
+        (
+            StateId(self.rows[cell / self.negatives]),
+            StateId(self.columns[cell % self.negatives]),
+        )
     }
 
     // Holds the pair of these two states from now on.
@@ -181,7 +184,8 @@ impl Room {
         let source = self.places[from];
         let target = self.places[to];
         let width = self.negatives;
-        self.cells.copy(source * width, target * width, 1, self.column_count);
+        self.cells
+            .copy(source * width, target * width, 1, self.column_count);
     }
 
     // Relates all positive states that are related to one negative state to another.
@@ -192,7 +196,8 @@ impl Room {
     {
         let source = self.places[from];
         let target = self.places[to];
-        self.cells.copy(source, target, self.negatives, self.row_count);
+        self.cells
+            .copy(source, target, self.negatives, self.row_count);
     }
 
     // Holds no pair, and has no rows and no columns, from now on.
