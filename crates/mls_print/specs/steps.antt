@@ -1,3 +1,4 @@
 pub mod Rising
 pub mod Numbering
 pub mod Writing
+pub mod Flat
