@@ -59,7 +59,7 @@ number-apart seen key other apart = go (is_known seen other) refl
     go true e = λ i. cond ((longer true e ∙ sym e) i) (Some (place-front seen (key ∷ []) other e i)) None
     go false e = (λ i. cond (longer false e i) (Some (place_of (seen ++ key ∷ []) other)) None) ∙ sym (λ i. cond (e i) (Some (place_of seen other)) None)
 
-unlike : (m n : ℕ) → (m ≡ n → ⊥) → (n == m) ≡ false
+pub unlike : (m n : ℕ) → (m ≡ n → ⊥) → (n == m) ≡ false
 unlike m n apart = go (n == m) refl
   where
     go : (b : Bool) → (n == m) ≡ b → b ≡ false

@@ -4,3 +4,4 @@ pub mod Writing
 pub mod Flat
 pub mod Printing
 pub mod Tables
+pub mod Items
