@@ -37,7 +37,7 @@ joined-some Negative c cs = refl
 around-function : (p : Polarity) (V B I R : List (List Item)) (f : List Item) → V ++ (B ++ (I ++ (f ∷ R))) ≡ (V ++ (B ++ I)) ++ f ∷ R
 around-function p V B I R f = ap (λ rest. V ++ rest) (sym (append_assoc B I (f ∷ R))) ∙ sym (append_assoc V (B ++ I) (f ∷ R))
 
-function-joined : (around : List Place) (p : Polarity) (sets : List (List ℕ)) (vs : List ℕ) (b i : Bool) (o : Option (List Item)) (fields : Option (Vec RowField))
+function-joined : (around : List Place) (p : Polarity) (sets : ℕ → List ℕ) (vs : List ℕ) (b i : Bool) (o : Option (List Item)) (fields : Option (Vec RowField))
     → component_items p (variable_items vs ++ (bit_items (codes "bool") b ++ (bit_items (codes "int") i ++ (function_component (not (is_nil vs) || (b || (i || is_some fields))) o ++ record_items around p (option_map (λ all. map (labelled sets) all.items) fields)))))
     ≡ with_function_items p (variable_items vs ++ (bit_items (codes "bool") b ++ bit_items (codes "int") i)) o (record_items around p (option_map (λ all. map (labelled sets) all.items) fields))
 function-joined around p sets vs b i None fields =
@@ -52,7 +52,7 @@ function-joined around p sets [] false false (Some f) (Some fields) = refl
 function-joined around Positive sets [] false false (Some f) None = append-nil f
 function-joined around Negative sets [] false false (Some f) None = append-nil f
 
-pub components-joined : (sets : List (List ℕ)) (around : List Place) (p : Polarity) (row : Row) → component_items p (row_components sets around p row) ≡ row_items sets around p row
+pub components-joined : (sets : ℕ → List ℕ) (around : List Place) (p : Polarity) (row : Row) → component_items p (row_components sets around p row) ≡ row_items sets around p row
 components-joined sets around p row = function-joined around p sets row.variables.items row.boolean row.integer (function_items around p (arms_of sets row.function)) row.fields
 
 -- fields that are not over

@@ -3,5 +3,7 @@ pub mod Numbering
 pub mod Writing
 pub mod Flat
 pub mod Printing
+pub mod Visits
 pub mod Tables
+pub mod Progress
 pub mod Items

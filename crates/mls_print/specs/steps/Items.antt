@@ -12,26 +12,26 @@ use Rattle.mls_print.specs.declared.row.Row.{Row}
 use Rattle.mls_print.specs.declared.row.RowArms.{RowArms}
 use Rattle.mls_print.specs.declared.row.RowField.{RowField}
 use Rattle.mls_print.specs.Keys.{variable}
-use Rattle.mls_print.specs.Pieces.{name_of, separator}
+use Rattle.mls_print.specs.Pieces.{name_of, opens, separator}
 use Rattle.mls_print.specs.steps.Printing.{Place, Item, tell, show, show_domain, LabelledSet, text, more_items, component_items, items_in_parens, bit_items, function_items, record_items, parts_items, is_alone}
-use Rattle.mls_print.specs.steps.Tables.{set_at, arms_of, labelled}
+use Rattle.mls_print.specs.steps.Tables.{arms_of, labelled}
 use Rattle.mls_print.specs.steps.Writing.{piece_of}
 
--- the item, where the table has these sets, inside these sets; one that only leaves a set tells nothing
-abbrev pub item_of : List (List ℕ) → List Place → LaidItem → Item
+-- the item, where the table has these sets, inside these sets; no row tells what an item stands for here that only leaves a set
+abbrev pub item_of : (ℕ → List ℕ) → List Place → LaidItem → Item
 item_of sets around (laid.Tell p) = tell (piece_of p)
-item_of sets around (laid.Show p n) = show around p (set_at sets n)
-item_of sets around (laid.ShowDomain p n) = show_domain around p (set_at sets n)
-item_of sets around (laid.Leave n) = text []
+item_of sets around (laid.Show p n) = show around p (sets n)
+item_of sets around (laid.ShowDomain p n) = show_domain around p (sets n)
+item_of sets around (laid.Leave n) = tell (opens n)
 
-abbrev pub items_told : List (List ℕ) → List Place → List LaidItem → List Item
+abbrev pub items_told : (ℕ → List ℕ) → List Place → List LaidItem → List Item
 items_told sets around items = map (item_of sets around) items
 
-abbrev pub components_told : List (List ℕ) → List Place → List (Vec LaidItem) → List (List Item)
+abbrev pub components_told : (ℕ → List ℕ) → List Place → List (Vec LaidItem) → List (List Item)
 components_told sets around components = map (λ c. items_told sets around c.items) components
 
 -- the fields of a row, with the sets themselves
-abbrev pub fields_of : List (List ℕ) → Row → Option (List LabelledSet)
+abbrev pub fields_of : (ℕ → List ℕ) → Row → Option (List LabelledSet)
 fields_of sets row = option_map (λ fields. map (labelled sets) fields.items) row.fields
 
 -- a set shows something beside its function
@@ -52,7 +52,7 @@ abbrev pub variable_items : List ℕ → List (List Item)
 variable_items vs = map (λ n. tell (name_of (variable n)) ∷ []) vs
 
 -- the components of a row
-abbrev pub row_components : List (List ℕ) → List Place → Polarity → Row → List (List Item)
+abbrev pub row_components : (ℕ → List ℕ) → List Place → Polarity → Row → List (List Item)
 row_components sets around p row =
     variable_items row.variables.items
     ++ (bit_items (codes "bool") row.boolean
@@ -61,10 +61,10 @@ row_components sets around p row =
     ++ record_items around p (fields_of sets row))))
 
 -- and all its items
-abbrev pub row_items : List (List ℕ) → List Place → Polarity → Row → List Item
+abbrev pub row_items : (ℕ → List ℕ) → List Place → Polarity → Row → List Item
 row_items sets around p row = parts_items around p row.variables.items row.boolean row.integer (arms_of sets row.function) (fields_of sets row)
 
-abbrev pub row_is_alone : List (List ℕ) → Row → Bool
+abbrev pub row_is_alone : (ℕ → List ℕ) → Row → Bool
 row_is_alone sets row = is_alone row.variables.items row.boolean row.integer (arms_of sets row.function) (fields_of sets row)
 
 -- the set is one of the fields

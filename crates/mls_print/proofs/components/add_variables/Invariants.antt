@@ -5,5 +5,5 @@ use Rattle.mls_print.proofs.components.add_variables.Given as goal
 
 abbrev pub invariant-loop-s : goal.invariant-loop-s
 invariant-loop-s l =
-    (sets : List (List ℕ)) (around : List Place)
+    (sets : ℕ → List ℕ) (around : List Place)
     → components_told sets around l.components.items ≡ components_told sets around l.initial.components.items ++ variable_items (take l.s-index l.variables)

@@ -6,5 +6,5 @@ use Rattle.mls_print.proofs.components.joined.Given as goal
 
 abbrev pub invariant-loop-i : goal.invariant-loop-i
 invariant-loop-i l =
-    (sets : List (List ℕ)) (around : List Place)
+    (sets : ℕ → List ℕ) (around : List Place)
     → items_told sets around l.items.items ≡ joined_items l.polarity (components_told sets around (take l.i l.components))

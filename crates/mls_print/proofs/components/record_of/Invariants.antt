@@ -7,5 +7,5 @@ use Rattle.mls_print.proofs.components.record_of.Given as goal
 
 abbrev pub invariant-loop-i : goal.invariant-loop-i
 invariant-loop-i l =
-    (sets : List (List ℕ)) (around : List Place)
+    (sets : ℕ → List ℕ) (around : List Place)
     → items_told sets around l.items.items ≡ text (codes "{") ∷ started around l.polarity (map (labelled sets) (take l.i l.fields))
