@@ -45,7 +45,7 @@ same-id : (m n : ℕ) → (m == n) ≡ true → m ≡ n
 same-id m n e = grind (arith, nat_tests)
 
 -- no fewer sets are shown later
-tells-le : (a : Automaton) (order : List ℕ) (j m : ℕ) (items : List Item) (ps : List Piece) → Tells a order j items ps m → j ≤ m
+pub tells-le : (a : Automaton) (order : List ℕ) (j m : ℕ) (items : List Item) (ps : List Piece) → Tells a order j items ps m → j ≤ m
 tells-le a order j m [] ps it = let e : j ≡ m = it.1 in omega arith
 tells-le a order j m (tell p ∷ rest) ps it = tells-le a order j m rest it.0 it.2
 tells-le a order j m (show around p set ∷ rest) ps it = let low : j + sets_in it.0 ≤ m = tells-le a order (j + sets_in it.0) m rest it.2 it.4 in omega arith
@@ -91,7 +91,7 @@ module _ (plan : Plan) (table : Table) (is : IsPlan plan table) (whole : IsWhole
             later.2,
           )
 
-  around-new : (around : List Near) (s : ℕ) → All (λ (near : Near). near.id < size) around → s < size → number_around around s ≡ None → IsNew (sets_around (places table around)) (set_of s)
+  pub around-new : (around : List Near) (s : ℕ) → All (λ (near : Near). near.id < size) around → s < size → number_around around s ≡ None → IsNew (sets_around (places table around)) (set_of s)
   around-new [] s all low e = All-nil (λ (other : List ℕ). IsSameSet other (set_of s) → ⊥)
   around-new (near ∷ far) s all low e = go (near.id == s) refl e (λ found. around-new far s (All-tail (λ (near : Near). near.id < size) near far all) low found)
     where

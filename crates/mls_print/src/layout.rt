@@ -2,11 +2,12 @@
 ghost use Rattle.std.specs.Prelude.{◌≡◌, ◌<◌, ◌++◌, reverse, length, get_or, None, IfOk, OnOk};
 ghost use Rattle.mls_print.specs.declared.components.Item.TheVariants.{Show, ShowDomain};
 ghost use Rattle.mls_print.specs.steps.Tables.{IsWhole};
-ghost use Rattle.mls_print.specs.steps.Progress.{Advances, IsItemBelow, IsLaidOut, IsPlan, IsSafe};
+ghost use Rattle.mls_print.specs.steps.Items.{row_is_alone};
+ghost use Rattle.mls_print.specs.steps.Progress.{Advances, AreParens, IsItemBelow, IsLaidOut, IsPlan, IsSafe};
 
 use crate::components::{Item, is_function_alone, items_of};
 use crate::piece::{Layout, Piece};
-use crate::row::Table;
+use crate::row::{Row, Table};
 use mls_automaton::automaton::Polarity;
 use mls_base::memory::Memory;
 use std::alloc::Global;
@@ -87,7 +88,8 @@ impl<'a> Printer<'a> {
         self.sets += 1;
         self.items.push(Item::Leave(set))?;
         let items = items_of(alloc, &table.rows[set], polarity)?;
-        push_reversed(&mut self.items, items)
+        push_reversed(&mut self.items, items)?;
+        Ok(())
     }
 
     // Begins a set that is not being shown, as a domain.
@@ -104,15 +106,22 @@ impl<'a> Printer<'a> {
         requires safe { IsSafe table.now self.old }
         ensures { OnOk result (Advances table.now (ShowDomain polarity set) self.old self.new) }
     {
-        let (opens, closes) = if is_function_alone(&table.rows[set]) {
-            (Piece::Text(b"("), Piece::Text(b")"))
-        } else {
-            (Piece::Opens(self.sets), Piece::Closes(self.sets))
-        };
+        let (opens, closes) = parens_of(&table.rows[set], self.sets);
         self.pieces.push(opens)?;
         self.items.push(Item::Tell(closes))?;
-        self.show(alloc, table, polarity, set)
+        self.show(alloc, table, polarity, set)?;
+        Ok(())
     }
+}
+
+// The parentheses of a domain, which stand there in any case if it is a function alone.
+fn parens_of<'a>(row: &Row<'a>, number: usize) -> (Piece<'a>, Piece<'a>)
+    ensures { (sets : _) → AreParens (row_is_alone sets row.now) number result.0 result.1 }
+{
+    if is_function_alone(row) {
+        return (Piece::Text(b"("), Piece::Text(b")"));
+    }
+    (Piece::Opens(number), Piece::Closes(number))
 }
 
 // Puts items on a stack, the first of them last.

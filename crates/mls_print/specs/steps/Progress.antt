@@ -1,5 +1,5 @@
 -- How far the layout of a text is.
-use Rattle.std.specs.Prelude.{◌≡◌, ℕ, ◌<◌, ◌≤◌, ◌==◌, List, [], ◌∷◌, ◌++◌, length, map, get_or, reverse, All, Option, Some, None, if◌then◌else◌}
+use Rattle.std.specs.Prelude.{◌≡◌, ℕ, ◌<◌, ◌≤◌, ◌==◌, Bool, codes, List, [], ◌∷◌, ◌++◌, length, map, get_or, reverse, All, Option, Some, None, if◌then◌else◌}
 use Rattle.mls_automaton.specs.declared.automaton.Polarity.{Polarity}
 use Rattle.mls_automaton.specs.declared.automaton.Polarity.TheVariants.{Positive}
 use Rattle.mls_automaton.specs.Automata.{Automaton}
@@ -8,11 +8,12 @@ use Rattle.mls_print.specs.declared.components.Item.{Item as LaidItem}
 use Rattle.mls_print.specs.declared.components.Item.TheVariants as laid
 use Rattle.mls_print.specs.declared.layout.Printer.{Printer}
 use Rattle.mls_print.specs.declared.piece.Layout.{Layout}
+use Rattle.mls_print.specs.declared.piece.Piece.{Piece as LaidPiece}
 use Rattle.mls_print.specs.declared.row.Table.{Table}
 use Rattle.mls_print.specs.Walks.{Visits}
 use Rattle.mls_print.specs.Shown.{Shown, Shows}
 use Rattle.mls_print.specs.Keys.{sets_in}
-use Rattle.mls_print.specs.Pieces.{Piece, pieces_of}
+use Rattle.mls_print.specs.Pieces.{Piece, bytes, opens, closes, pieces_of}
 use Rattle.mls_print.specs.steps.Printing.{Place, Item, Tells}
 use Rattle.mls_print.specs.steps.Tables.{set_at, IsTable}
 use Rattle.mls_print.specs.steps.Visits.{IsVisited}
@@ -123,3 +124,10 @@ pub record IsLaidOut (plan : Plan) (layout : Layout) : Type 0 where
   pub pieces : map piece_of layout.pieces.items ≡ pieces_in plan
   pub states : All (HasStateBelow (length plan.automaton.states)) layout.pieces.items
   pub sets : All (HasSetBelow layout.sets) layout.pieces.items
+
+-- the pieces before and behind set j as a domain, which are sure where it is a function alone
+pub record AreParens (sure : Bool) (j : ℕ) (before behind : LaidPiece) : Type 0 where
+  pub opening : piece_of before ≡ (if sure then bytes (codes "(") else opens j)
+  pub closing : piece_of behind ≡ (if sure then bytes (codes ")") else closes j)
+  pub states : (n : ℕ) → HasStateBelow n before × HasStateBelow n behind
+  pub sets : (n : ℕ) → j < n → HasSetBelow n before × HasSetBelow n behind
