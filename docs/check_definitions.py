@@ -1,9 +1,10 @@
 #!/usr/bin/env python3
-"""Compares docs/DEFINITIONS.md with the definitions that the clauses of `mls_top::run::run` reach.
+"""Compares docs/DEFINITIONS.md and docs/MAP.md with the files.
 
-Call it with no argument at any place: it prints each file of `specs/` that the page leaves out or lists without need, and
-each definition of a listed file that the page says nothing of, and ends with 1 if there is one. With --all it prints what
-the clauses reach, file by file. It follows the imports of each file, name by name, and checks no proof.
+Call it with no argument at any place: it prints each file of `specs/` that the clauses of `mls_top::run::run` reach and
+docs/DEFINITIONS.md does not list, or the other way round, and each law and each file of `proofs/` that docs/MAP.md does
+not name, and ends with 1 if there is one. With --all it prints what the clauses reach, file by file. It follows the
+imports of each file, name by name, and checks no proof.
 """
 import os
 import re
@@ -177,6 +178,21 @@ def reached_from(file, names=None):
     return closure
 
 
+def not_on_the_map():
+    """The laws and the files of lemmas that docs/MAP.md does not name in the part of their crate."""
+    laws, lemmas = (ROOT / "docs/MAP.md").read_text().split("## The files of lemmas")
+    for crate in sorted(path for path in (ROOT / "crates").iterdir() if (path / "src").is_dir()):
+        own = re.compile(rf"^### `{crate.name}`\n(.*?)(?=^### |\Z)", re.M | re.S)
+        in_laws, in_lemmas = own.findall(laws), own.findall(lemmas)
+        for file in sorted((crate / "src").glob("*laws.rt")):
+            for name, _ in public_functions(file)[1]:
+                if f"`{file.stem}::{name}`" not in "".join(in_laws):
+                    yield f"{crate.name}::{file.stem}::{name}"
+        for file in sorted((crate / "proofs").glob("*.antt")):
+            if file.stem != "Lib" and f"`{file.stem}`" not in "".join(in_lemmas):
+                yield f"{crate.name}.proofs.{file.stem}"
+
+
 def main():
     closure = reached_from(ROOT / "crates/mls_top/src/run.rt", ["run"])
     files = {}
@@ -195,8 +211,12 @@ def main():
         print(f"not listed: {file}: {', '.join(sorted(files[file]))}")
     for file in extra:
         print(f"not reached: {file}")
+    unnamed = list(not_on_the_map())
+    for name in unnamed:
+        print(f"not on the map: {name}")
     print(f"{len(files)} files reached, {len(missing)} not listed, {len(extra)} listed and not reached")
-    return 1 if missing or extra else 0
+    print(f"{len(unnamed)} not on the map")
+    return 1 if missing or extra or unnamed else 0
 
 
 if __name__ == "__main__":

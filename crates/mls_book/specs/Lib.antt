@@ -6,4 +6,5 @@ pub mod Order
 pub mod Schemes
 pub mod Laws
 pub mod TestView
+pub mod Sameness
 pub mod steps

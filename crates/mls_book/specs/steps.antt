@@ -1,4 +1,3 @@
--- What the models of the crate need besides their views: codes, sizes and comparisons. No public clause cites it.
-pub mod Sameness
+-- What the models of the crate need besides their views: codes and sizes. No public clause cites it.
 pub mod TestCode
 pub mod TestFalls

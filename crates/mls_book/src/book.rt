@@ -80,7 +80,7 @@ impl Model for Book {
 /// Fields are equal where their labels and their nodes are.
 impl PartialEq for Fields {
     ghost use Rattle.std.specs.Cmp.{partial_equiv_from_equiv};
-    ghost use Rattle.mls_book.specs.steps.Sameness.{same_fields, same_fields_equiv};
+    ghost use Rattle.mls_book.specs.Sameness.{same_fields, same_fields_equiv};
 
     ghost eq = { same_fields };
 
@@ -92,7 +92,7 @@ impl PartialEq for Fields {
 }
 
 impl Eq for Fields {
-    ghost use Rattle.mls_book.specs.steps.Sameness.{same_fields_equiv};
+    ghost use Rattle.mls_book.specs.Sameness.{same_fields_equiv};
 
     ghost laws = { same_fields_equiv };
 }

@@ -1,9 +1,9 @@
 -- The names that the module of a text binds are names.
-use Rattle.std.proofs.Common.{◌≡◌, ℕ, ◌+◌, List, [], ◌∷◌, All, refl, sym, ap, ◌∙◌, subst}
+use Rattle.std.proofs.Common.{ℕ, ◌+◌, List, [], ◌∷◌, All, refl, sym, subst}
 use Rattle.std.proofs.lemmas.List.Elements.{All-nil, All-cons, All-head, All-tail}
 use Rattle.mls_base.specs.Spelling.{IsName}
 use Rattle.mls_lexer.specs.declared.token.Kind.TheVariants as kind
-use Rattle.mls_lexer.specs.Tokens.{Terminal, name, word, IsTokens, terminals}
+use Rattle.mls_lexer.specs.Tokens.{Terminal, name, word, terminals}
 use Rattle.mls_lexer.specs.Spellings.{IsTerminal}
 use Rattle.mls_lexer.proofs.Writings.{tokens_are_terminals}
 use Rattle.mls_grammar.specs.Phrases.{Sort, source, bindings, bind_rest, Phrase, whole, no_import, importing, no_binding, binding, simple, recursive, fun, fix, local, choice, plain, simple_in, recursive_in, no_compare, less, equal, summed, no_sum, plus, minus, multiplied, no_product, times, applied, no_argument, argument, posted, no_dot, dot, variable, literal, truth, parens, braces, no_part, first_part, last_part, next_part, yields, width}

@@ -1,12 +1,11 @@
 -- Names and labels that are given twice come in the order of the text.
-use Rattle.std.proofs.Common.{◌≡◌, ℕ, suc, ◌+◌, ◌<◌, ◌≤◌, List, [], ◌∷◌, ◌++◌, length, refl, sym, ap, ◌∙◌, subst, arith, All}
+use Rattle.std.proofs.Common.{◌≡◌, ℕ, suc, ◌+◌, ◌≤◌, List, [], ◌∷◌, ◌++◌, length, refl, subst, arith}
 use Rattle.std.specs.Prelude.{bytes_eq}
 use Rattle.std.specs.List.{list_any}
-use Rattle.mls_lexer.specs.Tokens.{IsTokens, terminals}
 use Rattle.mls_lexer.proofs.TextOrder.{places_rise, Rises, rises-low, rises-append, rises-if, rises-least}
 use Rattle.mls_grammar.specs.declared.fault.Fault.{Fault}
 use Rattle.mls_grammar.specs.declared.fault.Fault.TheVariants.{DuplicateBinding, DuplicateLabel, DuplicateImport}
-use Rattle.mls_grammar.specs.Phrases.{Sort, source, Phrase, whole, no_import, importing, no_binding, binding, simple, recursive, fun, fix, local, choice, plain, simple_in, recursive_in, no_compare, less, equal, summed, no_sum, plus, minus, multiplied, no_product, times, applied, no_argument, argument, posted, no_dot, dot, variable, literal, truth, parens, braces, no_part, first_part, last_part, next_part, width}
+use Rattle.mls_grammar.specs.Phrases.{Sort, Phrase, whole, no_import, importing, no_binding, binding, simple, recursive, fun, fix, local, choice, plain, simple_in, recursive_in, no_compare, less, equal, summed, no_sum, plus, minus, multiplied, no_product, times, applied, no_argument, argument, posted, no_dot, dot, variable, literal, truth, parens, braces, no_part, first_part, last_part, next_part, width}
 use Rattle.mls_lexer.specs.Tokens.{place_of}
 use Rattle.mls_grammar.specs.Doubles.{if_seen, doubles}
 use Rattle.mls_grammar.specs.Faults.{fault_place}

@@ -1,14 +1,12 @@
 -- The places of faults, and of what a module is made of, lie within its text.
-use Rattle.std.proofs.Common.{◌≡◌, ℕ, ◌<◌, ◌≤◌, List, [], ◌∷◌, ◌++◌, length, sym, subst, ap, ◌∙◌, arith, Some}
+use Rattle.std.proofs.Common.{◌≡◌, ℕ, ◌<◌, ◌≤◌, List, [], ◌∷◌, length, sym, subst, ap, arith, Some}
 use Rattle.std.specs.Prelude.{slice_get, option_map, unwrap_or}
 use Rattle.mls_lexer.specs.declared.token.LexFault.{LexFault}
-use Rattle.mls_lexer.specs.declared.token.LexFault.TheVariants.{BadByte, BigNumber}
 use Rattle.mls_lexer.specs.declared.token.Token.{Token}
-use Rattle.mls_lexer.specs.Tokens.{Follow, Reaches, IsTokens, HasTokenFault, bad_byte, big_number, place_of}
+use Rattle.mls_lexer.specs.Tokens.{Follow, IsTokens, HasTokenFault, bad_byte, big_number, place_of}
 use Rattle.mls_grammar.specs.declared.fault.Fault.{Fault}
-use Rattle.mls_grammar.specs.Trees.{Tree, SourceTree}
+use Rattle.mls_grammar.specs.Trees.{SourceTree}
 use Rattle.mls_grammar.specs.Modules.{IsTextOf}
-use Rattle.mls_grammar.specs.Doubles.{doubles}
 use Rattle.mls_grammar.specs.Faults.{fault_place}
 use Rattle.mls_grammar.specs.GrammarFaults.{HasGrammarFault, unexpected, ended, too_deep}
 use Rattle.mls_grammar.specs.FirstFaults.{of_tokens, HasFirstFault, in_tokens, in_grammar, in_doubles}

@@ -7,8 +7,8 @@ use Rattle.mls_lexer.proofs.Readings as lexer
 use Rattle.mls_lexer.proofs.Total.{tokens_or_fault}
 use Rattle.mls_grammar.specs.declared.fault.Fault.{Fault}
 use Rattle.mls_grammar.specs.Phrases.{Phrase, source, yields, nesting}
-use Rattle.mls_grammar.specs.Trees.{SourceTree, meaning}
-use Rattle.mls_grammar.specs.Modules.{HasNoDoubles, IsTextOf}
+use Rattle.mls_grammar.specs.Trees.{meaning}
+use Rattle.mls_grammar.specs.Modules.{HasNoDoubles}
 use Rattle.mls_grammar.specs.GrammarFaults.{HasGrammarFault}
 use Rattle.mls_grammar.specs.Doubles.{doubles}
 use Rattle.mls_grammar.specs.FirstFaults.{of_tokens, HasFirstFault, in_tokens, in_grammar, in_doubles}

@@ -1,5 +1,5 @@
 -- A text is one module, or has a first fault, and not both.
-use Rattle.std.proofs.Common.{◌≡◌, sym, ap, ◌∙◌}
+use Rattle.std.proofs.Common.{sym, ap, ◌∙◌}
 use Rattle.mls_grammar.specs.Modules.{module_of}
 use Rattle.mls_grammar.specs.Laws.{OneModule, NoFaultBesideAModule}
 use Rattle.mls_grammar.proofs.OneTree.{one_tree}

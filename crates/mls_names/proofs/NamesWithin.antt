@@ -1,7 +1,6 @@
 -- The places of names without a meaning, and of nodes that are not built, lie within the text.
-use Rattle.std.proofs.Common.{◌≡◌, ℕ, zero, suc, ◌+◌, ◌<◌, ◌≤◌, Bool, true, false, if◌then◌else◌, List, [], ◌∷◌, ◌++◌, length, map, sym, subst, ap, arith, Contains}
+use Rattle.std.proofs.Common.{◌≡◌, ℕ, zero, suc, ◌<◌, ◌≤◌, Bool, true, false, if◌then◌else◌, List, [], ◌∷◌, ◌++◌, length, map, sym, subst, arith}
 use Rattle.std.specs.Prelude.{filter, not, slice_index_or}
-use Rattle.std.specs.List.{flat_map}
 use Rattle.mls_grammar.specs.declared.module.Module.{Module}
 use Rattle.mls_grammar.specs.declared.module.Import.{Import}
 use Rattle.mls_grammar.specs.declared.fault.Fault.{Fault}
@@ -10,9 +9,8 @@ use Rattle.mls_term.specs.declared.term.ResolvedBinding.{ResolvedBinding}
 use Rattle.mls_term.specs.declared.term.TermNode.{TermNode}
 use Rattle.mls_grammar.specs.Trees.{Tree, a_name, an_operator, a_number, a_truth, a_fun, a_fix, a_let, an_if, an_apply, a_make, a_project, Fields, no_field, a_field, ImportTree, BindingTree, SourceTree}
 use Rattle.mls_grammar.specs.Modules.{import_of, module_of, IsModuleText, IsModule}
-use Rattle.mls_term.specs.Terms.{TermTree, TermFields, bound, inner, global, number, truth, fun, apply, make, project, choice, local, fix, postorder, field_postorder}
-use Rattle.mls_term.specs.Terms as term
-use Rattle.mls_names.specs.Resolution.{Scope, Meant, binder, let_number, scheme, use_of, Means, MeanFields, IsTermOf, AreTermsOf, Resolves, scope_after, is_known, names_of, unknowns, field_unknowns, unknown_names, HasUnknownName}
+use Rattle.mls_term.specs.Terms.{TermTree, TermFields, postorder, field_postorder}
+use Rattle.mls_names.specs.Resolution.{Scope, Meant, binder, let_number, scheme, use_of, Means, MeanFields, AreTermsOf, Resolves, scope_after, is_known, names_of, unknowns, field_unknowns, unknown_names, HasUnknownName}
 use Rattle.mls_names.specs.Unbuilt.{is_built, unbuilt_among, unbuilt_of, IsLeastUnbuilt}
 use Rattle.mls_grammar.specs.Faults.{fault_place}
 use Rattle.mls_grammar.proofs.PlacesWithin.{TreeWithin, FieldsWithin, ImportsWithin, BindingsWithin}

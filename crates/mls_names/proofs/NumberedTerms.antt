@@ -15,8 +15,6 @@ use Rattle.mls_grammar.specs.Trees.{Tree, a_name, an_operator, a_number, a_truth
 use Rattle.mls_names.specs.Resolution.{Meant, binder, let_number, scheme, Scope, meant_by, use_of, operator_number, binders, field_binders, lets, field_lets, Means, MeanFields, schemes_from, declared_from, declared_count, scope_after, AreTermsOf}
 use Rattle.mls_term.specs.Derivations.{labels_of}
 use Rattle.mls_term.specs.WellFormed.{binders_of, field_binders_of, lets_of, field_lets_of, IsScoped, AreScoped, AreNumbersBelow}
-use Rattle.mls_term.specs.declared.term.Resolved.{Resolved}
-use Rattle.mls_grammar.specs.declared.module.Module.{Module}
 use Rattle.mls_grammar.specs.Modules.{IsModule}
 use Rattle.mls_grammar.specs.Trees.{SourceTree}
 use Rattle.mls_grammar.proofs.TreesOfNodes.{one_source}

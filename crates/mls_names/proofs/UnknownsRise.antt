@@ -1,15 +1,12 @@
 -- Names without a meaning come in the order of the text.
-use Rattle.std.proofs.Common.{◌≡◌, ℕ, suc, ◌+◌, ◌<◌, ◌≤◌, Bool, true, false, if◌then◌else◌, List, [], ◌∷◌, ◌++◌, length, refl, sym, ap, ◌∙◌, subst, arith, All}
+use Rattle.std.proofs.Common.{◌≡◌, ℕ, ◌+◌, ◌<◌, ◌≤◌, Bool, true, false, if◌then◌else◌, List, [], ◌∷◌, ◌++◌, refl, sym, ap, ◌∙◌, subst, arith}
 use Rattle.mls_lexer.proofs.TextOrder.{places_rise, Rises, rises-low, rises-high, rises-append, rises-least}
-use Rattle.mls_grammar.specs.declared.module.Module.{Module}
-use Rattle.mls_grammar.specs.declared.fault.Fault.{Fault}
 use Rattle.mls_grammar.specs.Phrases.{Sort, source, imports, bindings, bind_rest, expr, let_rest, compare_tail, sum, sum_tail, product, product_tail, apply, arguments, post, dots, atom, parts, more_parts, Phrase, whole, no_import, importing, no_binding, binding, simple, recursive, fun, fix, local, choice, plain, simple_in, recursive_in, no_compare, less, equal, summed, no_sum, plus, minus, multiplied, no_product, times, applied, no_argument, argument, posted, no_dot, dot, variable, literal, truth, parens, braces, no_part, first_part, last_part, next_part, width}
 use Rattle.mls_grammar.specs.Trees.{Tree, a_fix, an_apply, Fields, BindingTree, SourceTree, Meaning, meaning, binary, a_project}
 use Rattle.mls_grammar.specs.declared.module.Op.{Op}
 use Rattle.mls_grammar.specs.declared.module.Op.TheVariants as op
 use Rattle.mls_lexer.specs.Tokens.{place_of}
-use Rattle.mls_grammar.specs.Modules.{IsModuleText}
-use Rattle.mls_names.specs.Resolution.{is_known, names_of, scope_after, unknowns, field_unknowns, unknown_names, HasUnknownName}
+use Rattle.mls_names.specs.Resolution.{is_known, names_of, scope_after, unknowns, field_unknowns, unknown_names}
 use Rattle.mls_names.specs.ResolutionLaws.{FirstUnknownIsLeast}
 use Rattle.mls_grammar.proofs.Widths.{width-terminals}
 use Rattle.mls_grammar.proofs.TreesOfNodes.{one_source}

@@ -1,6 +1,6 @@
 -- The faults of what is given depend on which names were given before, not on their order.
-use Rattle.std.proofs.Common.{◌≡◌, ℕ, Bool, true, false, if◌then◌else◌, List, [], ◌∷◌, ◌++◌, refl, sym, ap, ◌∙◌, subst, reverse, Some, None}
-use Rattle.std.specs.Prelude.{Option, ◌||◌, not, bytes_eq}
+use Rattle.std.proofs.Common.{◌≡◌, ℕ, Bool, true, false, if◌then◌else◌, List, [], ◌∷◌, ◌++◌, refl, sym, ap, ◌∙◌}
+use Rattle.std.specs.Prelude.{◌||◌, not, bytes_eq}
 use Rattle.std.specs.List.{list_any}
 use Rattle.std.proofs.lemmas.List.Folds.{list_any-append}
 use Rattle.std.proofs.lemmas.Slice.Eq.{bytes_eq-Decides}
@@ -10,7 +10,7 @@ use Rattle.mls_grammar.specs.declared.fault.Fault.TheVariants.{DuplicateBinding,
 use Rattle.mls_reader.specs.declared.piece.Event.{Event}
 use Rattle.mls_reader.specs.declared.piece.Event.TheVariants as event
 use Rattle.mls_grammar.specs.Doubles.{if_seen}
-use Rattle.mls_reader.specs.steps.GivenTwice.{doubles_in, first_of, fault_before, fault_unless, AddsLabel}
+use Rattle.mls_reader.specs.steps.GivenTwice.{doubles_in, fault_before, fault_unless, AddsLabel}
 
 -- the same names are in both lists
 abbrev pub Same : List (List ℕ) → List (List ℕ) → Type 0

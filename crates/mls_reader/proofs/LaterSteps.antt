@@ -1,4 +1,4 @@
--- What the functions over the stack do is what the machine does.
+-- What the functions over the stack of later pieces do is what the machine of the order of nodes does.
 use Rattle.std.proofs.Common.{◌≡◌, ℕ, ◌+◌, List, [], ◌∷◌, ◌++◌, reverse, sym, ap, ◌∙◌, add-one}
 use Rattle.std.proofs.lemmas.List.{reverse-append, append_assoc}
 use Rattle.mls_reader.specs.declared.piece.Piece.{Piece}

@@ -9,7 +9,6 @@ use Rattle.mls_reader.specs.declared.piece.Event.{Event}
 use Rattle.mls_grammar.specs.Phrases.{Phrase, source, yields, nesting}
 use Rattle.mls_grammar.specs.Trees.{SourceTree, meaning}
 use Rattle.mls_grammar.specs.Modules.{module_of, IsModuleText}
-use Rattle.mls_reader.specs.steps.Pieces.{emitted, given}
 use Rattle.mls_reader.specs.steps.PieceMachine.{State, build, last_told, beginning}
 use Rattle.mls_reader.specs.steps.Told.{TellsSource}
 use Rattle.mls_grammar.specs.Doubles.{doubles}

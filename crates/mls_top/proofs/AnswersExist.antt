@@ -1,5 +1,5 @@
 -- All words have an answer over all files.
-use Rattle.std.proofs.Common.{◌≡◌, ◌⊎◌, inl, inr, ℕ, List, [], ◌∷◌, ◌++◌, length, All, refl, sym, ap, ◌∙◌, subst, append_assoc, append-nil, arith, length-append}
+use Rattle.std.proofs.Common.{◌≡◌, ◌⊎◌, inl, inr, ℕ, List, [], ◌∷◌, ◌++◌, length, All, refl, sym, subst, append_assoc, append-nil, arith, length-append}
 use Rattle.std.specs.Prelude.{Option, Some, None, Result, Ok, Err}
 use Rattle.std.proofs.lemmas.List.Elements.{All-nil, All-cons, All-head, All-tail}
 use Rattle.mls_base.specs.Files.{Files}
@@ -9,7 +9,7 @@ use Rattle.mls_grammar.specs.declared.fault.Fault.TheVariants.{NotBuilt}
 use Rattle.mls_grammar.specs.declared.module.Module.{Module}
 use Rattle.mls_grammar.specs.declared.module.Import.{Import}
 use Rattle.mls_grammar.specs.Trees.{BindingTree, SourceTree}
-use Rattle.mls_grammar.specs.Modules.{IsTextOf, module_of, IsModule, IsModuleText}
+use Rattle.mls_grammar.specs.Modules.{IsTextOf, module_of, IsModuleText}
 use Rattle.mls_grammar.specs.GrammarLaws.{IsTreeOrFault}
 use Rattle.mls_grammar.proofs.BoundNames.{BindNames, text_binds_names}
 use Rattle.mls_grammar.proofs.FirstStops.{tree_or_fault}
@@ -28,11 +28,11 @@ use Rattle.mls_top.specs.declared.status.Status.TheVariants.{Usage}
 use Rattle.mls_top.specs.Commands.{command_of}
 use Rattle.mls_top.specs.Lines.{module_file, usage_line}
 use Rattle.mls_top.specs.Refusals.{Refusal, for_fault, text_at}
-use Rattle.mls_top.specs.Entries.{Declared, Entry, IsEntryOf, AreEntriesOf}
-use Rattle.mls_top.specs.Outcomes.{ReadsModule, is_module, is_faulty, ReadsImports, no_import, unbuilt_import, InfersBindings, unknown_name, unbuilt, all_inferred, Outcome, refused, signed, outcome_status, outcome_text, InfersText, bad_module, bad_import, has_imports, Infers, no_text, has_text, module_limit}
+use Rattle.mls_top.specs.Entries.{Declared, Entry, AreEntriesOf}
+use Rattle.mls_top.specs.Outcomes.{is_faulty, unknown_name, unbuilt, all_inferred, Outcome, refused, signed, outcome_status, outcome_text, InfersText, bad_module, Infers, no_text, has_text, module_limit}
 use Rattle.mls_top.specs.Answers.{IsAnswer, no_command, of_command, infer}
 use Rattle.mls_top.specs.Laws.{AnswerExists}
-use Rattle.mls_top.proofs.Entries.{HasEntry, chain_entry, entries-append}
+use Rattle.mls_top.proofs.Entries.{chain_entry, entries-append}
 use Rattle.mls_top.proofs.Inferring.{import_refused, without_imports}
 
 -- the bindings of a module bind the names of its tree

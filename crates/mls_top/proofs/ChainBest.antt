@@ -1,5 +1,5 @@
 -- The scheme of a chain's type is the most general one of the chain.
-use Rattle.std.proofs.Common.{◌≡◌, ◌≢◌, ◌⊎◌, inl, inr, ℕ, suc, ◌+◌, ◌<◌, ◌≤◌, Bool, true, false, ◌==◌, List, [], ◌∷◌, ◌++◌, length, refl, sym, ap, subst, ◌∙◌, arith, Option, Some, None}
+use Rattle.std.proofs.Common.{◌≡◌, ◌≢◌, inl, inr, ℕ, suc, ◌<◌, ◌≤◌, Bool, true, false, ◌==◌, List, ◌++◌, length, refl, sym, ap, subst, ◌∙◌, arith, Option, Some, None}
 use Rattle.std.proofs.lemmas.Bool.{eqb-true}
 use Rattle.std.proofs.lemmas.Bool.Decides.{nat_tests}
 use Rattle.std.specs.FinMap as env
@@ -9,15 +9,14 @@ use Rattle.mls_book.specs.declared.book.NodeId.{NodeId}
 use Rattle.mls_book.specs.declared.book.Node.{Node}
 use Rattle.mls_book.specs.declared.book.Node.TheVariants as node
 use Rattle.mls_book.specs.Books.{node_at, IsClosedBook}
-use Rattle.mls_book.specs.Predicates.{Predicate, Implies, top, var}
+use Rattle.mls_book.specs.Predicates.{Predicate, Implies, var}
 use Rattle.mls_book.specs.Passes.{passes, passes_by}
-use Rattle.mls_book.specs.Schemes.{Env, Scheme, IsScheme, binder_passes, Substitution, SubsumesBy, Subsumes}
+use Rattle.mls_book.specs.Schemes.{Env, Scheme, IsScheme, binder_passes, Subsumes}
 use Rattle.mls_book.proofs.Table.{value-top}
-use Rattle.mls_book.proofs.Depths.{Implies-refl, Implies-same}
+use Rattle.mls_book.proofs.Depths.{Implies-refl}
 use Rattle.mls_book.proofs.Children.{HasChildrenIn, closed_children}
 use Rattle.mls_book.proofs.Variables.{variables_of, has_left, has_right}
 use Rattle.mls_book.proofs.Pulls.{pulled, passes-pulled}
-use Rattle.mls_book.proofs.LongerBooks.{Extends}
 use Rattle.mls_book.proofs.Representation.{IsIn, HoldsUnder, substituted_held}
 use Rattle.mls_book.proofs.Subsumption.{IsBelowAt, subsumes_where}
 use Rattle.mls_term.specs.Terms.{TermTree, bound, inner, global, number, truth, fun, apply, make, project, choice, local, fix}
@@ -29,7 +28,7 @@ use Rattle.mls_top.proofs.ChainTexts.{ChainType, from, chain_type}
 use Rattle.mls_top.proofs.ChainBooks.{Stands}
 use Rattle.mls_term.proofs.Environments.{scheme_at}
 use Rattle.mls_top.proofs.ChainDerived.{leaf_binder, literal_derived, inside_derived}
-use Rattle.mls_top.proofs.ChainLeast.{chain_value, chain_passes, IsBelowRoot, needs, kept, step, below_top, literal_least, outside_least}
+use Rattle.mls_top.proofs.ChainLeast.{chain_passes, IsBelowRoot, needs, kept, step, below_top, literal_least, outside_least}
 
 -- at some value of its variable, which a node of a closed book has, a chain's type is below what the scheme has
 pub record IsBelowSome (t : ChainType) (s : Scheme) : Type 0 where

@@ -3,18 +3,15 @@ use Rattle.std.proofs.Common.{◌≡◌, inl, inr, ℕ, suc, ◌<◌, ◌≤◌,
 use Rattle.std.proofs.lemmas.Bool.{eqb-true}
 use Rattle.std.proofs.lemmas.Bool.Decides.{nat_tests}
 use Rattle.std.specs.FinMap as env
-use Rattle.std.specs.FinMap.{same_map, nat_cmp-IsAntisymmetric, get-insert, get-remove, get-empty}
-use Rattle.std.specs.Ordering.{nat_cmp, eq_by_cmp, is_eq}
-use Rattle.std.specs.Cmp.{nat_cmp_is}
-use Rattle.std.specs.declared.cmp.Ordering.TheVariants.{Less, Equal, Greater}
-use Rattle.std.specs.declared.cmp.Ordering.{Ordering}
+use Rattle.std.specs.FinMap.{get-insert, get-empty}
+use Rattle.std.specs.Ordering.{nat_cmp, eq_by_cmp}
 use Rattle.std.proofs.lemmas.Cmp.{nat_cmp_total}
 use Rattle.mls_book.specs.declared.book.Node.{Node}
 use Rattle.mls_book.specs.declared.book.Node.TheVariants as node
 use Rattle.mls_book.specs.Books.{node_at, IsClosedBook}
 use Rattle.mls_book.specs.Predicates.{Implies, var}
 use Rattle.mls_book.specs.Passes.{passes}
-use Rattle.mls_book.specs.Schemes.{Env, Scheme, IsScheme, binder_passes}
+use Rattle.mls_book.specs.Schemes.{Env, binder_passes}
 use Rattle.mls_book.proofs.Table.{value-var}
 use Rattle.mls_book.proofs.Depths.{Implies-refl, Implies-same}
 use Rattle.mls_book.proofs.Subsumption.{Subsumes-below}

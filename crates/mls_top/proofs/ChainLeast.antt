@@ -1,6 +1,5 @@
 -- The scheme of a chain's type subsumes every scheme of the chain that is derivable.
-use Rattle.std.proofs.Common.{◌≡◌, ◌≢◌, ◌⊎◌, inl, inr, ℕ, suc, ◌+◌, ◌<◌, ◌≤◌, Bool, true, false, ◌==◌, List, [], ◌∷◌, ◌++◌, length, refl, sym, ap, subst, ◌∙◌, arith, Option, Some, None, cond}
-use Rattle.std.proofs.lemmas.Bool.{eqb-true}
+use Rattle.std.proofs.Common.{◌≡◌, ℕ, suc, ◌<◌, Bool, true, false, List, refl, sym, ap, subst, ◌∙◌, arith, Option, Some, None, cond}
 use Rattle.std.proofs.lemmas.Bool.Decides.{nat_tests}
 use Rattle.std.proofs.lemmas.Cmp.{nat_cmp_total}
 use Rattle.std.specs.FinMap as env
@@ -18,19 +17,17 @@ use Rattle.mls_book.specs.Schemes.{Env, Scheme, IsScheme, binder_passes, Substit
 use Rattle.mls_book.proofs.Table.{value-top, value-var, value-bool, value-int, value-arrow}
 use Rattle.mls_book.proofs.Depths.{Implies-refl, Implies-trans, Implies-same}
 use Rattle.mls_book.proofs.Constructors.{arrow-implies}
-use Rattle.mls_book.proofs.Variables.{variables_of, has, has_left, has_right}
+use Rattle.mls_book.proofs.Variables.{variables_of, has}
 use Rattle.mls_book.proofs.Pulls.{pulled, Implies-pulled, pulled-top, pulled-bool, pulled-int, pulled-arrow, passes-pulled}
-use Rattle.mls_book.proofs.Representation.{IsIn, substituted_held}
-use Rattle.mls_book.proofs.Subsumption.{subsumes_where}
 use Rattle.mls_term.specs.Terms.{TermTree, bound, inner, global, number, truth, fun, apply, make, project, choice, local, fix}
 use Rattle.mls_names.specs.Resolution.{IsChain}
-use Rattle.mls_term.specs.Derivations.{Known, over, Takes, Derives}
+use Rattle.mls_term.specs.Derivations.{Known, over, Derives}
 use Rattle.mls_term.proofs.Rules.{ByFun, ByBound, ByNumber, ByTruth, Generated, generation}
 use Rattle.mls_typetext.specs.Books.{id}
 use Rattle.mls_top.specs.steps.Chains.{is_used}
-use Rattle.mls_top.proofs.ChainTexts.{Leaf, a_variable, an_integer, a_boolean, ChainType, leaf, from, leaf_of, chain_type}
+use Rattle.mls_top.proofs.ChainTexts.{Leaf, a_variable, an_integer, a_boolean, ChainType, leaf, from, chain_type}
 use Rattle.mls_top.proofs.ChainBooks.{leaf_node, domain_node, Stands}
-use Rattle.mls_term.proofs.Environments.{scheme_at, get-one}
+use Rattle.mls_term.proofs.Environments.{get-one}
 use Rattle.mls_top.proofs.ChainDerived.{leaf_binder}
 
 -- what a chain's type passes, where its variable passes this

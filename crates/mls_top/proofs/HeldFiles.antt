@@ -1,7 +1,7 @@
 -- Files that a fetch may have read: those of a store that tells, and for one that tells nothing those that the fetch gave.
-use Rattle.std.proofs.Common.{◌≡◌, ℕ, suc, ◌<◌, ◌≤◌, true, false, cond, List, [], ◌∷◌, ◌++◌, length, replicate, refl, sym, ap, ◌∙◌, subst, arith, ◌≢◌, ◌↔◌}
+use Rattle.std.proofs.Common.{◌≡◌, ℕ, suc, ◌<◌, ◌≤◌, cond, List, [], ◌∷◌, ◌++◌, length, replicate, refl, sym, ap, ◌∙◌, subst, arith, ◌≢◌, ◌↔◌}
 use Rattle.std.proofs.lemmas.List.{length-replicate}
-use Rattle.std.specs.Prelude.{Option, Some, None, IfSome, Result, Ok, Err, bytes_eq, nat_lt, find, option_map}
+use Rattle.std.specs.Prelude.{Option, Some, None, IfSome, Ok, Err, nat_lt, option_map}
 use Rattle.std.proofs.lemmas.Bool.{cond-true, cond-false, le-ltb, lt-ltb}
 use Rattle.std.proofs.lemmas.Slice.Eq.{bytes_eq-Decides}
 use Rattle.mls_base.specs.Files.{Files, bytes_at}
@@ -9,7 +9,7 @@ use Rattle.mls_io.specs.declared.store.Fetch.{Fetch}
 use Rattle.mls_io.specs.declared.store.Fetch.TheVariants.{Missing, Failed, Memory}
 use Rattle.mls_io.specs.Stores.{Holdings, GivesFound, GivesMissing, GivesLong}
 use Rattle.mls_top.specs.Answers.{MayBeThose}
-use Rattle.mls_top.specs.Refusals.{Refusal, no_file, too_long, within, found, text_at}
+use Rattle.mls_top.specs.Refusals.{no_file, too_long, within, found}
 use Rattle.mls_top.specs.steps.Fetching.{IsTextIn}
 
 -- some files may be those of a store

@@ -1,29 +1,25 @@
 -- Two answers of the same words over the same files agree.
-use Rattle.std.proofs.Common.{◌≡◌, ◌≢◌, ℕ, ◌≤◌, List, [], ◌∷◌, length, refl, sym, ap, ◌∙◌, subst, arith, All}
-use Rattle.std.specs.Prelude.{Option, Some, None, Result, Ok, Err, Contains}
+use Rattle.std.proofs.Common.{◌≡◌, ◌≢◌, ℕ, ◌≤◌, List, refl, sym, ap, ◌∙◌, subst, arith, All}
+use Rattle.std.specs.Prelude.{Some, Result, Ok, Err, Contains}
 use Rattle.std.proofs.lemmas.List.Elements.{All-contains}
 use Rattle.mls_base.specs.Files.{Files}
-use Rattle.mls_grammar.specs.declared.fault.Fault.{Fault}
 use Rattle.mls_grammar.specs.declared.fault.Fault.TheVariants.{NotBuilt}
 use Rattle.mls_grammar.specs.declared.module.Module.{Module}
 use Rattle.mls_grammar.specs.declared.module.Import.{Import}
 use Rattle.mls_grammar.proofs.ModuleLaws.{one_module, no_fault_beside_a_module}
 use Rattle.mls_grammar.proofs.FirstStops.{one_fault_before_names}
 use Rattle.mls_term.specs.declared.term.Resolved.{Resolved}
-use Rattle.mls_names.specs.Resolution.{Resolves, HasUnknownName}
-use Rattle.mls_names.specs.Unbuilt.{IsBuilt, IsLeastUnbuilt, unbuilt_of}
+use Rattle.mls_names.specs.Unbuilt.{IsLeastUnbuilt, unbuilt_of}
 use Rattle.mls_names.proofs.OneResolution.{one_resolution, one_unknown_name, no_unknown_name_beside_a_resolution}
 use Rattle.mls_names.proofs.LeastPlaces.{none_unbuilt}
 use Rattle.mls_top.specs.declared.command.Command.{Command}
-use Rattle.mls_top.specs.declared.command.Command.TheVariants.{Infer}
 use Rattle.mls_top.specs.declared.status.Status.{Status}
 use Rattle.mls_top.specs.declared.status.Status.TheVariants.{Done}
-use Rattle.mls_top.specs.Commands.{command_of}
 use Rattle.mls_top.specs.Lines.{module_file}
-use Rattle.mls_top.specs.Refusals.{Refusal, for_fault, text_at}
+use Rattle.mls_top.specs.Refusals.{Refusal, for_fault}
 use Rattle.mls_top.specs.Entries.{Declared, declared_names}
-use Rattle.mls_top.specs.Outcomes.{ReadsModule, is_module, is_faulty, ReadsImports, no_import, unbuilt_import, InfersBindings, unknown_name, unbuilt, all_inferred, Outcome, refused, signed, outcome_status, outcome_text, InfersText, bad_module, bad_import, has_imports, Infers, no_text, has_text, module_limit}
-use Rattle.mls_top.specs.Answers.{IsAnswer, no_command, of_command, IsAnswerOf, infer}
+use Rattle.mls_top.specs.Outcomes.{ReadsModule, is_module, is_faulty, ReadsImports, no_import, unbuilt_import, InfersBindings, unknown_name, unbuilt, all_inferred, Outcome, refused, outcome_status, outcome_text, InfersText, bad_module, bad_import, has_imports, Infers, no_text, has_text}
+use Rattle.mls_top.specs.Answers.{no_command, of_command, IsAnswerOf, infer}
 use Rattle.mls_top.specs.Laws.{OneAnswer}
 
 -- two outcomes have one status, and where it is not Done one text

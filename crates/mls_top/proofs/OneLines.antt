@@ -1,13 +1,13 @@
 -- The line of an entry has one newline, at its end.
-use Rattle.std.proofs.Common.{◌≡◌, ℕ, zero, suc, ◌<◌, Bool, true, false, not, ◌&&◌, ◌||◌, ◌==◌, List, [], ◌∷◌, ◌++◌, length, All, codes, refl, sym, ap, ◌∙◌, subst, append_assoc, Some, arith}
+use Rattle.std.proofs.Common.{◌≡◌, ℕ, zero, suc, ◌<◌, true, List, [], ◌∷◌, ◌++◌, length, codes, refl, Some, arith}
 use Rattle.std.specs.Prelude.{slice_get}
 use Rattle.std.specs.List.{list_all}
 use Rattle.std.proofs.lemmas.Bool.{and_parts, and_from}
 use Rattle.std.proofs.lemmas.Bool.Decides.{nat_tests}
 use Rattle.std.proofs.lemmas.Option.{slice_get-get_or}
-use Rattle.mls_base.specs.Spelling.{IsName, is_spelled, is_lower, is_name_byte}
+use Rattle.mls_base.specs.Spelling.{IsName, is_lower, is_name_byte}
 use Rattle.mls_term.specs.declared.term.ResolvedBinding.{ResolvedBinding}
-use Rattle.mls_top.specs.Entries.{Declared, Entry, is_plain, IsPlain, IsEntryOf, entry_line}
+use Rattle.mls_top.specs.Entries.{Entry, is_plain, IsPlain}
 use Rattle.mls_top.specs.Laws.{IsOneLine, EachIsOneLine}
 use Rattle.mls_top.proofs.Entries.{plain-append}
 

@@ -1,5 +1,5 @@
 -- The operators stand first in an environment.
-use Rattle.std.proofs.Common.{◌≡◌, refl}
+use Rattle.std.proofs.Common.{refl}
 use Rattle.mls_grammar.specs.declared.module.Op.TheVariants.{Plus, Minus, Times, Less, Equal}
 use Rattle.mls_top.specs.Laws.{OperatorsStandFirst}
 

@@ -1,5 +1,5 @@
 -- The entries of a signature.
-use Rattle.std.specs.Prelude.{◌≡◌, ℕ, Bool, not, ◌&&◌, ◌==◌, List, [], ◌∷◌, ◌++◌, length, map, take, slice_get, codes}
+use Rattle.std.specs.Prelude.{◌≡◌, ℕ, Bool, not, ◌&&◌, ◌==◌, List, [], ◌∷◌, ◌++◌, map, take, slice_get, codes}
 use Rattle.std.specs.Prelude.{Some, IsTrue}
 use Rattle.std.specs.List.{list_all, flat_map}
 use Rattle.std.specs.FinMap as env

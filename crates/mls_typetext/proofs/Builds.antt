@@ -1,6 +1,5 @@
--- A machine that tells the pieces of a type from left to right, by a stack of what is still to come and still to tell.
-use Rattle.std.proofs.Common.{◌≡◌, ℕ, ◌+◌, List, [], ◌∷◌, ◌++◌, refl, sym, ap, ◌∙◌, Some, None, append-nil}
-use Rattle.std.specs.Prelude.{Option}
+-- For each phrase of a type the machine tells the pieces of its tree.
+use Rattle.std.proofs.Common.{◌≡◌, ℕ, ◌+◌, List, [], ◌∷◌, ◌++◌, refl, sym, ap, ◌∙◌, None, append-nil}
 use Rattle.std.proofs.lemmas.List.{append_assoc}
 use Rattle.mls_lexer.specs.declared.token.Kind.TheVariants as kind
 use Rattle.mls_lexer.specs.Tokens.{Terminal, name, word}
@@ -10,7 +9,7 @@ use Rattle.mls_typetext.specs.declared.piece.Piece.{Piece}
 use Rattle.mls_typetext.specs.declared.piece.Piece.TheVariants as piece
 use Rattle.mls_typetext.specs.steps.Pieces.{postorder}
 use Rattle.mls_lexer.specs.steps.Placed.{Placed}
-use Rattle.mls_typetext.specs.steps.PieceMachine.{Todo, a, the_rec, the_field, the_dot, the_colon, the_paren, tell, acts, State, took, advance, build, last_told}
+use Rattle.mls_typetext.specs.steps.PieceMachine.{Todo, a, the_paren, tell, acts, took, advance, build, last_told}
 use Rattle.mls_typetext.proofs.Emitted.{emitted, emitted-meaning}
 
 -- what a phrase spells, with the places of its terminals

@@ -7,7 +7,7 @@ use Rattle.mls_typetext.specs.declared.scheme.TypeFault.{TypeFault}
 use Rattle.mls_typetext.specs.declared.scheme.TypeFault.TheVariants.{NotPolar, Unguarded, Contravariant, DuplicateLabel}
 use Rattle.mls_typetext.specs.Phrases.{Sort, whole, codomain, join, join_tail, meet, meet_tail, atom, fields, more_fields, Phrase, recursive, joined, no_codomain, to, joins, no_join, or, meets, no_meet, and, named, boolean, integer, top, bot, parens, braces, first_field, last_field, next_field, width}
 use Rattle.mls_typetext.specs.Phrases as phrase
-use Rattle.mls_typetext.specs.Trees.{TypeTree, a_name, a_bool, an_int, a_top, a_bot, an_arrow, a_record, a_join, a_meet, a_rec, TypeFields, no_field, a_field, Meaning, meaning}
+use Rattle.mls_typetext.specs.Trees.{TypeTree, a_join, a_meet, TypeFields, a_field, Meaning, meaning}
 use Rattle.mls_typetext.specs.Faults.{Around, same, nearest, name_faults, faults, field_faults}
 use Rattle.mls_typetext.specs.Stops.{tree_place}
 

@@ -1,5 +1,5 @@
 -- The first fault of a tree in the order of the text has the least place.
-use Rattle.std.proofs.Common.{◌≡◌, ℕ, suc, ◌+◌, ◌-◌, ◌<◌, ◌≤◌, true, List, [], ◌∷◌, length, take, drop, refl, sym, ap, ◌∙◌, subst, arith, length-take, length-drop}
+use Rattle.std.proofs.Common.{◌≡◌, ℕ, ◌+◌, ◌-◌, ◌<◌, ◌≤◌, true, List, [], ◌∷◌, length, take, drop, ap, subst, arith, length-take, length-drop}
 use Rattle.std.specs.Prelude.{min}
 use Rattle.std.proofs.Math.Nat.{min-le_right}
 use Rattle.std.proofs.lemmas.List.{length-map}
@@ -8,7 +8,6 @@ use Rattle.mls_lexer.specs.declared.token.Token.{Token}
 use Rattle.mls_lexer.specs.Tokens.{Terminal, word, terminal, terminals, place_of}
 use Rattle.mls_lexer.proofs.TextOrder.{Rises, places_rise, rises-least}
 use Rattle.mls_typetext.specs.Phrases.{Sort, whole, Phrase, recursive, joined, no_codomain, to, joins, no_join, or, meets, no_meet, and, named, boolean, integer, top, bot, parens, braces, no_field, first_field, last_field, next_field, yields, width}
-use Rattle.mls_typetext.specs.Trees.{meaning}
 use Rattle.mls_typetext.specs.Stops.{tree_place}
 use Rattle.mls_typetext.specs.Laws.{FirstIsLeast}
 use Rattle.mls_typetext.proofs.FaultsRise.{meaning-rises}

@@ -1,4 +1,4 @@
--- A list of terminals is spelled by at most one phrase.
+-- The terminals of a type are spelled by at most one phrase.
 use Rattle.std.proofs.Common.{◌≡◌, ℕ, List, [], ◌∷◌, refl}
 use Rattle.mls_lexer.specs.declared.token.Kind.{Kind}
 use Rattle.mls_lexer.specs.declared.token.Kind.TheVariants as kind

@@ -1,8 +1,8 @@
 -- What is told of the tokens of a type are the pieces of its tree.
-use Rattle.std.proofs.Common.{◌≡◌, ℕ, zero, suc, ◌+◌, List, [], ◌∷◌, map, take, drop, refl, sym, ap, ◌∙◌, arith}
+use Rattle.std.proofs.Common.{◌≡◌, ℕ, List, [], take, drop, sym, ap, ◌∙◌}
 use Rattle.std.proofs.lemmas.List.{drop-map, take-map}
 use Rattle.mls_lexer.specs.declared.token.Token.{Token}
-use Rattle.mls_lexer.specs.Tokens.{Terminal, terminal, terminals, place_of}
+use Rattle.mls_lexer.specs.Tokens.{terminal, terminals, place_of}
 use Rattle.mls_typetext.specs.Phrases.{Phrase, whole, yields}
 use Rattle.mls_typetext.specs.Trees.{meaning}
 use Rattle.mls_typetext.specs.steps.Pieces.{postorder}

@@ -1,5 +1,5 @@
 -- From a token on a type is read in one way or has one first fault.
-use Rattle.std.proofs.Common.{◌≡◌, ◌⊎◌, inl, inr, ℕ, ◌+◌, ◌≤◌, true, List, [], ◌∷◌, length, take, drop, refl, sym, ap, ◌∙◌, subst}
+use Rattle.std.proofs.Common.{◌≡◌, ◌⊎◌, inl, inr, ℕ, true, List, [], ◌∷◌, take, drop, refl, sym, ap, ◌∙◌, subst}
 use Rattle.mls_lexer.specs.declared.token.Token.{Token}
 use Rattle.mls_lexer.specs.Tokens.{terminals}
 use Rattle.mls_typetext.specs.declared.scheme.ReadScheme.{ReadScheme}
@@ -11,7 +11,7 @@ use Rattle.mls_lexer.specs.Tokens.{place_of}
 use Rattle.mls_typetext.specs.Texts.{read_of}
 use Rattle.mls_typetext.specs.TextsFrom.{ReadsFrom, HasFaultFrom, stops, in_tree_from}
 use Rattle.mls_typetext.specs.Stops.{EndsBefore, HasStop}
-use Rattle.mls_typetext.specs.Laws.{IsReadScheme, HasOneReading, OneReadingFrom}
+use Rattle.mls_typetext.specs.Laws.{IsReadScheme, OneReadingFrom}
 use Rattle.mls_typetext.proofs.OnePhrase.{one_phrase}
 use Rattle.mls_typetext.proofs.ReadLaws.{read_of-closed}
 use Rattle.mls_typetext.proofs.StopLaws.{one_furthest, one_end}

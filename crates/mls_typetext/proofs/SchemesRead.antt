@@ -1,5 +1,5 @@
 -- The passes over the pieces of a type, one after the other, give what its tree is read as.
-use Rattle.std.proofs.Common.{◌≡◌, ℕ, true, List, [], length, reverse, sym, ap, ◌∙◌, subst}
+use Rattle.std.proofs.Common.{◌≡◌, true, List, [], reverse, sym, ap, ◌∙◌, subst}
 use Rattle.std.proofs.lemmas.List.{reverse-reverse}
 use Rattle.mls_book.specs.declared.book.Node.{Node}
 use Rattle.mls_book.specs.Books.{IsBook}

@@ -1,4 +1,4 @@
--- What the functions over the stack do is what the machine does.
+-- What the functions over the stack of `type_end` do is what the machine of the grammar does.
 use Rattle.std.proofs.Common.{◌≡◌, ℕ, Bool, true, false, List, [], ◌∷◌, ◌++◌, map, reverse, refl, sym, ap, ◌∙◌, Some, None}
 use Rattle.std.specs.Prelude.{Option, option_map, ◌&&◌}
 use Rattle.std.specs.List.{list_all}

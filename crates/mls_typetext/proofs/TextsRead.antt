@@ -12,7 +12,7 @@ use Rattle.mls_typetext.specs.declared.scheme.ReadScheme.{ReadScheme}
 use Rattle.mls_typetext.specs.declared.scheme.TypeFault.{TypeFault}
 use Rattle.mls_typetext.specs.declared.scheme.TypeFault.TheVariants.{Memory}
 use Rattle.mls_typetext.specs.Phrases.{Phrase, whole, yields}
-use Rattle.mls_typetext.specs.Trees.{TypeTree, meaning}
+use Rattle.mls_typetext.specs.Trees.{meaning}
 use Rattle.mls_typetext.specs.steps.Pieces.{postorder}
 use Rattle.mls_lexer.specs.steps.Placed.{placed}
 use Rattle.mls_typetext.specs.steps.PieceMachine.{told_of}

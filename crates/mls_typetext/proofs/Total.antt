@@ -1,5 +1,5 @@
 -- From a token on a type ends or stops, and so every text is read or has a fault.
-use Rattle.std.proofs.Common.{◌≡◌, ◌⊎◌, inl, inr, ℕ, zero, suc, ◌+◌, ◌-◌, ◌<◌, ◌≤◌, Bool, true, false, List, [], ◌∷◌, length, take, drop, refl, sym, ap, ◌∙◌, subst, arith, Some, None}
+use Rattle.std.proofs.Common.{◌≡◌, ◌⊎◌, inl, inr, ℕ, zero, suc, ◌+◌, ◌-◌, ◌<◌, ◌≤◌, true, false, List, [], ◌∷◌, length, drop, refl, sym, ap, ◌∙◌, subst, arith, Some, None}
 use Rattle.std.specs.Prelude.{Option, slice_get}
 use Rattle.std.proofs.lemmas.Bool.{cases_lt, cases_Bool}
 use Rattle.std.proofs.lemmas.List.{take_all, length-map, length-drop}
@@ -19,7 +19,7 @@ use Rattle.mls_typetext.specs.Faults.{faults}
 use Rattle.mls_typetext.specs.steps.EndTable.{ToCome, a, opens, may_end}
 use Rattle.mls_lexer.specs.Tokens.{place_of}
 use Rattle.mls_typetext.specs.Texts.{read_of, IsTypeText}
-use Rattle.mls_typetext.specs.Stops.{IsType, EndsBefore, HasStop, of_tokens, HasTypeFault, in_tokens, in_tree}
+use Rattle.mls_typetext.specs.Stops.{EndsBefore, HasStop, of_tokens, HasTypeFault, in_tokens, in_tree}
 use Rattle.mls_typetext.specs.Laws.{ReadingOrFault}
 use Rattle.mls_typetext.proofs.TypeMachine.{read}
 use Rattle.mls_typetext.proofs.TypeStops.{IsRead, IsStuck, ends_before, has_stop, has_ended}

@@ -1,5 +1,5 @@
 -- Laws of the texts of types.
-use Rattle.std.specs.Prelude.{◌≡◌, ◌⊎◌, ℕ, ◌+◌, ◌<◌, ◌≤◌, true, List, [], ◌∷◌, length, take, drop, All}
+use Rattle.std.specs.Prelude.{◌≡◌, ◌⊎◌, ℕ, ◌<◌, ◌≤◌, true, List, [], ◌∷◌, length, take, drop, All}
 use Rattle.mls_book.specs.declared.book.Node.TheVariants.{Var}
 use Rattle.mls_book.specs.Books.{IsClosedBook, node_at}
 use Rattle.mls_book.specs.Predicates.{Predicate}

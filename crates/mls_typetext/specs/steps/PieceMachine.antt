@@ -1,5 +1,5 @@
 -- A machine that tells the pieces of a type from left to right, by a stack of what is still to come and still to tell.
-use Rattle.std.specs.Prelude.{◌≡◌, ℕ, List, [], ◌∷◌, ◌++◌, Option, Some, None}
+use Rattle.std.specs.Prelude.{ℕ, List, [], ◌∷◌, ◌++◌, Option, Some, None}
 use Rattle.mls_lexer.specs.declared.token.Kind.TheVariants as kind
 use Rattle.mls_lexer.specs.Tokens.{Terminal, name, word}
 use Rattle.mls_lexer.specs.steps.Placed.{Placed}

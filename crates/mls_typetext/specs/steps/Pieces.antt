@@ -1,5 +1,5 @@
 -- A tree as the list of its pieces, where each stands behind its parts.
-use Rattle.std.specs.Prelude.{ℕ, List, [], ◌∷◌, ◌++◌}
+use Rattle.std.specs.Prelude.{List, [], ◌∷◌, ◌++◌}
 use Rattle.mls_typetext.specs.declared.piece.Piece.{Piece}
 use Rattle.mls_typetext.specs.declared.piece.Piece.TheVariants as piece
 use Rattle.mls_typetext.specs.Trees.{TypeTree, a_name, a_bool, an_int, a_top, a_bot, an_arrow, a_record, a_join, a_meet}
