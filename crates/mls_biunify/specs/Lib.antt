@@ -1,0 +1,5 @@
+pub mod Relations
+pub mod Clashes
+pub mod Solved
+pub mod Rooms
+pub mod steps

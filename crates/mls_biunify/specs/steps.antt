@@ -1,0 +1,9 @@
+pub mod Among
+pub mod Numbers
+pub mod Cells
+pub mod RoomParts
+pub mod Growth
+pub mod Consequences
+pub mod Numbering
+pub mod Kinds
+pub mod FirstClashes
