@@ -1,15 +1,14 @@
 -- The index of the edges at a state, of two automata side by side.
-use Rattle.std.proofs.Common.{◌≡◌, ◌↔◌, ◌⊎◌, inl, inr, ℕ, zero, suc, ◌<◌, ◌≤◌, ◌+◌, ◌-◌, List, [], ◌∷◌, ◌++◌, map, take, refl, sym, ap, ◌∙◌, subst, arith, length, get_or, Contains, All}
+use Rattle.std.proofs.Common.{◌≡◌, ◌↔◌, ◌⊎◌, inl, inr, ℕ, ◌<◌, ◌≤◌, ◌+◌, List, [], ◌∷◌, ◌++◌, map, refl, sym, ap, ◌∙◌, subst, arith, length, get_or, Contains}
 use Rattle.std.proofs.lemmas.List.{get_or_default, get_or_append_left, get_or-append-add, length-append, length-map}
 use Rattle.std.proofs.Math.ListN.{get_or-map}
-use Rattle.std.proofs.lemmas.List.Elements.{Contains-append_cases, Contains-append_left, Contains-append_right}
+use Rattle.std.proofs.lemmas.List.Elements.{Contains-append_left, Contains-append_right}
 use Rattle.mls_book.proofs.LongerBooks.{below_or_more}
 use Rattle.mls_automaton.specs.declared.automaton.Polarity.{Polarity}
 use Rattle.mls_automaton.specs.declared.automaton.Polarity.TheVariants.{Positive, Negative}
 use Rattle.mls_automaton.specs.declared.automaton.Head.{Head}
 use Rattle.mls_automaton.specs.declared.automaton.State.{State}
-use Rattle.mls_automaton.specs.declared.automaton.Flow.{Flow}
-use Rattle.mls_automaton.specs.Automata.{Automaton, HasFlow, HasTrueFlows, IsPartner, IsState, flow, polarity_at, state_at}
+use Rattle.mls_automaton.specs.Automata.{Automaton, HasFlow, IsPartner, IsState, flow}
 use Rattle.mls_automaton.specs.Embeddings.{appended, renamed_flow, renamed_head, renamed_state}
 use Rattle.mls_automaton.specs.Sets.{Rises}
 use Rattle.mls_automaton.specs.Indexed.{IsIndexed}
@@ -72,30 +71,30 @@ module _ (a b : Automaton) (P Q : List (List ℕ)) (first : IsIndexed a P) (seco
 
   is-old : (m p : ℕ) → (m < n) ⊎ (p < n) → HasFlow c m p → HasFlow a m p
   is-old m p low it = elim (flows-appended a b m p it) [
-      | inl old ↦ old
-      | inr new ↦
-          let at : m ≡ n + new.0 = new.3 in
-          let at' : p ≡ n + new.1 = new.4 in
-          elim low [ | inl h ↦ absurd (omega arith) | inr h ↦ absurd (omega arith) ]
-    ]
+    | inl old ↦ old
+    | inr new ↦
+        let at : m ≡ n + new.0 = new.3 in
+        let at' : p ≡ n + new.1 = new.4 in
+        elim low [ inl h ↦ absurd (omega arith) | inr h ↦ absurd (omega arith) ]
+  ]
 
   is-new : (m p : ℕ) → (n ≤ m) ⊎ (n ≤ p) → HasFlow c m p → (i j : ℕ) × HasFlow b i j × (m ≡ up i) × (p ≡ up j)
   is-new m p high it = elim (flows-appended a b m p it) [
-      | inl old ↦
-          let low : m < n = (first.flows.negative (flow m p) old).in_range in
-          let low' : p < n = (first.flows.positive (flow m p) old).in_range in
-          elim high [ | inl h ↦ absurd (omega arith) | inr h ↦ absurd (omega arith) ]
-      | inr new ↦ new
-    ]
+    | inl old ↦
+        let low : m < n = (first.flows.negative (flow m p) old).in_range in
+        let low' : p < n = (first.flows.positive (flow m p) old).in_range in
+        elim high [ inl h ↦ absurd (omega arith) | inr h ↦ absurd (omega arith) ]
+    | inr new ↦ new
+  ]
 
   old-members : (s : ℕ) → s < n → (j : ℕ) → Contains (get_or sets s []) j ↔ IsPartner c s j
   old-members s low j = (to, from)
     where
       to : Contains (get_or sets s []) j → IsPartner c s j
       to it = elim ((first.members s low j).0 (subst (λ set. Contains set j) (old-set s low) it)) [
-          | inl h ↦ inl (old-flow s j h)
-          | inr h ↦ inr (old-flow j s h)
-        ]
+        | inl h ↦ inl (old-flow s j h)
+        | inr h ↦ inr (old-flow j s h)
+      ]
 
       back : IsPartner c s j → IsPartner a s j
       back (inl h) = inl (is-old s j (inl low) h)

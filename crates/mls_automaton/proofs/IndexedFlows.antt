@@ -1,5 +1,5 @@
 -- The index of the edges at a state, as states and edges are added.
-use Rattle.std.proofs.Common.{◌≡◌, ◌≢◌, ◌↔◌, ◌⊎◌, inl, inr, ℕ, zero, suc, ◌<◌, ◌≤◌, ◌+◌, ◌-◌, Bool, Option, Some, List, [], ◌∷◌, ◌++◌, refl, sym, ap, ◌∙◌, subst, arith, length, get_or, Contains, All, IsTrue}
+use Rattle.std.proofs.Common.{◌≡◌, ◌≢◌, ◌↔◌, ◌⊎◌, inl, inr, ℕ, ◌<◌, ◌≤◌, ◌+◌, ◌-◌, Bool, Option, Some, List, [], ◌∷◌, ◌++◌, refl, sym, ap, ◌∙◌, subst, arith, length, get_or, Contains, All, IsTrue}
 use Rattle.std.proofs.lemmas.List.{get_or_default, get_or_past, get_or_append_left, get_or-append_right, length-append, length-set, get_or-set_same, get_or-set_other}
 use Rattle.std.proofs.Math.ListN.{set}
 use Rattle.std.proofs.lemmas.Bool.{cases_eq, cases_lt}
@@ -8,11 +8,11 @@ use Rattle.mls_automaton.specs.declared.automaton.Polarity.TheVariants.{Positive
 use Rattle.mls_automaton.specs.declared.automaton.State.{State}
 use Rattle.mls_automaton.specs.declared.automaton.FieldSet.{FieldSet}
 use Rattle.mls_automaton.specs.declared.automaton.Flow.{Flow}
-use Rattle.mls_automaton.specs.Automata.{Automaton, HasFlow, HasTrueFlows, IsPartner, IsState, empty_head, flow, polarity_at, head_at, state_at, with_flow, with_state}
-use Rattle.mls_automaton.specs.Models.{HasArmsIn, HasFieldsIn, HasStatesIn, IsClosed, IsClosedState, IsDeterministic, HasSingleFields, IsSingle, IsSingleState}
+use Rattle.mls_automaton.specs.Automata.{Automaton, HasFlow, HasTrueFlows, IsPartner, IsState, empty_head, flow, polarity_at, state_at, with_flow, with_state}
+use Rattle.mls_automaton.specs.Models.{IsClosed, IsClosedState, IsDeterministic, HasSingleFields, IsSingle, IsSingleState}
 use Rattle.mls_automaton.specs.Sets.{Rises}
 use Rattle.mls_automaton.specs.Indexed.{IsIndexed}
-use Rattle.mls_automaton.proofs.Lists.{Contains-here, Contains-cases, All-contained}
+use Rattle.mls_automaton.proofs.Lists.{Contains-here, Contains-cases}
 use Rattle.std.proofs.lemmas.List.Elements.{Contains-append_cases, Contains-append_left, Contains-append_right}
 
 -- the state of a number that is there
@@ -313,3 +313,25 @@ fields-single fields all k d low = length-single (get_or fields k d).set (all k 
 pub one-each : (fields other : List FieldSet) (o : Option (List FieldSet)) (b : Bool) → o ≡ Some fields → other ≡ fields → IsTrue b ↔ All (λ (field : FieldSet). length field.set ≡ 1) other → IsTrue b ↔ HasSingleFields o
 one-each fields other o b is same it =
     rw is (λ h. single-fields fields (subst (λ (xs : List FieldSet). All (λ (field : FieldSet). length field.set ≡ 1) xs) same (it.0 h)), λ h. it.1 (subst (λ (xs : List FieldSet). All (λ (field : FieldSet). length field.set ≡ 1) xs) (sym same) (fields-single fields h)))
+
+-- the edges where one is added that is there, and where it is not
+pub flows-there : (a : Automaton) (n p : ℕ) → HasFlow a n p → (m q : ℕ) → HasFlow a m q ↔ HasFlow a m q ⊎ ((m ≡ n) × (q ≡ p))
+flows-there a n p it m q = (
+  λ h. inl h,
+  λ h. elim h [
+    | inl old ↦ old
+    | inr new ↦ subst (λ i. HasFlow a i q) (sym new.0) (subst (λ j. HasFlow a n j) (sym new.1) it)
+  ],
+)
+
+pub flows-added : (a : Automaton) (n p : ℕ) (flows : List Flow) → flows ≡ a.flows ++ flow n p ∷ [] → (m q : ℕ) → Contains flows (flow m q) ↔ HasFlow a m q ⊎ ((m ≡ n) × (q ≡ p))
+flows-added a n p flows e m q = rw e (
+  λ it. elim (flow-cases a (flow n p) m q it) [
+    | inl old ↦ inl old
+    | inr same ↦ inr (ap (λ (f : Flow). f.negative.0) (sym same), ap (λ (f : Flow). f.positive.0) (sym same))
+  ],
+  λ it. elim it [
+    | inl old ↦ Contains-append_left a.flows (flow n p ∷ []) (flow m q) old
+    | inr new ↦ subst (λ i. Contains (a.flows ++ flow n p ∷ []) (flow i q)) (sym new.0) (subst (λ j. Contains (a.flows ++ flow n p ∷ []) (flow n j)) (sym new.1) (Contains-append_right a.flows (flow n p ∷ []) (flow n p) (Contains-here (flow n p) [])))
+  ],
+)

@@ -1,9 +1,9 @@
 -- The search finds exactly the states that are reached.
-use Rattle.std.proofs.Common.{◌≡◌, ◌≢◌, ◌⊎◌, inl, inr, ℕ, zero, suc, ◌<◌, ◌≤◌, ◌+◌, ◌-◌, ◌*◌, Bool, true, false, Option, Some, None, List, [], ◌∷◌, ◌++◌, take, refl, sym, ap, ◌∙◌, subst, arith, length, get_or, Contains, All, cond, ◌==◌}
-use Rattle.std.specs.Prelude.{find, option_map, replicate, option_to_list}
+use Rattle.std.proofs.Common.{◌≡◌, inl, inr, ℕ, zero, suc, ◌<◌, ◌+◌, Bool, true, false, Option, Some, None, List, [], ◌∷◌, ◌++◌, refl, sym, ap, ◌∙◌, subst, arith, length, get_or, Contains, All, cond, ◌==◌}
+use Rattle.std.specs.Prelude.{find, option_map, replicate}
 use Rattle.std.proofs.lemmas.Bool.{eq-eqb, eqb-true}
 use Rattle.std.proofs.lemmas.List.{length-append, length-replicate}
-use Rattle.std.proofs.lemmas.List.Elements.{Contains-get_or, Contains-append_cases, Contains-append_left, Contains-append_right, All-contains}
+use Rattle.std.proofs.lemmas.List.Elements.{Contains-append_cases, Contains-append_left, Contains-append_right, All-contains}
 use Rattle.mls_automaton.specs.declared.automaton.Polarity.{Polarity}
 use Rattle.mls_automaton.specs.declared.automaton.Arms.{Arms}
 use Rattle.mls_automaton.specs.declared.automaton.FieldSet.{FieldSet}
@@ -15,7 +15,7 @@ use Rattle.mls_automaton.specs.Environments.{BindersRise}
 use Rattle.mls_automaton.specs.Models.{HasStatesIn, HasArmsIn, HasFieldsIn, IsClosed}
 use Rattle.mls_automaton.specs.Schemes.{IsScheme, state_of}
 use Rattle.mls_automaton.specs.Reached.{HeadNames, InAnyField, InFunction, InRecord, IsReached, Names, root as at-root, binder as at-binder, named as by-name}
-use Rattle.mls_automaton.specs.steps.Searching.{AreReached, Found, Grows, InArms, InEntries, IsBelow, IsMarked, IsSearch, left_of, unmarked}
+use Rattle.mls_automaton.specs.steps.Searching.{AreReached, Found, Grows, InEntries, IsMarked, IsSearch, left_of, unmarked}
 use Rattle.mls_automaton.proofs.Lists.{Contains-here, Contains-later, Contains-cases}
 use Rattle.mls_automaton.proofs.Searches.{marked-low}
 
@@ -62,9 +62,9 @@ named-low a closed s j it = named-in (λ i. i < length a.states) (polarity_at a 
 pub entry-found : (env : List EnvEntry) → BindersRise env → (e : EnvEntry) → Contains env e → state_of env e.binder ≡ Some e.state.0
 entry-found [] rise e it = let none : it.0 < 0 = it.1 in absurd (omega arith)
 entry-found (first ∷ rest) rise e it = elim (Contains-cases first rest e it) [
-    | inl same ↦ subst (λ (x : EnvEntry). state_of (first ∷ rest) x.binder ≡ Some x.state.0) same at-first
-    | inr later ↦ past (entry-found rest (λ i j d less low. rise (suc i) (suc j) d (omega arith) (omega arith)) e later) later
-  ]
+  | inl same ↦ subst (λ (x : EnvEntry). state_of (first ∷ rest) x.binder ≡ Some x.state.0) same at-first
+  | inr later ↦ past (entry-found rest (λ i j d less low. rise (suc i) (suc j) d (omega arith) (omega arith)) e later) later
+]
   where
     at-first : state_of (first ∷ rest) first.binder ≡ Some first.state.0
     at-first = ap (λ b. option_map (λ (x : EnvEntry). x.state.0) (cond b (Some first) (find (λ (x : EnvEntry). x.binder == first.binder) rest))) (eq-eqb first.binder first.binder refl)
@@ -105,25 +105,25 @@ begun s a b c marks work rise first second = record {
   same_length = second.same_length ∙ (first.same_length ∙ (ap length marks ∙ length-replicate (length s.automaton.states) false));
   sound = λ j it. elim (second.found j it) [
     | inl was ↦ elim (first.found j was) [
-        | inl before ↦ absurd (not-before j before)
-        | inr new ↦ at-root (sym new.0)
-      ]
+      | inl before ↦ absurd (not-before j before)
+      | inr new ↦ at-root (sym new.0)
+    ]
     | inr new ↦ binder j new.0
   ];
   root = second.kept s.root.0 (first.all s.root.0 refl);
   binders = second.all;
   work = λ j it. elim (second.work_new j it) [
     | inl was ↦ elim (first.work_new j was) [
-        | inl before ↦ absurd (none j before)
-        | inr e ↦ second.kept j (first.all j e)
-      ]
+      | inl before ↦ absurd (none j before)
+      | inr e ↦ second.kept j (first.all j e)
+    ]
     | inr entry ↦ second.all j entry
   ];
   closed = λ i it. elim (second.found i it) [
     | inl was ↦ elim (first.found i was) [
-        | inl before ↦ absurd (not-before i before)
-        | inr new ↦ inl (second.work_kept i new.1)
-      ]
+      | inl before ↦ absurd (not-before i before)
+      | inr new ↦ inl (second.work_kept i new.1)
+    ]
     | inr new ↦ inl new.1
   ];
 }
@@ -155,12 +155,12 @@ looked s before rest after k is marks work grows = record {
   ];
   closed = λ i it. elim (grows.found i it) [
     | inl was ↦ elim (is.closed i (back i was)) [
-        | inl in_work ↦ elim (Contains-append_cases rest.work (k ∷ []) i (subst (λ xs. Contains xs i) work in_work)) [
-            | inl still ↦ inl (grows.work_kept i still)
-            | inr now ↦ inr (λ j named. grows.all j (subst (λ m. Names s.automaton m j) (sym (one i now)) named))
-          ]
-        | inr all ↦ inr (λ j named. grows.kept j (forth j (all j named)))
+      | inl in_work ↦ elim (Contains-append_cases rest.work (k ∷ []) i (subst (λ xs. Contains xs i) work in_work)) [
+        | inl still ↦ inl (grows.work_kept i still)
+        | inr now ↦ inr (λ j named. grows.all j (subst (λ m. Names s.automaton m j) (sym (one i now)) named))
       ]
+      | inr all ↦ inr (λ j named. grows.kept j (forth j (all j named)))
+    ]
     | inr new ↦ inl new.1
   ];
 }
@@ -179,9 +179,9 @@ looked s before rest after k is marks work grows = record {
 
     one : (i : ℕ) → Contains (k ∷ []) i → k ≡ i
     one i it = elim (Contains-cases k [] i it) [
-        | inl e ↦ e
-        | inr none ↦ let low : none.0 < 0 = none.1 in absurd (omega arith)
-      ]
+      | inl e ↦ e
+      | inr none ↦ let low : none.0 < 0 = none.1 in absurd (omega arith)
+    ]
 
 pub looked-less : (before rest after : Found) (k : ℕ) (P : ℕ → Type 0) → rest.marks ≡ before.marks → before.work ≡ rest.work ++ k ∷ [] → Grows rest after P → left_of after < left_of before
 looked-less before rest after k P marks work grows =
@@ -198,9 +198,9 @@ searched s f is work = record { same_length = is.same_length; sound = is.sound; 
     complete j (at-root e) = subst (IsMarked f) e is.root
     complete j (at-binder x e) = let it = found-entry s.env x j e in is.binders j (it.0, it.1, it.3)
     complete j (by-name {i} before named) = elim (is.closed i (complete i before)) [
-        | inl in_work ↦ let there : Contains [] i = subst (λ xs. Contains xs i) work in_work in let low : there.0 < 0 = there.1 in absurd (omega arith)
-        | inr all ↦ all j named
-      ]
+      | inl in_work ↦ let there : Contains [] i = subst (λ xs. Contains xs i) work in_work in let low : there.0 < 0 = there.1 in absurd (omega arith)
+      | inr all ↦ all j named
+    ]
 
 -- the state that is taken up is there
 pub last-low : (s : Scheme) (f : Found) (rest : List ℕ) (k : ℕ) → IsSearch s f → f.work ≡ rest ++ k ∷ [] → k < length s.automaton.states

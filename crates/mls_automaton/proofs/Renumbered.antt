@@ -1,5 +1,5 @@
 -- States under other numbers.
-use Rattle.std.proofs.Common.{◌≡◌, ◌↔◌, ◌⊎◌, inl, inr, ℕ, zero, suc, ◌<◌, ◌≤◌, ◌+◌, ◌-◌, Option, Some, None, List, [], ◌∷◌, ◌++◌, map, take, refl, sym, ap, ◌∙◌, subst, arith, length, get_or, Contains, All}
+use Rattle.std.proofs.Common.{◌≡◌, ℕ, ◌<◌, ◌+◌, Option, Some, None, List, map, take, sym, ap, ◌∙◌, subst, arith, length, get_or, All}
 use Rattle.std.proofs.lemmas.List.{get_or_default, length-map, length-take-le, get_or-take}
 use Rattle.std.proofs.Math.ListN.{get_or-map}
 use Rattle.std.proofs.lemmas.List.Elements.{Contains-get_or}
@@ -7,7 +7,7 @@ use Rattle.mls_automaton.specs.declared.automaton.Arms.{Arms}
 use Rattle.mls_automaton.specs.declared.automaton.FieldSet.{FieldSet}
 use Rattle.mls_automaton.specs.declared.automaton.Head.{Head}
 use Rattle.mls_automaton.specs.Sets.{Rises}
-use Rattle.mls_automaton.specs.steps.Numbers.{KeepsOrder, KeepsOrderInArms, KeepsOrderInFields, KeepsOrderInHead, number_in}
+use Rattle.mls_automaton.specs.steps.Numbers.{KeepsOrder, KeepsOrderInArms, KeepsOrderInFields, KeepsOrderInHead}
 
 -- what holds of each element holds of the one that was taken
 pub at-item : {X : Type 0} (P : X → Type 0) (xs : List X) (x : X) (i : ℕ) → All P xs → x ≡ get_or xs i x → i < length xs → P x
@@ -24,7 +24,7 @@ numbers-rise place set list i number renamed order rises same low is number-is =
         let size' : length (take i set) ≡ i = length-take-le i set (omega arith) in
         let before : k < i = omega arith in
         let is : get_or (map place (take i set)) k d ≡ place (get_or set k 0) =
-            get_or_default (map place (take i set)) k d (place 0) in_list ∙ (get_or-map place (take i set) k 0 ∙ ap place (get_or-take i set k 0 before)) in
+        get_or_default (map place (take i set)) k d (place 0) in_list ∙ (get_or-map place (take i set) k 0 ∙ ap place (get_or-take i set k 0 before)) in
         rw is (order (get_or set k 0) (get_or set i 0) (Contains-get_or set k 0 (omega arith)) (Contains-get_or set i 0 low') (rises k i before low'))
 
 -- the fields of a record that is there

@@ -1,18 +1,17 @@
 -- How a search for the states that are reached grows.
-use Rattle.std.proofs.Common.{◌≡◌, ◌≢◌, ◌⊎◌, inl, inr, ℕ, zero, suc, ◌<◌, ◌≤◌, ◌+◌, ◌-◌, ◌*◌, Bool, true, false, List, [], ◌∷◌, ◌++◌, take, refl, sym, ap, ◌∙◌, subst, arith, length, get_or, Contains, All}
+use Rattle.std.proofs.Common.{◌≡◌, ◌≢◌, ◌↔◌, ◌⊎◌, inl, inr, ℕ, zero, suc, ◌<◌, ◌≤◌, ◌+◌, Bool, true, false, List, [], ◌∷◌, ◌++◌, take, refl, sym, ap, ◌∙◌, subst, arith, length, get_or, Contains}
 use Rattle.std.proofs.Math.ListN.{set}
-use Rattle.std.proofs.lemmas.List.{get_or_default, get_or_past, length-append, length-set, get_or-set_same, get_or-set_other}
+use Rattle.std.proofs.lemmas.List.{get_or_past, length-append, length-set, get_or-set_same, get_or-set_other}
 use Rattle.std.proofs.lemmas.Bool.{cases_eq, cases_lt}
-use Rattle.std.proofs.lemmas.List.Elements.{Contains-get_or, Contains-append_cases, Contains-append_left, Contains-append_right}
+use Rattle.std.proofs.lemmas.List.Elements.{Contains-append_cases, Contains-append_left, Contains-append_right}
 use Rattle.std.proofs.Math.Seq.{take-suc}
 use Rattle.std.proofs.Common.{add-one, Option, Some, None}
 use Rattle.mls_automaton.specs.declared.automaton.Arms.{Arms}
 use Rattle.mls_automaton.specs.declared.automaton.FieldSet.{FieldSet}
 use Rattle.mls_automaton.specs.declared.automaton.Head.{Head}
 use Rattle.mls_automaton.specs.declared.scheme.EnvEntry.{EnvEntry}
-use Rattle.mls_automaton.specs.declared.scheme.Scheme.{Scheme}
-use Rattle.mls_automaton.specs.Reached.{HeadNames, InAnyField, InFunction, InRecord, IsReached, Names}
-use Rattle.mls_automaton.specs.steps.Searching.{AreReached, Found, Grows, InArms, InEntries, IsBelow, IsMarked, IsSearch, left_of, unmarked}
+use Rattle.mls_automaton.specs.Reached.{HeadNames, InAnyField, InFunction, InRecord}
+use Rattle.mls_automaton.specs.steps.Searching.{Found, Grows, InArms, InEntries, IsBelow, IsMarked, unmarked}
 use Rattle.mls_automaton.proofs.Lists.{Contains-here, Contains-cases}
 
 pub unmarked-set : (marks : List Bool) (s : ℕ) → s < length marks → get_or marks s false ≡ false → unmarked (set marks s true) + 1 ≡ unmarked marks
@@ -24,9 +23,9 @@ unmarked-set (false ∷ rest) (suc s) low e = let h : unmarked (set rest s true)
 
 pub marked-low : (s : Found) (j : ℕ) → IsMarked s j → j < length s.marks
 marked-low s j is = elim (cases_lt j (length s.marks)) [
-    | inl low ↦ low
-    | inr high ↦ let none : get_or s.marks j false ≡ false = get_or_past s.marks j false high in absurd (cc)
-  ]
+  | inl low ↦ low
+  | inr high ↦ let none : get_or s.marks j false ≡ false = get_or_past s.marks j false high in absurd (cc)
+]
 
 pub grows-nothing : (s : Found) (IsOne : ℕ → Type 0) → ((j : ℕ) → IsOne j → IsMarked s j) → Grows s s IsOne
 grows-nothing s IsOne all = record {
@@ -56,9 +55,9 @@ grows-one marks work s low was = record {
   work_new = λ j it. elim (Contains-append_cases work (s ∷ []) j it) [
     | inl old ↦ inl old
     | inr new ↦ elim (Contains-cases s [] j new) [
-        | inl e ↦ inr (sym e)
-        | inr none ↦ let none-low : none.0 < 0 = none.1 in absurd (omega arith)
-      ]
+      | inl e ↦ inr (sym e)
+      | inr none ↦ let none-low : none.0 < 0 = none.1 in absurd (omega arith)
+    ]
   ];
   left =
       let fewer : unmarked (set marks s true) + 1 ≡ unmarked marks = unmarked-set marks s low was in
@@ -77,20 +76,20 @@ pub grows-both : (a b c : Found) (P Q R : ℕ → Type 0) → Grows a b P → Gr
 grows-both a b c P Q R first second is-first is-second parts = record {
   same_length = second.same_length ∙ first.same_length;
   kept = λ j it. second.kept j (first.kept j it);
-  all = λ j it. elim (parts j it) [ | inl p ↦ second.kept j (first.all j p) | inr q ↦ second.all j q ];
+  all = λ j it. elim (parts j it) [ inl p ↦ second.kept j (first.all j p) | inr q ↦ second.all j q ];
   found = λ j it. elim (second.found j it) [
     | inl was ↦ elim (first.found j was) [
-        | inl before ↦ inl before
-        | inr new ↦ inr (is-first j new.0, second.work_kept j new.1)
-      ]
+      | inl before ↦ inl before
+      | inr new ↦ inr (is-first j new.0, second.work_kept j new.1)
+    ]
     | inr new ↦ inr (is-second j new.0, new.1)
   ];
   work_kept = λ j it. second.work_kept j (first.work_kept j it);
   work_new = λ j it. elim (second.work_new j it) [
     | inl was ↦ elim (first.work_new j was) [
-        | inl before ↦ inl before
-        | inr new ↦ inr (is-first j new)
-      ]
+      | inl before ↦ inl before
+      | inr new ↦ inr (is-first j new)
+    ]
     | inr new ↦ inr (is-second j new)
   ];
   left = let h = first.left in let k = second.left in omega arith;
@@ -109,12 +108,12 @@ module _ {X : Type 0} (xs : List X) (i : ℕ) (d : X) (low : i < length xs) wher
 
   pub next-cases : (x : X) → Contains (take (i + 1) xs) x → Contains (take i xs) x ⊎ (get_or xs i d ≡ x)
   next-cases x it = elim (Contains-append_cases (take i xs) (get_or xs i d ∷ []) x (subst (λ ys. Contains ys x) next-is it)) [
-      | inl before ↦ inl before
-      | inr last ↦ elim (Contains-cases (get_or xs i d) [] x last) [
-          | inl e ↦ inr e
-          | inr none ↦ let none-low : none.0 < 0 = none.1 in absurd (omega arith)
-        ]
+    | inl before ↦ inl before
+    | inr last ↦ elim (Contains-cases (get_or xs i d) [] x last) [
+      | inl e ↦ inr e
+      | inr none ↦ let none-low : none.0 < 0 = none.1 in absurd (omega arith)
     ]
+  ]
 
 pub below-after : (a b : Found) (P Q : ℕ → Type 0) → Grows a b Q → IsBelow P (length a.marks) → IsBelow P (length b.marks)
 below-after a b P Q grows below j it = subst (λ n. j < n) (sym grows.same_length) (below j it)
@@ -124,21 +123,21 @@ set-next a b c xs i low first second =
     grows-both a b c (Contains (take i xs)) (λ j. j ≡ get_or xs i 0) (Contains (take (i + 1) xs)) first second
     (λ j it. next-more xs i 0 low j it)
     (λ j e. subst (λ k. Contains (take (i + 1) xs) k) (sym e) (next-last xs i 0 low))
-    (λ j it. elim (next-cases xs i 0 low j it) [ | inl before ↦ inl before | inr e ↦ inr (sym e) ])
+    (λ j it. elim (next-cases xs i 0 low j it) [ inl before ↦ inl before | inr e ↦ inr (sym e) ])
 
 pub entries-next : (a b c : Found) (xs : List EnvEntry) (i : ℕ) (d : EnvEntry) → i < length xs → Grows a b (InEntries (take i xs)) → Grows b c (λ j. j ≡ (get_or xs i d).state.0) → Grows a c (InEntries (take (i + 1) xs))
 entries-next a b c xs i d low first second =
     grows-both a b c (InEntries (take i xs)) (λ j. j ≡ (get_or xs i d).state.0) (InEntries (take (i + 1) xs)) first second
     (λ j it. (it.0, next-more xs i d low it.0 it.1, it.2))
     (λ j e. (get_or xs i d, next-last xs i d low, sym e))
-    (λ j it. elim (next-cases xs i d low it.0 it.1) [ | inl before ↦ inl (it.0, before, it.2) | inr e ↦ inr (sym it.2 ∙ ap (λ (x : EnvEntry). x.state.0) (sym e)) ])
+    (λ j it. elim (next-cases xs i d low it.0 it.1) [ inl before ↦ inl (it.0, before, it.2) | inr e ↦ inr (sym it.2 ∙ ap (λ (x : EnvEntry). x.state.0) (sym e)) ])
 
 pub fields-next : (a b c : Found) (xs : List FieldSet) (i : ℕ) (d : FieldSet) → i < length xs → d ≡ get_or xs i d → Grows a b (InAnyField (take i xs)) → Grows b c (Contains d.set) → Grows a c (InAnyField (take (i + 1) xs))
 fields-next a b c xs i d low is first second =
     grows-both a b c (InAnyField (take i xs)) (Contains d.set) (InAnyField (take (i + 1) xs)) first second
     (λ j it. (it.0, next-more xs i d low it.0 it.1, it.2))
     (λ j it. (d, subst (λ (f : FieldSet). Contains (take (i + 1) xs) f) (sym is) (next-last xs i d low), it))
-    (λ j it. elim (next-cases xs i d low it.0 it.1) [ | inl before ↦ inl (it.0, before, it.2) | inr e ↦ inr (subst (λ (f : FieldSet). Contains f.set j) (sym e ∙ sym is) it.2) ])
+    (λ j it. elim (next-cases xs i d low it.0 it.1) [ inl before ↦ inl (it.0, before, it.2) | inr e ↦ inr (subst (λ (f : FieldSet). Contains f.set j) (sym e ∙ sym is) it.2) ])
 
 -- the parts of a head
 pub arms-both : (a b c : Found) (arms : Arms) → Grows a b (Contains arms.domain) → Grows b c (Contains arms.codomain) → Grows a c (InArms arms)
@@ -153,9 +152,9 @@ grows-same a b P Q grows to from = record {
   same_length = grows.same_length;
   kept = grows.kept;
   all = λ j it. grows.all j (from j it);
-  found = λ j it. elim (grows.found j it) [ | inl was ↦ inl was | inr new ↦ inr (to j new.0, new.1) ];
+  found = λ j it. elim (grows.found j it) [ inl was ↦ inl was | inr new ↦ inr (to j new.0, new.1) ];
   work_kept = grows.work_kept;
-  work_new = λ j it. elim (grows.work_new j it) [ | inl was ↦ inl was | inr new ↦ inr (to j new) ];
+  work_new = λ j it. elim (grows.work_new j it) [ inl was ↦ inl was | inr new ↦ inr (to j new) ];
   left = grows.left;
 }
 
@@ -170,3 +169,30 @@ record-some a b o fields list is same grows = grows-same a b (InAnyField list) (
 
 pub record-none : (a : Found) (o : Option (List FieldSet)) → o ≡ None → Grows a a (InRecord o)
 record-none a o is = grows-nothing a (InRecord o) (λ j it. absurd (cc))
+
+-- a set to which the members of a list are added one by one
+pub union-next : (self list : List ℕ) (i : ℕ) (old new : List ℕ) → i < length list → ((j : ℕ) → Contains old j ↔ (Contains self j ⊎ Contains (take i list) j)) → ((j : ℕ) → Contains new j ↔ (j ≡ get_or list i 0) ⊎ Contains old j) → (j : ℕ) → Contains new j ↔ (Contains self j ⊎ Contains (take (i + 1) list) j)
+union-next self list i old new low before adds j = (to, from)
+  where
+    to : Contains new j → Contains self j ⊎ Contains (take (i + 1) list) j
+    to it = elim ((adds j).0 it) [
+      | inl e ↦ inr (subst (λ k. Contains (take (i + 1) list) k) (sym e) (next-last list i 0 low))
+      | inr was ↦ elim ((before j).0 was) [ inl own ↦ inl own | inr other ↦ inr (next-more list i 0 low j other) ]
+    ]
+
+    from : Contains self j ⊎ Contains (take (i + 1) list) j → Contains new j
+    from (inl own) = (adds j).1 (inr ((before j).1 (inl own)))
+    from (inr it) = elim (next-cases list i 0 low j it) [
+      | inl was ↦ (adds j).1 (inr ((before j).1 (inr was)))
+      | inr e ↦ (adds j).1 (inl (sym e))
+    ]
+
+pub take-all : {X : Type 0} (xs : List X) (n : ℕ) → length xs ≤ n → take n xs ≡ xs
+take-all [] zero le = refl
+take-all [] (suc n) le = refl
+take-all (x ∷ xs) zero le = absurd (omega arith)
+take-all (x ∷ xs) (suc n) le = ap (λ ys. x ∷ ys) (take-all xs n (omega arith))
+
+pub union-all : (self list other : List ℕ) (i : ℕ) (both : List ℕ) → list ≡ other → length list ≤ i → ((j : ℕ) → Contains both j ↔ (Contains self j ⊎ Contains (take i list) j)) → (j : ℕ) → Contains both j ↔ (Contains self j ⊎ Contains other j)
+union-all self list other i both same all it j =
+    subst (λ xs. Contains both j ↔ (Contains self j ⊎ Contains xs j)) (take-all list i all ∙ same) (it j)

@@ -82,6 +82,21 @@ impl StateSet {
         }
     }
 
+    /// The set of the states that are in one of the two.
+    ///
+    /// # Errors
+    ///
+    /// `Memory` where memory is wanting.
+    pub fn union(&self, other: &StateSet) -> Result<StateSet, Memory>
+        ensures { IfOk result (λ both. (j : _) → Contains both j ↔ Contains self.now j ⊎ Contains other.now j) }
+    {
+        let mut both = self.clone()?;
+        for s in other.as_slice() {
+            both.insert(StateId(*s))?;
+        }
+        Ok(both)
+    }
+
     /// Takes a state out.
     pub fn remove(&mut self, s: StateId)
         ensures members { (j : _) → Contains self.new j ↔ Contains self.old j × (j ≢ s.0) }

@@ -1,8 +1,8 @@
-use Rattle.std.proofs.Common.{◌≡◌, ◌<◌, ◌∙◌, Bool, false, List, length, sym, subst, ap}
+use Rattle.std.proofs.Common.{◌≡◌, ◌<◌, ◌∙◌, false, List, length, sym, subst, ap}
 use Rattle.std.specs.Prelude.{replicate}
 use Rattle.std.proofs.lemmas.List.{length-replicate}
 use Rattle.mls_automaton.specs.declared.scheme.EnvEntry.{EnvEntry}
-use Rattle.mls_automaton.specs.steps.Searching.{Found, Grows, InEntries, search_of}
+use Rattle.mls_automaton.specs.steps.Searching.{Grows, InEntries, search_of}
 use Rattle.mls_automaton.proofs.Reaching.{begun, entries-low}
 use Rattle.mls_automaton.proofs.reach.begin.Goals as goal
 

@@ -1,8 +1,8 @@
-use Rattle.std.proofs.Common.{◌≡◌, ◌<◌, [], ◌∷◌, ◌++◌, arith, length, sym, subst, refl, Contains}
+use Rattle.std.proofs.Common.{◌≡◌, ◌<◌, [], arith, sym, subst, refl}
 use Rattle.std.proofs.lemmas.Grind.{common_steps}
 use Rattle.mls_automaton.specs.declared.automaton.Head.{Head}
-use Rattle.mls_automaton.specs.Reached.{HeadNames, Names}
-use Rattle.mls_automaton.specs.steps.Searching.{Found, Grows, search_of}
+use Rattle.mls_automaton.specs.Reached.{HeadNames}
+use Rattle.mls_automaton.specs.steps.Searching.{Grows, search_of}
 use Rattle.mls_automaton.proofs.Reaching.{last-low, looked, looked-less, searched, named-low}
 use Rattle.mls_automaton.proofs.reach.reached.Goals as goal
 

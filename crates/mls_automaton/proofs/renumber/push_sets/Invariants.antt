@@ -1,5 +1,4 @@
 use Rattle.std.proofs.Common.{◌≡◌, ◌++◌, map, take}
-use Rattle.mls_automaton.specs.Embeddings.{renamed_flow, renamed_state}
 use Rattle.mls_automaton.specs.steps.Numbers.{number_in}
 use Rattle.mls_automaton.proofs.renumber.push_sets.Given as goal
 

@@ -1,5 +1,5 @@
 use Rattle.std.proofs.Common.{◌≡◌, ◌++◌, map, take}
-use Rattle.mls_automaton.specs.Embeddings.{renamed_flow, renamed_state}
+use Rattle.mls_automaton.specs.Embeddings.{renamed_state}
 use Rattle.mls_automaton.specs.steps.Numbers.{number_in}
 use Rattle.mls_automaton.proofs.renumber.push_states.Given as goal
 

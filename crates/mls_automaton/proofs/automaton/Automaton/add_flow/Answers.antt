@@ -3,7 +3,7 @@ use Rattle.mls_automaton.specs.declared.automaton.Flow.{Flow}
 use Rattle.mls_automaton.proofs.Refusals.{refused, accepted}
 use Rattle.mls_automaton.specs.declared.automaton.Polarity.TheVariants.{Positive, Negative}
 use Rattle.mls_automaton.specs.Automata.{Automaton, HasFlow, IsState, flow}
-use Rattle.mls_automaton.proofs.IndexedFlows.{indexed-flow, indexed-undone, undone-read}
+use Rattle.mls_automaton.proofs.IndexedFlows.{flows-there, flows-added, indexed-flow, indexed-undone, undone-read}
 use Rattle.mls_automaton.proofs.automaton.Automaton.add_flow.Goals as goal
 
 pub invariant_of-self-then-is_err : goal.invariant_of-self-then-is_err
@@ -37,3 +37,12 @@ invariant_of-self-2 c =
     c.in_ok-insert.ensures.ok
     c.insert-2.ensures.rises
     (accepted c.insert-2.result ((j : ℕ) → Contains c.insert-2.new.self j ↔ (j ≡ c.args.negative.0) ⊎ Contains c.index_mut-2.result.now j) (sym c.is_err.ensures.value ∙ c.if-is_err.false) c.insert-2.ensures.ok)
+
+pub returns-then-has_flow-clause-flows : goal.returns-then-has_flow-clause-flows
+returns-then-has_flow-clause-flows c = flows-there c.args.self.now c.args.negative.0 c.args.positive.0 (c.has_flow.ensures.0 c.if-has_flow.true)
+
+pub returns-clause-flows : goal.returns-clause-flows
+returns-clause-flows c =
+    let f : Flow = flow c.args.negative.0 c.args.positive.0 in
+    flows-added c.args.self.now c.args.negative.0 c.args.positive.0 c.push.new.self.items
+    (c.in_ok-push.ensures.items ∙ ap (λ (fs : List Flow). fs ++ f ∷ []) c.reserve.ensures.items ∙ ap (λ (x : Automaton). x.flows ++ f ∷ []) c.self.view_is)

@@ -1,7 +1,6 @@
 use Rattle.std.proofs.Common.{◌≡◌, ◌+◌, List, ◌++◌, map, length, ap, ◌∙◌}
 use Rattle.mls_automaton.specs.declared.automaton.State.{State}
 use Rattle.mls_automaton.specs.declared.automaton.Flow.{Flow}
-use Rattle.mls_automaton.specs.Automata.{Automaton}
 use Rattle.mls_automaton.specs.Embeddings.{appended, renamed_flow, renamed_state}
 use Rattle.mls_automaton.proofs.IndexedAppends.{indexed-append}
 use Rattle.mls_automaton.proofs.automaton.Automaton.append.Goals as goal

@@ -1,6 +1,4 @@
-use Rattle.std.proofs.Common.{◌≡◌, List, [], ◌∷◌, ◌++◌, subst, sym, ◌∙◌, ap}
-use Rattle.mls_automaton.specs.Automata.{Automaton, with_state}
-use Rattle.mls_automaton.specs.Indexed.{IsIndexed}
+use Rattle.std.proofs.Common.{◌≡◌, [], ◌∷◌, ◌++◌}
 use Rattle.mls_automaton.proofs.IndexedFlows.{indexed-state}
 use Rattle.mls_automaton.proofs.automaton.Automaton.state.Goals as goal
 

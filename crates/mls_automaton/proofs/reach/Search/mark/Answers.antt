@@ -1,7 +1,7 @@
 use Rattle.std.proofs.Common.{◌≡◌, ◌∙◌, ℕ, true, false, sym, subst, List}
 use Rattle.std.proofs.lemmas.List.{get_or_default}
 use Rattle.std.proofs.Math.ListN.{set}
-use Rattle.mls_automaton.specs.steps.Searching.{Found, Grows, search_of}
+use Rattle.mls_automaton.specs.steps.Searching.{Grows, search_of}
 use Rattle.mls_automaton.proofs.Searches.{grows-one}
 use Rattle.mls_automaton.proofs.reach.Search.mark.Goals as goal
 

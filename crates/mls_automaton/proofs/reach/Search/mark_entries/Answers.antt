@@ -1,4 +1,4 @@
-use Rattle.std.proofs.Common.{◌<◌, get_or, length, sym, subst, refl}
+use Rattle.std.proofs.Common.{◌<◌, get_or, sym, subst, refl}
 use Rattle.std.proofs.lemmas.List.Elements.{Contains-get_or}
 use Rattle.mls_automaton.specs.steps.Searching.{search_of}
 use Rattle.mls_automaton.proofs.Searches.{entries-next}

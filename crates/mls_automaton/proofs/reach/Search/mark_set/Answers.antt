@@ -1,4 +1,4 @@
-use Rattle.std.proofs.Common.{ℕ, ◌<◌, List, length, sym, subst, get_or, Contains}
+use Rattle.std.proofs.Common.{ℕ, ◌<◌, List, sym, subst, get_or, Contains}
 use Rattle.std.proofs.lemmas.List.Elements.{Contains-get_or}
 use Rattle.mls_automaton.specs.steps.Searching.{search_of}
 use Rattle.mls_automaton.proofs.Searches.{set-next}

@@ -1,0 +1,4 @@
+//! The schemes that inference begins with, and how it puts schemes together.
+#![tactic(auto)]
+
+pub mod build;
