@@ -1,18 +1,17 @@
 -- The clash that is found is the first of all pairs.
-use Rattle.std.proofs.Common.{◌≡◌, ◌⊎◌, inl, inr, ℕ, ◌+◌, ◌<◌, ◌≤◌, ◌==◌, Bool, true, false, List, [], ◌∷◌, refl, sym, ap, ◌∙◌, subst, arith, length, get_or, Contains, Some, None}
+use Rattle.std.proofs.Common.{◌≡◌, ◌⊎◌, inl, inr, ℕ, ◌+◌, ◌<◌, ◌≤◌, ◌==◌, Bool, true, false, [], ◌∷◌, refl, sym, ◌∙◌, subst, arith, length, Some, None}
 use Rattle.std.specs.Prelude.{◌↔◌, IsTrue, Option, MatchOption, OnOk, IfErr, Result, Ok, Err}
 use Rattle.std.specs.Ordering.{nat_cmp, is_le}
 use Rattle.std.specs.Cmp.Lexicographic.{slice_cmp}
 use Rattle.std.proofs.lemmas.Bool.{eqb-true, eqb-false}
 use Rattle.std.proofs.lemmas.List.{get_or_default}
-use Rattle.mls_automaton.specs.declared.automaton.Head.{Head}
 use Rattle.mls_automaton.specs.Automata.{Automaton, head_at}
 use Rattle.mls_biunify.specs.declared.goal.Clash.{Clash}
 use Rattle.mls_biunify.specs.declared.goal.ClashKind.{ClashKind}
 use Rattle.mls_biunify.specs.Clashes.{Clashes, HasNoClash, IsClashOf, IsFirstClash, IsAtMost, clash_key, key_cmp, kind_key}
 use Rattle.mls_biunify.specs.Rooms.{Room, Holds}
 use Rattle.mls_biunify.specs.steps.FirstClashes.{IsFirstKind, IsFirstOf, IsEarlier, IsPairAt, IsPairBelow}
-use Rattle.mls_biunify.proofs.KeyOrder.{at_most-pair, IsAtMost-trans, IsAtMost-flip, key_total, at_most-self}
+use Rattle.mls_biunify.proofs.KeyOrder.{at_most-pair, IsAtMost-trans, IsAtMost-flip}
 
 pub earlier_right : (a : Automaton) (first other : Option Clash) (left right : Clash) → first ≡ Some left → other ≡ Some right → is_le (key_cmp (clash_key a left) (clash_key a right)) ≡ false → IsEarlier a first other (Some right)
 earlier_right a first other left right e e' later =

@@ -1,11 +1,11 @@
 -- The kind that is found is the first in which two heads clash.
-use Rattle.std.proofs.Common.{◌≡◌, ◌⊎◌, inl, inr, ℕ, ◌<◌, ◌≤◌, ◌&&◌, Bool, true, false, List, [], ◌∷◌, refl, sym, ap, ◌∙◌, subst, arith, length, get_or, Some, None}
-use Rattle.std.specs.Prelude.{IsTrue, Option, MatchOption, slice_get, is_some, is_none, not, nat_lt, position, cond}
+use Rattle.std.proofs.Common.{◌≡◌, inl, inr, ℕ, ◌<◌, ◌≤◌, ◌&&◌, Bool, true, false, List, [], refl, sym, ap, ◌∙◌, subst, arith, length, get_or, Some, None}
+use Rattle.std.specs.Prelude.{IsTrue, Option, MatchOption, is_some, is_none, not, nat_lt, position, cond}
 use Rattle.std.specs.List.{position_or_len}
 use Rattle.std.specs.Ordering.{nat_cmp, is_le}
-use Rattle.std.specs.declared.cmp.Ordering.TheVariants.{Less, Equal, Greater}
+use Rattle.std.specs.declared.cmp.Ordering.TheVariants.{Equal}
 use Rattle.std.specs.Cmp.Lexicographic.{slice_cmp}
-use Rattle.std.proofs.lemmas.Bool.{ltb-true, ltb-false, lt-ltb}
+use Rattle.std.proofs.lemmas.Bool.{ltb-true, ltb-false}
 use Rattle.std.proofs.lemmas.Option.{slice_get-get_or, get_or_from_slice_get}
 use Rattle.std.proofs.lemmas.List.Quantifiers.{position-Some}
 use Rattle.std.proofs.lemmas.List.Sums.{fails_before_first}
@@ -14,7 +14,7 @@ use Rattle.mls_automaton.specs.declared.automaton.Head.{Head}
 use Rattle.mls_automaton.specs.declared.automaton.HeadKind.{HeadKind}
 use Rattle.mls_automaton.specs.declared.automaton.HeadKind.TheVariants as kind
 use Rattle.mls_automaton.specs.Automata.{has_kind}
-use Rattle.mls_automaton.specs.Heads.{set_at, AreRising}
+use Rattle.mls_automaton.specs.Heads.{set_at}
 use Rattle.mls_automaton.specs.Models.{HasRisingLabels}
 use Rattle.mls_biunify.specs.declared.goal.ClashKind.{ClashKind}
 use Rattle.mls_biunify.specs.declared.goal.ClashKind.TheVariants.{Unlike, Lacks}

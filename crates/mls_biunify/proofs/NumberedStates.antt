@@ -7,7 +7,7 @@ use Rattle.std.proofs.lemmas.List.Elements.{Contains-append_left, Contains-appen
 use Rattle.mls_automaton.specs.declared.automaton.Polarity.{Polarity}
 use Rattle.mls_automaton.specs.declared.automaton.Polarity.TheVariants.{Positive, Negative}
 use Rattle.mls_automaton.specs.declared.automaton.State.{State}
-use Rattle.mls_automaton.specs.Automata.{Automaton, empty_head, polarity_at, IsState}
+use Rattle.mls_automaton.specs.Automata.{Automaton, empty_head, polarity_at}
 use Rattle.mls_automaton.proofs.Lists.{Contains-here, Contains-cases, All-contained}
 use Rattle.mls_biunify.specs.Rooms.{Room, is_positive, is_negative, Fits}
 use Rattle.mls_biunify.specs.steps.Numbering.{AreNumbered}

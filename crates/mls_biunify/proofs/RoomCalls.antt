@@ -1,10 +1,10 @@
 -- What the calls of a room do, by its parts.
-use Rattle.std.proofs.Common.{◌≡◌, ◌⊎◌, inl, inr, ℕ, ◌+◌, ◌*◌, ◌/◌, ◌%◌, ◌^◌, ◌<◌, ◌≤◌, List, [], ◌∷◌, ◌++◌, map, refl, sym, ap, ◌∙◌, subst, arith, length, take, get_or, Contains}
+use Rattle.std.proofs.Common.{◌≡◌, ℕ, ◌+◌, ◌*◌, ◌/◌, ◌%◌, ◌<◌, ◌≤◌, [], map, refl, sym, ap, ◌∙◌, subst, arith, length, take, get_or, Contains}
 use Rattle.std.specs.Prelude.{◌↔◌, All}
 use Rattle.std.proofs.Math.ListN.{set}
 use Rattle.std.proofs.lemmas.Nat.{div-mul-add, mod-mul-add}
 use Rattle.std.proofs.lemmas.List.{get_or-take, get_or_default, get_or-map, length-set, length-take-le, length-map}
-use Rattle.mls_automaton.proofs.Lists.{Contains-map, Contains-map_back}
+use Rattle.mls_automaton.proofs.Lists.{Contains-map}
 use Rattle.mls_biunify.specs.Rooms.{Room, Holds}
 use Rattle.mls_biunify.specs.steps.Numbers.{Numbers, Inserts, Copies, AreApart}
 use Rattle.mls_biunify.specs.steps.RoomParts.{Tables, pair_of, IsCell, AreTables, room_of}

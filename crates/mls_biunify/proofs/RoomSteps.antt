@@ -1,5 +1,5 @@
 -- Rooms by their parts: which cell a pair has, and how rooms grow with their cells.
-use Rattle.std.proofs.Common.{◌≡◌, ◌⊎◌, inl, inr, ℕ, ◌+◌, ◌*◌, ◌/◌, ◌%◌, ◌^◌, ◌<◌, ◌≤◌, ◌==◌, ◌≢◌, Bool, true, false, List, [], ◌∷◌, ◌++◌, map, refl, sym, ap, ◌∙◌, subst, arith, length, take, get_or, Contains}
+use Rattle.std.proofs.Common.{◌≡◌, inl, inr, ℕ, ◌+◌, ◌*◌, ◌^◌, ◌<◌, ◌≤◌, ◌==◌, ◌≢◌, Bool, true, false, List, [], ◌∷◌, map, refl, sym, ap, ◌∙◌, subst, arith, length, take, get_or, Contains}
 use Rattle.std.specs.Prelude.{◌↔◌, All}
 use Rattle.std.proofs.Math.ListN.{set}
 use Rattle.std.proofs.lemmas.Bool.{eqb-true, eqb-false}
@@ -8,8 +8,8 @@ use Rattle.std.proofs.Math.Nat.{mul-le-mul_right}
 use Rattle.std.proofs.lemmas.Nat.{div-mul-add, mod-mul-add}
 use Rattle.std.proofs.lemmas.List.{get_or-take, get_or_default, get_or-set_same, get_or-set_other, length-set, length-take-le, map-append}
 use Rattle.mls_automaton.proofs.Lists.{Contains-map, Contains-map_back}
-use Rattle.mls_biunify.specs.Rooms.{Room, Holds}
-use Rattle.mls_biunify.specs.steps.Numbers.{Numbers, Inserts, Copies, AreApart}
+use Rattle.mls_biunify.specs.Rooms.{Holds}
+use Rattle.mls_biunify.specs.steps.Numbers.{Numbers, Inserts}
 use Rattle.mls_biunify.specs.steps.RoomParts.{Tables, pair_of, IsCell, ArePlaced, AreTables, room_of}
 use Rattle.mls_biunify.specs.steps.Growth.{Relates}
 

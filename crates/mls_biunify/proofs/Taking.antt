@@ -1,6 +1,6 @@
 -- What follows from the pairs of a room, one pair after another.
 use Rattle.std.proofs.Common.{◌≡◌, ◌⊎◌, inl, inr, ℕ, zero, suc, ◌+◌, ◌<◌, ◌≤◌, ◌==◌, Bool, true, false, List, [], ◌∷◌, ◌++◌, refl, sym, ap, ◌∙◌, subst, arith, append_assoc, append-nil, length, length-append, take, get_or, Contains, Some, None}
-use Rattle.std.specs.Prelude.{◌↔◌, Option, slice_get}
+use Rattle.std.specs.Prelude.{Option, slice_get}
 use Rattle.std.proofs.lemmas.Bool.{eqb-true, eqb-false}
 use Rattle.std.proofs.lemmas.List.{get_or_default, get_or_append_left}
 use Rattle.std.proofs.lemmas.List.Elements.{Contains-append_left}
@@ -15,7 +15,7 @@ use Rattle.mls_automaton.proofs.CombinedStates.{found_at}
 use Rattle.mls_biunify.specs.Relations.{InDomain, InCodomain, InField, IsRelated, goal, domain, codomain, field, along}
 use Rattle.mls_biunify.specs.Rooms.{Room, Holds, HoldsJust}
 use Rattle.mls_biunify.specs.steps.Growth.{Relates}
-use Rattle.mls_biunify.specs.steps.Consequences.{ByFunctions, ByField, ByRecords, ByHeads, IsRoomOf, Follows, HasConsequences, first_of, second_of, AreTaken}
+use Rattle.mls_biunify.specs.steps.Consequences.{ByFunctions, ByRecords, ByHeads, IsRoomOf, Follows, HasConsequences, first_of, second_of, AreTaken}
 use Rattle.mls_biunify.proofs.RelatedHeads.{IsFieldAt, set_at-field}
 use Rattle.mls_biunify.proofs.Following.{related_states}
 use Rattle.mls_biunify.proofs.Relating.{taken-cases, Relates-kept}

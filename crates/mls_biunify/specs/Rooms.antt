@@ -1,6 +1,5 @@
 -- Rooms: the relations that are found in space that was taken before.
-use Rattle.std.specs.Prelude.{◌≡◌, ◌↔◌, ℕ, ◌≤◌, List, Contains, count_by}
-use Rattle.mls_automaton.specs.declared.automaton.Polarity.{Polarity}
+use Rattle.std.specs.Prelude.{◌↔◌, ℕ, ◌≤◌, List, Contains, count_by}
 use Rattle.mls_automaton.specs.declared.automaton.Polarity.TheVariants.{Positive, Negative}
 use Rattle.mls_automaton.specs.declared.automaton.State.{State}
 use Rattle.mls_automaton.specs.Automata.{Automaton}

@@ -40,8 +40,8 @@ pub fn are_goals(a: &Automaton, goals: &[Goal]) -> bool
     })
 }
 
-// Whether the state is there and has the polarity.
-fn is_state(a: &Automaton, s: StateId, polarity: Polarity) -> bool
+/// Whether the state is there and has the polarity.
+pub fn is_state(a: &Automaton, s: StateId, polarity: Polarity) -> bool
     ensures { IsTrue result ↔ IsState a.now polarity s.0 }
 {
     s.0 < a.len() && a.polarity(s) == polarity

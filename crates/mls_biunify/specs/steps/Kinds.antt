@@ -1,5 +1,5 @@
 -- The first clash of two heads, as a function.
-use Rattle.std.specs.Prelude.{◌≡◌, ℕ, Bool, true, false, ◌&&◌, cond, List, is_some, is_none, Option, Some, None}
+use Rattle.std.specs.Prelude.{Bool, false, ◌&&◌, cond, List, is_some, is_none, Option, Some, None}
 use Rattle.mls_automaton.specs.declared.automaton.FieldSet.{FieldSet}
 use Rattle.mls_automaton.specs.declared.automaton.Head.{Head}
 use Rattle.mls_automaton.specs.declared.automaton.HeadKind.{HeadKind}

@@ -1,5 +1,5 @@
 use super::saturate;
-use crate::goal::{Clash, ClashKind, Goal, HeadKind, are_goals};
+use crate::goal::{Clash, ClashKind, Goal, HeadKind, are_goals, is_state};
 use crate::room::Room;
 use mls_automaton::automaton::{Arms, Automaton, FieldSet, FieldSets, Head, Polarity};
 use mls_automaton::state_set::{StateId, StateSet};
@@ -63,19 +63,17 @@ fn automaton<const P: usize, const N: usize>(
     edges: &[(usize, usize)],
 ) -> Result<Automaton, Memory> {
     let mut a = Automaton::new(alloc);
-    for head in positives {
+    for head in Vec::from_array(alloc, positives)? {
         a.state(Polarity::Positive, head)?;
     }
-    for head in negatives {
+    for head in Vec::from_array(alloc, negatives)? {
         a.state(Polarity::Negative, head)?;
     }
     for (negative, positive) in edges {
-        let edge = Goal {
-            positive: StateId(*positive),
-            negative: StateId(*negative),
-        };
-        assert!(rt; are_goals(&a, &[edge]));
-        a.add_flow(edge.negative, edge.positive)?;
+        let (negative, positive) = (StateId(*negative), StateId(*positive));
+        assert!(rt; is_state(&a, negative, Polarity::Negative));
+        assert!(rt; is_state(&a, positive, Polarity::Positive));
+        a.add_flow(negative, positive)?;
     }
     Ok(a)
 }

@@ -1,4 +1,4 @@
-use Rattle.std.proofs.Common.{◌≡◌, ℕ, ◌&&◌, false, get_or, take, length}
+use Rattle.std.proofs.Common.{◌≡◌, ℕ, ◌&&◌, false, get_or, take}
 use Rattle.std.specs.Prelude.{not}
 use Rattle.mls_biunify.specs.steps.Among.{is_among}
 use Rattle.mls_biunify.proofs.cells.unmark.Given as goal

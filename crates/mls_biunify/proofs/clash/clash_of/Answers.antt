@@ -1,4 +1,4 @@
-use Rattle.std.proofs.Common.{◌≡◌, sym, ◌∙◌}
+use Rattle.std.proofs.Common.{sym}
 use Rattle.mls_biunify.proofs.FirstKinds.{lacks_none, lacks_first, unlike_other, unlike_first}
 use Rattle.mls_biunify.proofs.clash.clash_of.Goals as goal
 

@@ -1,4 +1,4 @@
-use Rattle.std.proofs.Common.{◌≡◌, sym, ap, ◌∙◌}
+use Rattle.std.proofs.Common.{sym, ap, ◌∙◌}
 use Rattle.std.specs.Ordering.{is_le}
 use Rattle.mls_biunify.proofs.FirstClashes.{earlier_right}
 use Rattle.mls_biunify.proofs.clash.earlier.Goals as goal

@@ -1,4 +1,4 @@
-use Rattle.std.proofs.Common.{◌≡◌, ◌<◌, ◌≤◌, Some, None, length, subst, arith}
+use Rattle.std.proofs.Common.{◌≡◌, length, subst, arith}
 use Rattle.mls_biunify.specs.steps.FirstClashes.{IsFirstOf, IsPairBelow}
 use Rattle.mls_biunify.proofs.FirstClashes.{first_none, first_more, first_in_range, at_in_range, none_at_all, first_at_all}
 use Rattle.mls_biunify.proofs.clash.first_clash.Goals as goal

@@ -1,5 +1,5 @@
-use Rattle.std.proofs.Common.{◌≡◌, ℕ, List, Contains, get_or, ◌<◌, inl, refl, subst, sym, length, arith}
-use Rattle.mls_automaton.specs.Automata.{IsPartner, HasFlow, flow}
+use Rattle.std.proofs.Common.{ℕ, List, Contains, get_or, ◌<◌, inl, subst, sym, arith}
+use Rattle.mls_automaton.specs.Automata.{HasFlow, flow}
 use Rattle.mls_biunify.proofs.Relating.{element, take-all}
 use Rattle.mls_biunify.proofs.Taking.{Follows-none, partner_above, after-follows, after-more}
 use Rattle.mls_biunify.proofs.saturate.add_after.Goals as goal

@@ -1,5 +1,5 @@
-use Rattle.std.proofs.Common.{◌≡◌, ℕ, List, Contains, get_or, ◌<◌, inr, refl, subst, sym, length, arith}
-use Rattle.mls_automaton.specs.Automata.{IsPartner, HasFlow, flow}
+use Rattle.std.proofs.Common.{ℕ, List, Contains, get_or, ◌<◌, inr, subst, sym, arith}
+use Rattle.mls_automaton.specs.Automata.{HasFlow, flow}
 use Rattle.mls_biunify.proofs.Relating.{element, take-all}
 use Rattle.mls_biunify.proofs.Taking.{Follows-none, partner_below, before-follows, before-more}
 use Rattle.mls_biunify.proofs.saturate.add_before.Goals as goal

@@ -1,4 +1,4 @@
-use Rattle.std.proofs.Common.{◌≡◌, ℕ, List, Contains, get_or, refl, subst, sym}
+use Rattle.std.proofs.Common.{ℕ, List, Contains, subst, sym}
 use Rattle.mls_biunify.specs.steps.Consequences.{ByFunctions}
 use Rattle.mls_biunify.proofs.Relating.{Relates-then}
 use Rattle.mls_biunify.proofs.HeadRules.{by_domain, by_codomain, by_functions-cases}

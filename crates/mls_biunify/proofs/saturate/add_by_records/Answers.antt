@@ -1,4 +1,3 @@
-use Rattle.std.proofs.Common.{◌≡◌, ℕ, List, Contains, get_or, refl, subst, sym}
 use Rattle.mls_biunify.specs.steps.Growth.{BySome}
 use Rattle.mls_biunify.specs.steps.Consequences.{ByField, ByRecords}
 use Rattle.mls_biunify.proofs.Relating.{Relates-same}

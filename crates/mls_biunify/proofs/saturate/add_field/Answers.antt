@@ -1,4 +1,4 @@
-use Rattle.std.proofs.Common.{◌≡◌, ℕ, List, Contains, get_or, refl, subst, sym}
+use Rattle.std.proofs.Common.{Contains}
 use Rattle.mls_biunify.specs.steps.Consequences.{ByField}
 use Rattle.mls_biunify.proofs.Relating.{Relates-same}
 use Rattle.mls_biunify.proofs.HeadRules.{by_field-to, by_field-from}

@@ -1,5 +1,4 @@
-use Rattle.std.proofs.Common.{◌≡◌, ℕ, List, Contains, get_or, refl, subst, sym}
-use Rattle.mls_biunify.specs.Rooms.{Room}
+use Rattle.std.proofs.Common.{ℕ, List, Contains, subst, sym}
 use Rattle.mls_automaton.specs.declared.automaton.FieldSet.{FieldSet}
 use Rattle.mls_biunify.specs.steps.Growth.{Relates}
 use Rattle.mls_biunify.specs.steps.Consequences.{ByField}

@@ -1,4 +1,4 @@
-use Rattle.std.proofs.Common.{◌≡◌, ℕ, List, Contains, get_or, refl, subst, sym}
+use Rattle.std.proofs.Common.{ℕ, List, Contains, get_or, subst, sym}
 use Rattle.mls_biunify.specs.declared.goal.Goal.{Goal}
 use Rattle.mls_biunify.specs.Relations.{IsGoal}
 use Rattle.mls_biunify.specs.steps.Growth.{BySome}

@@ -1,5 +1,4 @@
-use Rattle.std.proofs.Common.{◌≡◌, ℕ, List, Contains, get_or, refl, subst, sym}
-use Rattle.mls_biunify.specs.Rooms.{Room}
+use Rattle.std.proofs.Common.{◌≡◌, ℕ, List, Contains, get_or, subst, sym}
 use Rattle.mls_biunify.proofs.Relating.{element, Relates-more, Relates-all}
 use Rattle.mls_biunify.proofs.saturate.add_set.Goals as goal
 

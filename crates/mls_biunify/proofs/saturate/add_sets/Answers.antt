@@ -1,5 +1,4 @@
 use Rattle.std.proofs.Common.{◌≡◌, ℕ, List, Contains, get_or, refl, subst, sym}
-use Rattle.mls_biunify.specs.Rooms.{Room}
 use Rattle.mls_biunify.specs.steps.Growth.{BySome}
 use Rattle.mls_biunify.proofs.Relating.{element, Relates-more, Relates-all, Relates-same}
 use Rattle.mls_biunify.proofs.saturate.add_sets.Goals as goal

@@ -1,4 +1,4 @@
-use Rattle.std.proofs.Common.{◌≡◌, ℕ, ◌<◌, ◌≤◌, List, Contains, length, subst, sym, arith}
+use Rattle.std.proofs.Common.{◌≡◌, ℕ, ◌<◌, ◌≤◌, List, Contains, length, subst, arith}
 use Rattle.mls_biunify.proofs.Taking.{taken-none, taken-next, taken-all, room_of-kept}
 use Rattle.mls_biunify.proofs.saturate.close.Goals as goal
 

@@ -1,4 +1,4 @@
-use Rattle.std.proofs.Common.{ℕ, ◌*◌, ◌-◌}
+use Rattle.std.proofs.Common.{◌*◌, ◌-◌}
 use Rattle.mls_biunify.specs.steps.Consequences.{AreTaken}
 use Rattle.mls_biunify.proofs.saturate.close.Given as goal
 

@@ -1,5 +1,4 @@
-use Rattle.std.proofs.Common.{◌≡◌, ℕ, ◌+◌, ◌<◌, ◌≤◌, count_by, length, refl, subst, sym, ◌∙◌, arith}
-use Rattle.mls_automaton.specs.Automata.{polarity_at}
+use Rattle.std.proofs.Common.{◌≡◌, ◌+◌, ◌<◌, ◌≤◌, count_by, length, subst, sym, ◌∙◌, arith}
 use Rattle.mls_biunify.specs.Rooms.{Room, Fits, is_positive, is_negative}
 use Rattle.mls_biunify.specs.steps.Numbering.{AreNumbered}
 use Rattle.mls_biunify.proofs.NumberedStates.{rows_below, columns_below, state_fits, row_numbered, column_numbered, all_numbered}

@@ -1,5 +1,5 @@
-use Rattle.std.proofs.Common.{◌≡◌, ◌⊎◌, inl, inr, ℕ, ◌<◌, List, [], Contains, subst, sym, arith}
-use Rattle.mls_biunify.specs.Relations.{IsGoal, IsRelated, goal as is_goal}
+use Rattle.std.proofs.Common.{◌≡◌, inl, inr, ℕ, ◌<◌, List, [], Contains, subst, sym, arith}
+use Rattle.mls_biunify.specs.Relations.{IsGoal, goal as is_goal}
 use Rattle.mls_biunify.specs.Rooms.{Room, Holds}
 use Rattle.mls_biunify.specs.steps.Growth.{Relates}
 use Rattle.mls_biunify.specs.steps.Consequences.{IsRoomOf}

@@ -1,4 +1,3 @@
-use Rattle.std.proofs.Common.{◌≡◌}
 use Rattle.mls_biunify.specs.Relations.{IsGoal, IsRelated}
 use Rattle.mls_biunify.specs.Rooms.{Holds}
 use Rattle.mls_biunify.proofs.Following.{goals_between, related_states}

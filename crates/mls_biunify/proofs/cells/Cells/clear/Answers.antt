@@ -1,4 +1,4 @@
-use Rattle.std.proofs.Common.{◌≡◌, ◌<◌, ℕ, ◌&&◌, ◌++◌, Bool, false, List, All, length, take, drop, get_or, refl, subst, sym, ◌∙◌, ap, arith}
+use Rattle.std.proofs.Common.{◌≡◌, ◌<◌, ℕ, ◌&&◌, ◌++◌, Bool, false, List, All, length, take, drop, get_or, subst, sym, ◌∙◌, ap, arith}
 use Rattle.std.specs.Prelude.{not}
 use Rattle.std.proofs.Math.Seq.{take-length}
 use Rattle.std.proofs.lemmas.List.{take-append-le}

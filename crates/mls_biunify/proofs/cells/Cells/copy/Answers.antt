@@ -1,4 +1,4 @@
-use Rattle.std.proofs.Common.{◌≡◌, ◌+◌, ◌*◌, true, false, subst, sym, ◌∙◌}
+use Rattle.std.proofs.Common.{◌≡◌, ◌+◌, true, false, subst, sym}
 use Rattle.mls_biunify.specs.steps.Numbers.{Numbers, Inserts, Copies}
 use Rattle.mls_biunify.proofs.NumberSteps.{copy-member, copy-other}
 use Rattle.mls_biunify.proofs.cells.Cells.copy.Goals as goal

@@ -1,5 +1,4 @@
-use Rattle.std.proofs.Common.{◌≡◌, ◌^◌, ◌≤◌, Bool, false, ℕ, List, length, ap, sym, ◌∙◌, subst, arith}
-use Rattle.std.proofs.Math.ListN.{replicate}
+use Rattle.std.proofs.Common.{◌≡◌, ◌^◌, ◌≤◌, Bool, List, length, ap, sym, ◌∙◌, subst, arith}
 use Rattle.std.proofs.lemmas.List.{length-replicate}
 use Rattle.mls_biunify.specs.steps.Cells.{AreCells}
 use Rattle.mls_biunify.proofs.CellSteps.{cells-empty}

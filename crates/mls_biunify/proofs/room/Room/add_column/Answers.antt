@@ -1,4 +1,3 @@
-use Rattle.std.proofs.Common.{◌+◌, ◌*◌, ◌^◌, ◌<◌, ◌≤◌, arith}
 use Rattle.mls_biunify.specs.steps.RoomParts.{tables_of}
 use Rattle.mls_biunify.proofs.RoomCalls.{column_added, no_pairs}
 use Rattle.mls_biunify.proofs.room.Room.add_column.Goals as goal

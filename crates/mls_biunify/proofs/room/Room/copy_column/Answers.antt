@@ -1,6 +1,5 @@
-use Rattle.std.proofs.Common.{◌+◌, ◌*◌, ◌^◌, ◌<◌, ◌≤◌, arith}
 use Rattle.mls_biunify.specs.steps.RoomParts.{tables_of}
-use Rattle.mls_biunify.proofs.RoomCalls.{column_apart, column_tables, column_relates}
+use Rattle.mls_biunify.proofs.RoomCalls.{column_tables, column_relates}
 use Rattle.mls_biunify.proofs.room.Room.copy_column.Goals as goal
 
 pub invariant_of-self : goal.invariant_of-self

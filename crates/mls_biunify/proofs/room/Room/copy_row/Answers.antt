@@ -1,4 +1,3 @@
-use Rattle.std.proofs.Common.{◌+◌, ◌*◌, ◌^◌, ◌<◌, ◌≤◌, arith}
 use Rattle.mls_biunify.specs.steps.RoomParts.{tables_of}
 use Rattle.mls_biunify.proofs.RoomCalls.{row_apart, row_tables, row_relates}
 use Rattle.mls_biunify.proofs.room.Room.copy_row.Goals as goal

@@ -1,5 +1,3 @@
-use Rattle.std.proofs.Common.{◌≡◌, ℕ, true, false}
-use Rattle.std.specs.Prelude.{◌↔◌}
 use Rattle.mls_biunify.specs.steps.RoomParts.{tables_of}
 use Rattle.mls_biunify.proofs.RoomCalls.{held_at, held_row, held_column}
 use Rattle.mls_biunify.proofs.room.Room.holds.Goals as goal
