@@ -39,7 +39,8 @@ def main():
             log.write(line)
             log.flush()
             if line.startswith("rt:"):
-                print(f"{seconds_of(gate.pid):8.1f} s of processor, {time.time() - begin:7.1f} s: {line[4:90].rstrip()}", flush=True)
+                passed = time.time() - begin
+                print(f"{seconds_of(gate.pid):8.1f} s of processor, {passed:7.1f} s: {line[4:90].rstrip()}", flush=True)
     status = gate.wait()
     used = resource.getrusage(resource.RUSAGE_CHILDREN)
     print(f"{used.ru_utime + used.ru_stime:8.1f} s of processor in all, status {status}")
