@@ -71,24 +71,3 @@ pub fn drop_binder(scheme: &mut Scheme, binder: usize) -> Option<StateId>
 {
     scheme.env.remove(binder)
 }
-
-#[cfg(test)]
-mod tests {
-    use super::*;
-    use std::test::Fail;
-
-    #[test]
-    fn builds_the_smallest_schemes(rt: HostRuntime) -> Result<(), Fail> {
-        let mut scheme = lambda_use(rt.alloc(), 3)?;
-        assert_eq!(rt; scheme.automaton.len(), 2, "states of a use");
-        assert_eq!(rt;
-            drop_binder(&mut scheme, 2).is_some(),
-            false,
-            "another binder"
-        );
-        assert_eq!(rt; drop_binder(&mut scheme, 3).is_some(), true, "its binder");
-        let number = constant(rt.alloc(), HeadKind::Int)?;
-        assert_eq!(rt; number.automaton.head(number.root).integer, true, "number");
-        Ok(())
-    }
-}
