@@ -97,7 +97,7 @@ grows-both a b c P Q R first second is-first is-second parts = record {
 
 -- the elements up to the next one
 module _ {X : Type 0} (xs : List X) (i : ℕ) (d : X) (low : i < length xs) where
-  next-is : take (i + 1) xs ≡ take i xs ++ get_or xs i d ∷ []
+  pub next-is : take (i + 1) xs ≡ take i xs ++ get_or xs i d ∷ []
   next-is = ap (λ k. take k xs) (add-one i) ∙ take-suc xs i d low
 
   pub next-more : (x : X) → Contains (take i xs) x → Contains (take (i + 1) xs) x

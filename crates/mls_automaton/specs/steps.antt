@@ -1,3 +1,4 @@
 pub mod Numbers
 pub mod Searching
 pub mod Keeping
+pub mod Combining
