@@ -1,9 +1,0 @@
-pub mod Rising
-pub mod Numbering
-pub mod Writing
-pub mod Flat
-pub mod Printing
-pub mod Visits
-pub mod Tables
-pub mod Progress
-pub mod Items
