@@ -2,3 +2,5 @@
 #![tactic(auto)]
 
 pub mod build;
+#[cfg(test)]
+mod tests;
