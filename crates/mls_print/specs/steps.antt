@@ -1,0 +1,11 @@
+pub mod Rising
+pub mod Numbering
+pub mod Variables
+pub mod Writing
+pub mod Flat
+pub mod Printing
+pub mod Visits
+pub mod Tables
+pub mod Progress
+pub mod Items
+pub mod Joining
