@@ -1,16 +1,19 @@
 -- The combined head of a set is made part by part, and depends on the members of the set alone.
 --     flat-function, flat-fields, flat-boolean, flat-integer      the parts of a combined head
---     same_set_heads                                              sets of the same members have the same head
-use Rattle.std.proofs.Common.{◌≡◌, ◌⊎◌, inl, inr, ℕ, Bool, true, false, not, ◌||◌, List, [], ◌∷◌, ◌++◌, map, refl, sym, ap, ◌∙◌, subst, Contains, Some, None, append-nil}
+--     same_boolean, same_integer, same_function, same_fields      sets of the same members have the same head
+--     no_function_joined, function_joined                         what is found of the function of a combined head
+use Rattle.std.proofs.Common.{◌≡◌, ℕ, Bool, true, false, not, ◌||◌, List, [], ◌∷◌, ◌++◌, map, refl, sym, ap, ◌∙◌, subst, Some, None, append-nil}
 use Rattle.std.specs.Prelude.{Option, is_some, unwrap_or, cond}
 use Rattle.std.specs.List.{flat_map, list_any}
 use Rattle.mls_automaton.specs.declared.automaton.Polarity.{Polarity}
 use Rattle.mls_automaton.specs.declared.automaton.Polarity.TheVariants.{Positive, Negative}
 use Rattle.mls_automaton.specs.declared.automaton.Arms.{Arms}
 use Rattle.mls_automaton.specs.Automata.{Automaton, head_at}
-use Rattle.mls_automaton.specs.Heads.{Parts, parts_of, combined_functions, combined_records, combined_sets, combined, IsSameSet, IsSameOption, IsSameParts}
+use Rattle.mls_automaton.specs.Heads.{Parts, parts_of, combined_functions, combined_records, combined_sets, combined, IsSameSet, IsSameOption}
 use Rattle.mls_automaton.proofs.Lists.{any_found, found_any, Contains-flat_map, Contains-flat_map_back}
 use Rattle.mls_print.specs.steps.Flat.{domain_in, codomain_in, has_label, lacks_label, set_in, flat_function, shown_label, flat_set, flat_record}
+use Rattle.mls_print.specs.steps.Joining.{function_of_all}
+use Rattle.mls_print.specs.steps.Tables.{IsFunctionOf}
 use Rattle.mls_print.specs.Shown.{set_head}
 
 abbrev Sets : Type 0
@@ -98,7 +101,6 @@ module _ {X : Type 0} (parts : X → Parts) where
           → ((has_label label o || list_any (λ x. has_label label (fields_at x)) xs) ≡ false) × (((lacks_label label o || list_any (λ x. lacks_label label (fields_at x)) xs) ≡ false) × (set_in label o ++ flat_map (λ x. set_in label (fields_at x)) xs ≡ []))
       go None e later = later e
       go (Some sets) e later = absurd (cc)
-
 
   no-label : (label : List ℕ) (xs : List X) → list_any (λ x. has_label label (fields_at x)) xs ≡ false → flat_map (λ x. set_in label (fields_at x)) xs ≡ []
   no-label label [] e = refl
@@ -198,3 +200,12 @@ module _ (a : Automaton) (p : Polarity) (xs ys : List ℕ) (same : IsSameSet xs 
       go false false e = tt
       go true false e = absurd (cc)
       go false true e = absurd (cc)
+
+-- what is found of the function of a combined head
+pub no_function_joined : (a : Automaton) (set : List ℕ) → list_any (λ s. is_some (head_at a s).function) set ≡ false → IsFunctionOf (function_of_all a set) None
+no_function_joined a set e = subst (λ b. IsFunctionOf (cond b (Some (record { domain = flat_map (λ s. domain_in (head_at a s).function) set; codomain = flat_map (λ s. codomain_in (head_at a s).function) set })) None) None) (sym e) tt
+
+pub function_joined : (a : Automaton) (set domain codomain : List ℕ) → list_any (λ s. is_some (head_at a s).function) set ≡ true → IsSameSet (flat_map (λ s. domain_in (head_at a s).function) set) domain → IsSameSet (flat_map (λ s. codomain_in (head_at a s).function) set) codomain
+    → IsFunctionOf (function_of_all a set) (Some (record { domain = domain; codomain = codomain }))
+function_joined a set domain codomain e first second =
+    subst (λ b. IsFunctionOf (cond b (Some (record { domain = flat_map (λ s. domain_in (head_at a s).function) set; codomain = flat_map (λ s. codomain_in (head_at a s).function) set })) None) (Some (record { domain = domain; codomain = codomain }))) (sym e) (first, second)

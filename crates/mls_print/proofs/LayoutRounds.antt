@@ -1,6 +1,6 @@
 -- One round of the layout.
 --     told_advances, left_advances, again_advances, domain_again_advances, begun_advances, domain_advances
-use Rattle.std.proofs.Common.{◌≡◌, ◌⊎◌, inl, inr, ℕ, zero, suc, ◌+◌, ◌<◌, ◌≤◌, Bool, true, false, List, [], ◌∷◌, ◌++◌, map, refl, sym, ap, ◌∙◌, subst, arith, length, get_or, slice_set, reverse, replicate, All, Contains, Some, None, codes, append_assoc, append-nil}
+use Rattle.std.proofs.Common.{◌≡◌, inl, inr, ℕ, ◌+◌, ◌<◌, ◌≤◌, Bool, true, false, List, [], ◌∷◌, ◌++◌, map, refl, sym, ap, ◌∙◌, subst, arith, length, get_or, slice_set, reverse, replicate, All, Some, None, codes, append_assoc, append-nil}
 use Rattle.std.specs.Prelude.{Option, option_map, cond}
 use Rattle.std.specs.Global.{Vec}
 use Rattle.std.proofs.lemmas.List.{get_or_append_left, length-append, length-set, length-replicate, get_or-replicate, reverse-append, reverse-reverse}
@@ -8,7 +8,6 @@ use Rattle.std.proofs.lemmas.List.Sorted.{All-permutation, IsPermutation-reverse
 use Rattle.std.proofs.lemmas.List.Elements.{All-nil, All-cons, All-head, All-tail, All-push, All-append, All-weaker, All-contains, Contains-push}
 use Rattle.mls_automaton.specs.declared.automaton.Polarity.{Polarity}
 use Rattle.mls_automaton.specs.declared.automaton.Polarity.TheVariants.{Positive}
-use Rattle.mls_automaton.specs.Automata.{Automaton}
 use Rattle.mls_automaton.proofs.Lists.{All-one}
 use Rattle.mls_print.specs.declared.components.Item.{Item as LaidItem}
 use Rattle.mls_print.specs.declared.components.Item.TheVariants as laid
@@ -19,15 +18,15 @@ use Rattle.mls_print.specs.declared.row.Row.{Row}
 use Rattle.mls_print.specs.declared.row.RowArms.{RowArms}
 use Rattle.mls_print.specs.declared.row.RowField.{RowField}
 use Rattle.mls_print.specs.declared.row.Table.{Table}
-use Rattle.mls_print.specs.Shown.{IsNew, Shown, again, a_set, ShownFunction, ShownRecord, Shows}
+use Rattle.mls_print.specs.Shown.{IsNew, Shown, again, a_set, Shows}
 use Rattle.mls_print.specs.Keys.{sets_in}
-use Rattle.mls_print.specs.Pieces.{Piece, bytes, name_of, begins, opens, closes, in_parens, is_function_alone, domain_pieces, pieces_of}
-use Rattle.mls_print.specs.steps.Printing.{Place, sets_around, numbers_around, tell, show, show_domain, Tells}
+use Rattle.mls_print.specs.Pieces.{Piece, bytes, opens, closes, in_parens, is_function_alone, domain_pieces, pieces_of}
+use Rattle.mls_print.specs.steps.Printing.{Place, sets_around, numbers_around, show, Tells}
 use Rattle.mls_print.specs.steps.Tables.{set_at, arms_of, HasArmsBelow, HasFieldsBelow, IsWithin, ShowsRow, IsWhole}
 use Rattle.mls_print.specs.steps.Visits.{IsVisited}
 use Rattle.mls_print.specs.steps.Items.{items_told, row_items, row_is_alone, fields_of, IsDomain, IsCodomain, IsFieldSet}
 use Rattle.mls_print.specs.steps.Writing.{piece_of, HasStateBelow, HasSetBelow}
-use Rattle.mls_print.specs.steps.Progress.{Near, places, told, IsNested, AreApart, IsItemBelow, Plan, IsPlan, IsSound, IsOnPlan, IsSafe, Advances, AreParens, IsLaidOut, pieces_in}
+use Rattle.mls_print.specs.steps.Progress.{Near, places, told, IsItemBelow, Plan, IsPlan, IsSound, IsOnPlan, IsSafe, Advances, AreParens, pieces_in}
 use Rattle.mls_print.proofs.OneText.{around-new as not-again}
 use Rattle.mls_print.proofs.RowShows.{parts_shown}
 use Rattle.mls_print.proofs.SoundRows.{IsRowItem, row_sound}

@@ -1,11 +1,11 @@
 -- The loop of the layout: an item is taken, and the pieces so far and those that are left stay those of the tree.
 --     push_piece, tell_taken, again_on_plan, domain_again_on_plan, leave_taken, begin_taken      one round of the loop
-use Rattle.std.proofs.Common.{◌≡◌, ◌≢◌, ◌⊎◌, inl, inr, ℕ, zero, suc, ◌+◌, ◌<◌, ◌≤◌, ◌==◌, Bool, true, false, List, [], ◌∷◌, ◌++◌, map, refl, sym, ap, ◌∙◌, subst, arith, length, get_or, slice_set, All, Contains, Some, None, append_assoc}
+use Rattle.std.proofs.Common.{◌≡◌, inl, inr, ℕ, suc, ◌+◌, ◌<◌, ◌≤◌, ◌==◌, Bool, true, false, List, [], ◌∷◌, ◌++◌, map, refl, sym, ap, ◌∙◌, subst, arith, length, get_or, slice_set, All, Contains, Some, None, append_assoc}
 use Rattle.std.specs.Prelude.{Option, option_map, is_some, unwrap_or, cond}
 use Rattle.std.specs.Global.{Vec}
 use Rattle.std.proofs.lemmas.Bool.{cases_eq}
 use Rattle.std.proofs.lemmas.Bool.Decides.{nat_tests}
-use Rattle.std.proofs.lemmas.List.{map-append, length-set, get_or-set_same, get_or-set_other}
+use Rattle.std.proofs.lemmas.List.{map-append, get_or-set_same, get_or-set_other}
 use Rattle.std.proofs.lemmas.List.Elements.{All-nil, All-cons, All-head, All-tail, All-push, All-append, All-weaker, All-contains}
 use Rattle.mls_automaton.specs.declared.automaton.Polarity.{Polarity}
 use Rattle.mls_automaton.specs.declared.automaton.Polarity.TheVariants.{Positive, Negative}
@@ -26,18 +26,18 @@ use Rattle.mls_print.specs.declared.row.RowArms.{RowArms}
 use Rattle.mls_print.specs.declared.row.RowField.{RowField}
 use Rattle.mls_print.specs.declared.row.Table.{Table}
 use Rattle.mls_print.specs.Walks.{states_below, flows_into, is_member, holders, shown_variables}
-use Rattle.mls_print.specs.Shown.{Shown, again, a_set, set_head, IsAround, IsNew, Shows}
+use Rattle.mls_print.specs.Shown.{set_head, IsAround, IsNew}
 use Rattle.mls_print.specs.Keys.{recursion, sets_in}
 use Rattle.mls_print.specs.Pieces.{Piece, name_of, begins}
-use Rattle.mls_print.specs.steps.Printing.{Place, sets_around, numbers_around, Item, tell, show, show_domain, Tells, parts_items}
-use Rattle.mls_print.specs.steps.Tables.{set_at, arms_of, labelled, IsFunctionOf, IsRecordOf, ShowsRow, IsWhole, IsTable}
+use Rattle.mls_print.specs.steps.Printing.{Place, sets_around, numbers_around, Item, tell, show, show_domain, Tells}
+use Rattle.mls_print.specs.steps.Tables.{set_at, arms_of, labelled, IsFunctionOf, IsRecordOf, ShowsRow, IsWhole}
 use Rattle.mls_print.specs.steps.Visits.{IsVisited}
 use Rattle.mls_print.specs.steps.Items.{item_of, items_told, row_items, fields_of, IsDomain, IsCodomain, IsFieldSet}
 use Rattle.mls_print.specs.steps.Writing.{piece_of, HasStateBelow, HasSetBelow}
-use Rattle.mls_print.specs.steps.Progress.{Near, places, outer, told, IsNested, number_around, AreApart, Plan, IsPlan, IsSound, IsOnPlan, pieces_in}
+use Rattle.mls_print.specs.steps.Progress.{Near, places, told, IsNested, number_around, AreApart, Plan, IsPlan, IsSound, IsOnPlan}
 use Rattle.mls_print.proofs.Visited.{walk-closed, set_visited, fields_in}
 use Rattle.mls_print.proofs.RowShows.{parts_shown}
-use Rattle.mls_print.proofs.SoundRows.{IsInner, IsRowItem, row_sound}
+use Rattle.mls_print.proofs.SoundRows.{IsRowItem, row_sound}
 use Rattle.mls_print.proofs.NamedKeys.{unlike}
 use Rattle.mls_print.proofs.PrintingSteps.{again_taken, domain_again_taken, new_taken}
 

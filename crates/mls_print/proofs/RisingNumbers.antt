@@ -1,5 +1,5 @@
 -- Numbers sorted, each once.
-use Rattle.std.proofs.Common.{◌≡◌, ◌↔◌, ℕ, ◌+◌, ◌-◌, suc, ◌<◌, List, [], ◌∷◌, arith, subst, length, All, Contains}
+use Rattle.std.proofs.Common.{◌≡◌, ◌↔◌, ℕ, ◌+◌, suc, ◌<◌, List, [], ◌∷◌, arith, subst, length, Contains}
 use Rattle.std.specs.List.{dedup, slice_index}
 use Rattle.std.specs.List.Sorted.{IsPermutation, IsSorted, IsStrictlyIncreasing}
 use Rattle.std.specs.Ordering.{nat_cmp}

@@ -1,8 +1,8 @@
 -- The items of a row, one component after the other.
---     joined-push, components-joined, started-push, fields-started      the loops that tell them
+--     joined-push, components-joined, started-push, fields-over      the loops that tell them
 use Rattle.std.proofs.Common.{◌≡◌, ◌+◌, ◌<◌, ◌==◌, ℕ, zero, suc, arith, length, take, get_or, Bool, true, false, not, ◌||◌, List, [], ◌∷◌, ◌++◌, map, refl, sym, ap, ◌∙◌, codes, Some, None, append_assoc, append-nil}
 use Rattle.std.proofs.lemmas.List.{take_more, map-append}
-use Rattle.std.specs.Prelude.{Option, option_map, is_some, cond}
+use Rattle.std.specs.Prelude.{Option, option_map, is_some}
 use Rattle.std.specs.Global.{Vec}
 use Rattle.mls_automaton.specs.declared.automaton.Polarity.{Polarity}
 use Rattle.mls_automaton.specs.declared.automaton.Polarity.TheVariants.{Positive, Negative}
@@ -11,7 +11,7 @@ use Rattle.mls_print.specs.declared.row.RowField.{RowField}
 use Rattle.mls_print.specs.Pieces.{separator}
 use Rattle.mls_print.specs.steps.Printing.{Place, Item, show, LabelledSet, text, more_items, component_items, items_in_parens, with_function_items, bit_items, function_items, later_items, field_items, record_items}
 use Rattle.mls_print.specs.steps.Tables.{arms_of, labelled}
-use Rattle.mls_print.specs.steps.Items.{is_nil, push_items, push_field, has_more, function_component, variable_items, row_components, row_items}
+use Rattle.mls_print.specs.steps.Items.{is_nil, push_items, push_field, function_component, variable_items, row_components, row_items}
 use Rattle.mls_print.proofs.NamedKeys.{unlike}
 
 -- components that are not over, with what stands between them

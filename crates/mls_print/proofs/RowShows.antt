@@ -1,6 +1,6 @@
 -- What a tree shows, with the sets of a table in the place of those of a combined head.
 --     parts_shown      a tree that shows a set shows the parts of its row
-use Rattle.std.proofs.Common.{◌≡◌, ℕ, Bool, true, false, List, [], ◌∷◌, map, refl, sym, ap, ◌∙◌, subst, Contains, Some, None, arith, ◌<◌}
+use Rattle.std.proofs.Common.{◌≡◌, ℕ, Bool, List, [], ◌∷◌, map, refl, sym, ap, ◌∙◌, subst, Contains, Some, None, arith, ◌<◌}
 use Rattle.std.specs.Prelude.{Option, IsSome, is_some}
 use Rattle.mls_automaton.specs.declared.automaton.Polarity.{Polarity}
 use Rattle.mls_automaton.specs.declared.automaton.Arms.{Arms}
@@ -8,9 +8,9 @@ use Rattle.mls_automaton.specs.Automata.{Automaton}
 use Rattle.mls_automaton.specs.Heads.{IsSameSet}
 use Rattle.mls_automaton.proofs.Lists.{Contains-here, Contains-later, Contains-map_back}
 use Rattle.mls_print.specs.Walks.{shown_variables}
-use Rattle.mls_print.specs.Shown.{Shown, ShownFunction, ShownRecord, no_record, fields, ShownFields, no_more, field, a_set, set_head, labels_of, AreRisingLabels, Shows, ShowsFunction, ShowsRecord, ShowsFields}
+use Rattle.mls_print.specs.Shown.{ShownFunction, ShownRecord, no_record, fields, ShownFields, no_more, field, a_set, set_head, labels_of, AreRisingLabels, Shows, ShowsFunction, ShowsRecord, ShowsFields}
 use Rattle.mls_print.specs.steps.Printing.{LabelledSet}
-use Rattle.mls_print.specs.steps.Tables.{AreFieldsOf, IsRecordOf, IsFunctionOf}
+use Rattle.mls_print.specs.steps.Tables.{IsRecordOf, IsFunctionOf}
 use Rattle.mls_print.proofs.OneText.{first-label, later-label, label-some}
 use Rattle.mls_print.proofs.SameShows.{all-self, shows_same, function_same}
 

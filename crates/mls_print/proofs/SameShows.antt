@@ -1,7 +1,7 @@
 -- Sets of the same members are shown by the same trees.
 --     shows_same, function_same, fields_same      a tree shows each of two sets of the same members
-use Rattle.std.proofs.Common.{◌≡◌, ℕ, zero, suc, Bool, true, false, ◌&&◌, ◌==◌, List, [], ◌∷◌, refl, sym, ap, ◌∙◌, subst, arith, ◌<◌, All, Contains, Some, None}
-use Rattle.std.specs.Prelude.{Option, filter, is_some}
+use Rattle.std.proofs.Common.{◌≡◌, ℕ, zero, suc, Bool, true, false, ◌&&◌, ◌==◌, List, [], ◌∷◌, refl, ap, ◌∙◌, subst, Some, None}
+use Rattle.std.specs.Prelude.{Option, is_some}
 use Rattle.std.specs.List.{list_any}
 use Rattle.std.proofs.lemmas.List.Elements.{All-nil, All-cons, All-head, All-tail, filter_agree}
 use Rattle.mls_automaton.specs.declared.automaton.Polarity.{Polarity}
@@ -11,7 +11,7 @@ use Rattle.mls_automaton.specs.declared.automaton.Flow.{Flow}
 use Rattle.mls_automaton.specs.Automata.{Automaton, opposite}
 use Rattle.mls_automaton.specs.Heads.{IsSameSet, IsSameOption}
 use Rattle.mls_print.specs.Walks.{is_member, flows_into, holders, shown_variables}
-use Rattle.mls_print.specs.Shown.{Shown, again, a_set, ShownFunction, no_function, function, ShownRecord, no_record, fields, ShownFields, no_more, field, set_head, IsAround, IsNew, ShowsAt, Shows, ShowsFunction, ShowsRecord, ShowsFields}
+use Rattle.mls_print.specs.Shown.{Shown, again, a_set, ShownFunction, no_function, function, ShownRecord, no_record, fields, ShownFields, no_more, field, set_head, IsAround, IsNew, Shows, ShowsFunction, ShowsRecord, ShowsFields}
 use Rattle.mls_print.proofs.SetValues.{member-contains, contains-member}
 use Rattle.mls_print.proofs.FlatHeads.{same_boolean, same_integer, same_function, same_fields}
 

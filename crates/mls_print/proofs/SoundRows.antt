@@ -1,13 +1,12 @@
 -- The items of a row name its variables and its sets alone.
 --     row_sound      each item that a row tells
-use Rattle.std.proofs.Common.{◌≡◌, ◌⊎◌, inl, inr, ℕ, suc, zero, ◌<◌, Bool, true, false, List, [], ◌∷◌, ◌++◌, map, refl, sym, ap, ◌∙◌, subst, arith, length, get_or, All, Contains, Some, None, codes}
+use Rattle.std.proofs.Common.{◌≡◌, ◌⊎◌, inl, inr, ℕ, suc, zero, ◌<◌, Bool, true, false, List, [], ◌∷◌, ◌++◌, map, refl, sym, ap, subst, arith, length, get_or, All, Contains, Some, None, codes}
 use Rattle.std.specs.Prelude.{Option, option_map}
 use Rattle.std.specs.Global.{Vec}
-use Rattle.std.proofs.lemmas.List.{length-map, get_or_default}
+use Rattle.std.proofs.lemmas.List.{length-map}
 use Rattle.std.proofs.lemmas.List.Elements.{All-nil, All-cons, All-append, All-map, All-weaker, All-contains_itself}
 use Rattle.mls_automaton.specs.declared.automaton.Polarity.{Polarity}
 use Rattle.mls_automaton.specs.declared.automaton.Polarity.TheVariants.{Positive, Negative}
-use Rattle.mls_automaton.specs.declared.automaton.Arms.{Arms}
 use Rattle.mls_automaton.specs.Automata.{opposite}
 use Rattle.mls_print.specs.declared.components.Item.{Item as LaidItem}
 use Rattle.mls_print.specs.declared.components.Item.TheVariants as laid
@@ -17,7 +16,7 @@ use Rattle.mls_print.specs.declared.row.RowArms.{RowArms}
 use Rattle.mls_print.specs.declared.row.RowField.{RowField}
 use Rattle.mls_print.specs.Keys.{variable, recursion}
 use Rattle.mls_print.specs.Pieces.{bytes, name_of, begins, opens, closes, separator}
-use Rattle.mls_print.specs.steps.Printing.{Place, Item, tell, show, show_domain, LabelledSet, text, more_items, component_items, items_in_parens, with_function_items, bit_items, function_items, later_items, field_items, record_items}
+use Rattle.mls_print.specs.steps.Printing.{Item, tell, show, show_domain, LabelledSet, text, more_items, component_items, items_in_parens, with_function_items, bit_items, function_items, later_items, field_items, record_items}
 use Rattle.mls_print.specs.steps.Tables.{arms_of, labelled}
 use Rattle.mls_print.specs.steps.Items.{item_of, items_told, variable_items, row_items, IsFieldSet, IsDomain, IsCodomain}
 

@@ -1,15 +1,15 @@
 -- The loop of the walk: what is left on the stack leads to the same states as the root.
 --     walk_begins, walk_seen, walk_new, walk_ends      one round of the loop
 --     weight-set                                        its measure
-use Rattle.std.proofs.Common.{◌≡◌, ◌≢◌, ◌⊎◌, inl, inr, ℕ, zero, suc, ◌+◌, ◌<◌, List, [], ◌∷◌, ◌++◌, refl, sym, ap, ◌∙◌, subst, arith, rules, length, get_or, All, Contains, Bool, true, false, Some, None, reverse, replicate, slice_set}
+use Rattle.std.proofs.Common.{◌≡◌, ◌≢◌, inl, inr, ℕ, zero, suc, ◌+◌, ◌<◌, List, [], ◌∷◌, ◌++◌, sym, ap, ◌∙◌, subst, arith, length, get_or, All, Contains, true, false, Some, None, reverse, replicate, slice_set}
 use Rattle.std.specs.Prelude.{Option, is_some, is_none, unwrap_or}
 use Rattle.std.proofs.lemmas.List.Sorted.{All-permutation, IsPermutation-reverse}
-use Rattle.std.proofs.lemmas.List.{get_or_default, length-reverse, reverse-append, reverse-reverse, length-set, length-append, length-replicate, get_or-replicate, get_or_append_left, get_or_push, get_or-set_same, get_or-set_other, append-nil}
-use Rattle.std.proofs.lemmas.List.Elements.{All-nil, All-head, All-tail, All-append, All-push, All-contains, Contains-append_right, Contains-get_or}
-use Rattle.std.proofs.lemmas.Bool.{cases_eq, cases_lt}
+use Rattle.std.proofs.lemmas.List.{get_or_default, length-reverse, reverse-append, reverse-reverse, length-set, length-append, length-replicate, get_or-replicate, get_or_append_left, get_or_push, get_or-set_same, get_or-set_other}
+use Rattle.std.proofs.lemmas.List.Elements.{All-nil, All-append, All-push, All-contains, Contains-append_right, Contains-get_or}
+use Rattle.std.proofs.lemmas.Bool.{cases_eq}
 use Rattle.mls_automaton.specs.Automata.{Automaton}
 use Rattle.mls_automaton.specs.Models.{IsClosed}
-use Rattle.mls_automaton.proofs.Lists.{All-one, All-contained, Contains-here}
+use Rattle.mls_automaton.proofs.Lists.{All-one, Contains-here}
 use Rattle.mls_print.specs.Walks.{states_below, Visits, done}
 use Rattle.mls_print.specs.steps.Numbering.{IsNumbered}
 use Rattle.mls_print.proofs.WalkSteps.{taken_seen, taken_new}

@@ -1,13 +1,13 @@
 -- The loop that writes the pieces: what is written and what is left make the whole text.
 --     writing_begins, writing_step, writing_ends      one round of the loop
-use Rattle.std.proofs.Common.{◌≡◌, ℕ, zero, suc, ◌+◌, ◌<◌, ◌≤◌, Bool, true, false, List, [], ◌∷◌, ◌++◌, refl, sym, ap, ◌∙◌, subst, arith, length, get_or, take, drop, map, replicate, Some, None, codes, append_assoc, append-nil}
-use Rattle.std.specs.Prelude.{Option, cond}
+use Rattle.std.proofs.Common.{◌≡◌, ℕ, zero, suc, ◌+◌, ◌<◌, ◌≤◌, Bool, true, false, List, [], ◌∷◌, ◌++◌, refl, sym, ap, ◌∙◌, subst, arith, length, get_or, take, drop, map, replicate, None, codes, append_assoc, append-nil}
+use Rattle.std.specs.Prelude.{cond}
 use Rattle.std.proofs.lemmas.List.{get_or_default, length-map, take_more, drop_more, take-append-drop, drop_all, length-replicate, get_or-replicate}
 use Rattle.mls_print.specs.declared.piece.Piece.{Piece as LaidPiece}
 use Rattle.mls_print.specs.declared.write.Writer.{Writer}
-use Rattle.mls_print.specs.Keys.{Key, variable, recursion, first_keys, place_of, name_at}
+use Rattle.mls_print.specs.Keys.{Key, recursion, first_keys, place_of, name_at}
 use Rattle.mls_print.specs.Pieces.{Piece, bytes, name_of, begins, opens, closes, piece_written, pieces_written, piece_keys, pieces_keys, is_called, text_of}
-use Rattle.mls_print.specs.steps.Writing.{piece_of, all_added, name_behind, Names, HasNumbers, Keeps, Writes}
+use Rattle.mls_print.specs.steps.Writing.{piece_of, all_added, name_behind, Names, Writes}
 use Rattle.mls_print.proofs.KeyOrder.{first_keys-added, all_added-append, place-so_far}
 
 module _ (has_rec : ℕ → Bool) where

@@ -1,5 +1,6 @@
 pub mod Rising
 pub mod Numbering
+pub mod Variables
 pub mod Writing
 pub mod Flat
 pub mod Printing
@@ -7,3 +8,4 @@ pub mod Visits
 pub mod Tables
 pub mod Progress
 pub mod Items
+pub mod Joining

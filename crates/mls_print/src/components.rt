@@ -13,7 +13,7 @@ use std::alloc::Global;
 
 /// What is still to do, in the order of the text.
 #[derive(Clone, Copy)]
-pub(crate) enum Item<'a> {
+pub enum Item<'a> {
     /// A piece is told.
     Tell(Piece<'a>),
     /// A set of the table is shown at this polarity.
@@ -25,7 +25,7 @@ pub(crate) enum Item<'a> {
 }
 
 /// Whether a set shows a function alone.
-pub(crate) fn is_function_alone(row: &Row) -> bool
+pub fn is_function_alone(row: &Row) -> bool
     ensures { (sets : _) → result ≡ row_is_alone sets row.now }
 {
     row.function.is_some() && !has_more(row)
@@ -39,7 +39,7 @@ fn has_more(row: &Row) -> bool
 }
 
 /// The items of a set: its components with what stands between them, or `bot` or `top` if it has none.
-pub(crate) fn items_of<'a>(
+pub fn items_of<'a>(
     alloc: Global,
     row: &Row<'a>,
     polarity: Polarity,

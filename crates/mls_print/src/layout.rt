@@ -13,7 +13,7 @@ use mls_base::memory::Memory;
 use std::alloc::Global;
 
 /// Lays out the tree of the sets that are shown, from the first set of the table on.
-pub(crate) fn layout_of<'a>(alloc: Global, table: &Table<'a>) -> Result<Layout<'a>, Memory>
+pub fn layout_of<'a>(alloc: Global, table: &Table<'a>) -> Result<Layout<'a>, Memory>
     requires { IsWhole table.now }
     ensures { IfOk result (λ layout. (plan : _) → IsPlan plan table.now → IsLaidOut plan layout) }
 {

@@ -6,7 +6,7 @@ use mls_base::memory::Memory;
 use std::alloc::Global;
 
 /// Writes the name of this number.
-pub(crate) fn write_name(alloc: Global, text: &mut Vec<u8>, number: usize) -> Result<(), Memory>
+pub fn write_name(alloc: Global, text: &mut Vec<u8>, number: usize) -> Result<(), Memory>
     ensures { OnOk result (text.new.items ≡ text.old.items ++ name_at number) }
 {
     text.push(b'a' + (number % 26) as u8)?;

@@ -2,7 +2,7 @@
 
 /// A piece of the text. The sets that the text shows are numbered in the order in which they begin.
 #[derive(Clone, Copy)]
-pub(crate) enum Piece<'a> {
+pub enum Piece<'a> {
     /// These bytes.
     Text(&'a [u8]),
     /// The name of the variable of a state.
@@ -19,7 +19,7 @@ pub(crate) enum Piece<'a> {
 
 /// The pieces from left to right, and how many sets they show.
 #[derive(Drop)]
-pub(crate) struct Layout<'a> {
-    pub(crate) pieces: Vec<Piece<'a>>,
-    pub(crate) sets: usize,
+pub struct Layout<'a> {
+    pub pieces: Vec<Piece<'a>>,
+    pub sets: usize,
 }

@@ -3,7 +3,7 @@ ghost use Rattle.std.specs.Prelude.{◌≡◌, ◌↔◌, ◌<◌, ◌++◌, Con
 ghost use Rattle.mls_print.specs.steps.Rising.{AreRisingNumbers};
 
 /// The numbers in rising order, each of them once.
-pub(crate) fn rising(mut numbers: Vec<usize>) -> Vec<usize>
+pub fn rising(mut numbers: Vec<usize>) -> Vec<usize>
     ensures rising { AreRisingNumbers result.items }
     ensures members { (x : _) → Contains result.items x ↔ Contains numbers.items x }
 {

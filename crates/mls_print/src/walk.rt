@@ -11,17 +11,13 @@ use std::alloc::Global;
 
 /// The visited states in printing order, and for each state of the automaton its printing number, if it is visited.
 #[derive(Drop)]
-pub(crate) struct Order {
-    pub(crate) states: Vec<usize>,
-    pub(crate) numbers: Vec<Option<usize>>,
+pub struct Order {
+    pub states: Vec<usize>,
+    pub numbers: Vec<Option<usize>>,
 }
 
 /// Walks through the states below the root.
-pub(crate) fn printing_order(
-    alloc: Global,
-    automaton: &Automaton,
-    root: StateId,
-) -> Result<Order, Memory>
+pub fn printing_order(alloc: Global, automaton: &Automaton, root: StateId) -> Result<Order, Memory>
     requires closed { IsClosed automaton.now }
     requires root { root.0 < length automaton.now.states }
     ensures walked { IfOk result (λ order. Visits automaton.now [] (root.0 ∷ []) order.states.items) }

@@ -10,7 +10,7 @@ use mls_base::memory::Memory;
 use std::alloc::Global;
 
 /// Writes the text of the pieces, in which variables are those of so many states.
-pub(crate) fn text_of(alloc: Global, layout: &Layout, states: usize) -> Result<Vec<u8>, Memory>
+pub fn text_of(alloc: Global, layout: &Layout, states: usize) -> Result<Vec<u8>, Memory>
     requires states { All (HasStateBelow states) layout.now.pieces.items }
     requires sets { All (HasSetBelow layout.now.sets) layout.now.pieces.items }
     ensures { IfOk result (λ text. text.items ≡ text_of (map piece_of layout.now.pieces.items)) }

@@ -1,12 +1,9 @@
 -- The combined head of a set, part by part.
-use Rattle.std.specs.Prelude.{ℕ, Bool, false, not, List, [], map, Option, Some, None, is_some, unwrap_or, if◌then◌else◌}
+use Rattle.std.specs.Prelude.{ℕ, Bool, false, not, List, [], Option, Some, None, is_some, unwrap_or, if◌then◌else◌}
 use Rattle.std.specs.List.{flat_map, list_any}
 use Rattle.mls_automaton.specs.declared.automaton.Polarity.{Polarity}
 use Rattle.mls_automaton.specs.declared.automaton.Polarity.TheVariants.{Positive, Negative}
 use Rattle.mls_automaton.specs.declared.automaton.Arms.{Arms}
-use Rattle.mls_automaton.specs.declared.automaton.FieldSet.{FieldSet}
-use Rattle.mls_automaton.specs.Automata.{Automaton, head_at}
-use Rattle.mls_automaton.specs.Heads.{set_at}
 
 -- the domain and the codomain of a head
 abbrev pub domain_in : Option Arms → List ℕ

@@ -1,19 +1,15 @@
 -- The items of a set, from its row in the table.
-use Rattle.std.specs.Prelude.{◌≡◌, ℕ, Bool, true, false, not, ◌||◌, List, [], ◌∷◌, ◌++◌, map, codes, All, Contains, Option, Some, None, option_map, is_some}
+use Rattle.std.specs.Prelude.{◌≡◌, ℕ, Bool, true, false, not, ◌||◌, List, [], ◌∷◌, ◌++◌, map, codes, Contains, Option, Some, None, option_map, is_some}
 use Rattle.std.specs.Global.{Vec}
 use Rattle.mls_automaton.specs.declared.automaton.Polarity.{Polarity}
-use Rattle.mls_automaton.specs.declared.automaton.Polarity.TheVariants.{Positive, Negative}
-use Rattle.mls_automaton.specs.Automata.{opposite}
 use Rattle.mls_print.specs.declared.components.Item.{Item as LaidItem}
 use Rattle.mls_print.specs.declared.components.Item.TheVariants as laid
-use Rattle.mls_print.specs.declared.piece.Piece.{Piece as LaidPiece}
-use Rattle.mls_print.specs.declared.piece.Piece.TheVariants as piece
 use Rattle.mls_print.specs.declared.row.Row.{Row}
 use Rattle.mls_print.specs.declared.row.RowArms.{RowArms}
 use Rattle.mls_print.specs.declared.row.RowField.{RowField}
 use Rattle.mls_print.specs.Keys.{variable}
 use Rattle.mls_print.specs.Pieces.{name_of, opens, separator}
-use Rattle.mls_print.specs.steps.Printing.{Place, Item, tell, show, show_domain, LabelledSet, text, more_items, component_items, items_in_parens, bit_items, function_items, record_items, parts_items, is_alone}
+use Rattle.mls_print.specs.steps.Printing.{Place, Item, tell, show, show_domain, LabelledSet, text, items_in_parens, bit_items, function_items, record_items, parts_items, is_alone}
 use Rattle.mls_print.specs.steps.Tables.{arms_of, labelled}
 use Rattle.mls_print.specs.steps.Writing.{piece_of}
 

@@ -1,6 +1,5 @@
 -- How far the layout of a text is.
 use Rattle.std.specs.Prelude.{◌≡◌, ℕ, ◌<◌, ◌≤◌, ◌==◌, Bool, codes, List, [], ◌∷◌, ◌++◌, length, map, get_or, reverse, All, Option, Some, None, if◌then◌else◌}
-use Rattle.mls_automaton.specs.declared.automaton.Polarity.{Polarity}
 use Rattle.mls_automaton.specs.declared.automaton.Polarity.TheVariants.{Positive}
 use Rattle.mls_automaton.specs.Automata.{Automaton}
 use Rattle.mls_automaton.specs.Models.{IsClosed}

@@ -43,7 +43,7 @@ IsRecordOf _ _ = ⊥
 abbrev pub IsFunctionOf : Option Arms → Option Arms → Type 0
 IsFunctionOf = IsSameOption (λ (f : Arms) g. IsSameSet f.domain g.domain × IsSameSet f.codomain g.codomain)
 
--- a row shows this set at this polarity, where there are so many sets
+-- a row shows this set at this polarity, where its numbers are those of sets of the table
 pub record ShowsRow (a : Automaton) (order : List ℕ) (table : Table) (p : Polarity) (set : List ℕ) (row : Row) : Type 0 where
   pub variables : row.variables.items ≡ shown_variables a order p set
   pub boolean : row.boolean ≡ (set_head a p set).boolean

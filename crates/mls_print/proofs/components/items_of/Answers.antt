@@ -1,4 +1,4 @@
-use Rattle.std.proofs.Common.{◌≡◌, ◌∙◌, ap}
+use Rattle.std.proofs.Common.{◌∙◌, ap}
 use Rattle.std.specs.Global.{Vec}
 use Rattle.std.proofs.Common.{List}
 use Rattle.mls_print.specs.declared.components.Item.{Item as LaidItem}

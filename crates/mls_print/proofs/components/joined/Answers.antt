@@ -1,4 +1,4 @@
-use Rattle.std.proofs.Common.{◌≡◌, ◌∙◌, ◌++◌, ◌==◌, ◌<◌, ap, sym, rules, length, get_or, List, ℕ}
+use Rattle.std.proofs.Common.{◌≡◌, ◌∙◌, ◌++◌, ◌==◌, ◌<◌, ap, sym, rules, length, get_or, List}
 use Rattle.std.specs.Global.{Vec}
 use Rattle.mls_print.specs.declared.components.Item.{Item as LaidItem}
 use Rattle.mls_print.specs.steps.Items.{items_told, push_items}

@@ -1,6 +1,5 @@
-use Rattle.std.proofs.Common.{◌≡◌, ◌∙◌, ◌++◌, ◌∷◌, [], ◌==◌, ◌<◌, ◌≤◌, ap, sym, rules, length, take, get_or, map, codes, List, ℕ}
+use Rattle.std.proofs.Common.{◌∙◌, ◌++◌, ◌∷◌, [], ◌==◌, ◌<◌, ◌≤◌, ap, sym, rules, length, map, codes, List}
 use Rattle.std.proofs.lemmas.List.{map-append, take_all}
-use Rattle.mls_print.specs.declared.components.Item.{Item as LaidItem}
 use Rattle.mls_print.specs.declared.row.RowField.{RowField}
 use Rattle.mls_print.specs.steps.Printing.{text}
 use Rattle.mls_print.specs.steps.Tables.{labelled}

@@ -1,7 +1,5 @@
-use Rattle.std.proofs.Common.{◌≡◌, ◌∙◌, ◌++◌, ◌∷◌, [], sym, subst, refl, rules, length, replicate, reverse, List, ℕ, Some, None}
-use Rattle.std.specs.Prelude.{Option}
+use Rattle.std.proofs.Common.{◌≡◌, ◌∷◌, [], refl, rules, length, replicate, None}
 use Rattle.mls_automaton.specs.declared.automaton.Polarity.TheVariants.{Positive}
-use Rattle.mls_print.specs.declared.components.Item.{Item as LaidItem}
 use Rattle.mls_print.specs.declared.components.Item.TheVariants.{Show}
 use Rattle.mls_print.specs.declared.layout.Printer.{Printer}
 use Rattle.mls_print.proofs.LayoutRounds.{safe_begins, plan_begins, safe_taken, plan_taken}

@@ -1,4 +1,4 @@
-use Rattle.std.proofs.Common.{◌≡◌, ◌<◌, ◌+◌, ◌++◌, ◌∷◌, [], ◌∙◌, ap, sym, subst, length, reverse, get_or, slice_set, arith, rules, ℕ, List, Some, None, true, false}
+use Rattle.std.proofs.Common.{◌≡◌, ◌<◌, ◌+◌, ◌++◌, ◌∷◌, [], ◌∙◌, ap, sym, subst, length, reverse, get_or, slice_set, arith, rules, ℕ, List, Some, None}
 use Rattle.std.specs.Prelude.{Option}
 use Rattle.std.proofs.lemmas.Grind.{common_steps}
 use Rattle.mls_automaton.specs.declared.automaton.Head.{Head}
@@ -29,9 +29,9 @@ loop-s-preserved-in-Continue-branch-4 c =
     let size : length c.loop-s.states.items ≡ c.len-then-is_none.result = search rules in
     let P : List ℕ → ℕ → List ℕ → Type 0 = λ order n stack. IsWalking a c.args.root.0 order (slice_set numbers c.in-Some.s (Some n)) stack in
     subst (P c.push.new.self.items c.len-then-is_none.result) (sym stack)
-        (subst (λ n. P c.push.new.self.items n (c.pop.new.self.items ++ reverse (states_below a c.in-Some.s))) size
-        (subst (λ order. P order (length c.loop-s.states.items) (c.pop.new.self.items ++ reverse (states_below a c.in-Some.s))) (sym c.in_ok-push.ensures.items)
-        (walk_new a c.args.root.0 c.requires.closed c.loop-s.states.items numbers c.pop.new.self.items c.in-Some.s before new)))
+    (subst (λ n. P c.push.new.self.items n (c.pop.new.self.items ++ reverse (states_below a c.in-Some.s))) size
+    (subst (λ order. P order (length c.loop-s.states.items) (c.pop.new.self.items ++ reverse (states_below a c.in-Some.s))) (sym c.in_ok-push.ensures.items)
+    (walk_new a c.args.root.0 c.requires.closed c.loop-s.states.items numbers c.pop.new.self.items c.in-Some.s before new)))
 
 pub loop-s-preserved : goal.loop-s-preserved
 loop-s-preserved c =
@@ -46,4 +46,4 @@ pub returns-clause-walked : goal.returns-clause-walked
 returns-clause-walked c =
     let empty : c.loop-s.stack.items ≡ [] = grind (arith, common_steps) in
     walk_ends c.args.automaton.now c.args.root.0 c.loop-s.states.items c.loop-s.numbers.items
-        (subst (IsWalking c.args.automaton.now c.args.root.0 c.loop-s.states.items c.loop-s.numbers.items) empty c.loop-s.invariant)
+    (subst (IsWalking c.args.automaton.now c.args.root.0 c.loop-s.states.items c.loop-s.numbers.items) empty c.loop-s.invariant)

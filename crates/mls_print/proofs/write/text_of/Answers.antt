@@ -1,12 +1,9 @@
-use Rattle.std.proofs.Common.{refl, ◌≡◌, ◌<◌, ◌≤◌, ℕ, Bool, List, [], ◌∙◌, ap, sym, subst, arith, rules, length, get_or, false, map, replicate, Some, None}
+use Rattle.std.proofs.Common.{refl, ◌≡◌, ◌<◌, ◌≤◌, Bool, List, ◌∙◌, ap, sym, subst, rules, length, get_or, false, map, replicate, None}
 use Rattle.std.proofs.lemmas.List.{length-map}
-use Rattle.std.proofs.lemmas.Grind.{common_steps}
-use Rattle.std.specs.Prelude.{Option}
 use Rattle.mls_print.specs.declared.piece.Piece.{Piece as LaidPiece}
-use Rattle.mls_print.specs.declared.write.Writer.{Writer}
 use Rattle.mls_print.specs.Pieces.{is_called, text_of}
-use Rattle.mls_print.specs.steps.Writing.{piece_of, Writes}
-use Rattle.mls_print.proofs.WritingLoop.{IsWriting, writing_begins, writing_step_at, writing_ends}
+use Rattle.mls_print.specs.steps.Writing.{piece_of}
+use Rattle.mls_print.proofs.WritingLoop.{writing_begins, writing_step_at, writing_ends}
 use Rattle.mls_print.proofs.write.text_of.Goals as goal
 
 pub loop-piece-init : goal.loop-piece-init
@@ -14,8 +11,8 @@ loop-piece-init c =
     let variables : c.in_ok-vec.field-0.items ≡ replicate c.args.states None = search rules in
     let recursions : c.in_ok-vec-2.field-0.items ≡ replicate c.args.layout.now.sets None = search rules in
     writing_begins (λ j. get_or c.in_ok-recursive.recursive.items j false) (map piece_of c.deref-piece-items.result.now) c.args.states c.args.layout.now.sets
-        (record { text = c.new.result; variables = c.in_ok-vec.field-0; recursions = c.in_ok-vec-2.field-0; named = 0 })
-        c.new.ensures.items variables recursions refl
+    (record { text = c.new.result; variables = c.in_ok-vec.field-0; recursions = c.in_ok-vec-2.field-0; named = 0 })
+    c.new.ensures.items variables recursions refl
 
 pub loop-piece-preserved : goal.loop-piece-preserved
 loop-piece-preserved c =
@@ -31,5 +28,5 @@ returns c =
     let low : length (map piece_of items) ≤ c.loop-piece.piece-index = search (rules, length-map items piece_of) in
     let T : List LaidPiece → Type 0 = λ items. c.loop-piece.writer.text.items ≡ text_of (map piece_of items) in
     subst T same
-        (writing_ends (λ j. get_or c.in_ok-recursive.recursive.items j false) (map piece_of items) c.loop-piece.piece-index c.args.states c.args.layout.now.sets c.loop-piece.writer low c.loop-piece.invariant
-        (λ j. c.in_ok-recursive.ensures.again j ∙ ap (λ (items : List LaidPiece). is_called (map piece_of items) j) (sym same)))
+    (writing_ends (λ j. get_or c.in_ok-recursive.recursive.items j false) (map piece_of items) c.loop-piece.piece-index c.args.states c.args.layout.now.sets c.loop-piece.writer low c.loop-piece.invariant
+    (λ j. c.in_ok-recursive.ensures.again j ∙ ap (λ (items : List LaidPiece). is_called (map piece_of items) j) (sym same)))

@@ -1,4 +1,4 @@
-use Rattle.std.proofs.Common.{ℕ, get_or, false, map}
+use Rattle.std.proofs.Common.{get_or, false, map}
 use Rattle.mls_print.specs.steps.Writing.{piece_of}
 use Rattle.mls_print.proofs.WritingLoop.{IsWriting}
 use Rattle.mls_print.proofs.write.text_of.Given as goal

@@ -14,11 +14,11 @@ returns c =
     let longer : length c.extend_from_slice-2.new.self.items ≡ length named + length (codes ". ") = ap length last ∙ length-append named (codes ". ") in
     let had : c.write_recursion.new.self.named ≤ length named = it.keeps.fits in
     let fits : c.write_recursion.new.self.named ≤ length c.extend_from_slice-2.new.self.items = omega (arith, longer, had) in record {
-    keeps = record { variables = it.keeps.variables; recursions = it.keeps.recursions; fits = fits };
-    names = it.names;
-    text = λ seen has.
-        let name : List ℕ = name_behind seen (recursion c.args.set) in
-        last
-        ∙ (ap (λ text. text ++ codes ". ") (it.text seen has ∙ ap (λ text. text ++ name) first)
-        ∙ (append_assoc (before ++ codes "rec ") name (codes ". ") ∙ append_assoc before (codes "rec ") (name ++ codes ". ")));
-  }
+      keeps = record { variables = it.keeps.variables; recursions = it.keeps.recursions; fits = fits };
+      names = it.names;
+      text = λ seen has.
+          let name : List ℕ = name_behind seen (recursion c.args.set) in
+          last
+          ∙ (ap (λ text. text ++ codes ". ") (it.text seen has ∙ ap (λ text. text ++ name) first)
+          ∙ (append_assoc (before ++ codes "rec ") name (codes ". ") ∙ append_assoc before (codes "rec ") (name ++ codes ". ")));
+    }

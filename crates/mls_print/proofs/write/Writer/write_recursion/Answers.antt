@@ -1,6 +1,6 @@
 use Rattle.std.proofs.Common.{◌≡◌, ◌++◌, ◌≤◌, ◌+◌, refl, ap, ◌∙◌, arith, length, List, ℕ}
 use Rattle.std.proofs.lemmas.List.{length-append}
-use Rattle.mls_print.specs.Keys.{Key, recursion, name_at}
+use Rattle.mls_print.specs.Keys.{name_at}
 use Rattle.mls_print.proofs.NamedKeys.{recursion_step}
 use Rattle.mls_print.proofs.write.Writer.write_recursion.Goals as goal
 
@@ -12,11 +12,11 @@ returns c =
     let longer : length c.write_name.new.text.items ≡ length before + length (name_at c.number_of-number.result) = ap length written ∙ length-append before (name_at c.number_of-number.result) in
     let more : c.number_of-number.new.named ≤ c.args.self.now.named + 1 = step.0.1 in
     let fits : c.number_of-number.new.named ≤ length c.write_name.new.text.items = omega (arith, longer, more, c.requires.fits) in record {
-    keeps = record {
-      variables = refl;
-      recursions = step.0.0;
-      fits = fits;
-    };
-    names = λ seen has. (step.1 seen has).0;
-    text = λ seen has. written ∙ ap (λ k. before ++ name_at k) (step.1 seen has).1;
-  }
+      keeps = record {
+        variables = refl;
+        recursions = step.0.0;
+        fits = fits;
+      };
+      names = λ seen has. (step.1 seen has).0;
+      text = λ seen has. written ∙ ap (λ k. before ++ name_at k) (step.1 seen has).1;
+    }
