@@ -1,6 +1,7 @@
 -- Sets of states whose numbers rise.
 use Rattle.std.proofs.Common.{◌≡◌, ◌≢◌, ◌↔◌, ◌⊎◌, inl, inr, ℕ, ◌<◌, ◌≤◌, ◌+◌, ◌-◌, Bool, List, ◌∷◌, refl, sym, ap, ◌∙◌, subst, arith, length, get_or, take, drop, Contains, IsTrue}
-use Rattle.std.proofs.lemmas.List.{get_or_default, take-append-drop}
+use Rattle.std.specs.Prelude.{min}
+use Rattle.std.proofs.lemmas.List.{get_or_default, get_or-take, length-take, take-append-drop}
 use Rattle.std.specs.List.{insert, remove}
 use Rattle.std.proofs.lemmas.List.Edits.{get_or-insert_at, get_or-insert_below, get_or-insert_above, length-insert, get_or-remove_below, get_or-remove_above, length-remove}
 use Rattle.std.proofs.lemmas.List.Elements.{Contains-append_cases, Contains-append_left, Contains-append_right}
@@ -194,6 +195,52 @@ members-remove xs s i rises in_list at j = (to, from)
               ]
         ]
 
+-- at this place the numbers from s on begin
+pub record Cuts (xs : List ℕ) (s i : ℕ) : Type 0 where
+  pub low : (k : ℕ) → k < i → k < length xs → get_or xs k 0 < s
+  pub high : (k : ℕ) → i ≤ k → k < length xs → s ≤ get_or xs k 0
+
+pub found-cuts : (xs : List ℕ) (s : ℕ) (r : Result ℕ ℕ) → Rises xs → IsBinarySearchResult (λ y. nat_cmp y s) xs r → MatchResult r (Cuts xs s) (Cuts xs s)
+found-cuts xs s (Ok i) rises found =
+    let it : (i < length xs) × (get_or xs i 0 ≡ s) = set_searched xs s (Ok i) rises found in
+    let at : get_or xs i 0 ≡ s = it.1 in
+    record {
+      low = λ k less in_list. let h : get_or xs k 0 < get_or xs i 0 = rises k i less it.0 in omega arith;
+      high = λ k le in_list. let h : get_or xs i 0 ≤ get_or xs k 0 = rises-order xs rises i k le in_list in omega arith;
+    }
+found-cuts xs s (Err i) rises found =
+    let it : (i ≤ length xs) × ((k : ℕ) → k < i → get_or xs k 0 < s) × ((k : ℕ) → i ≤ k → k < length xs → s < get_or xs k 0) = set_searched xs s (Err i) rises found in
+    record {
+      low = λ k less in_list. it.1 k less;
+      high = λ k le in_list. let h : s < get_or xs k 0 = it.2 k le in_list in omega arith;
+    }
+
+taken-low : (xs : List ℕ) (i k : ℕ) → k < length (take i xs) → (k < i) × (k < length xs)
+taken-low xs i k low = let size : length (take i xs) ≡ min i (length xs) = length-take i xs in (omega arith, omega arith)
+
+pub members-take : (xs : List ℕ) (s i : ℕ) → Cuts xs s i → (j : ℕ) → Contains (take i xs) j ↔ Contains xs j × (j < s)
+members-take xs s i cuts j = (to, from)
+  where
+    to : Contains (take i xs) j → Contains xs j × (j < s)
+    to it =
+        let place : (k : ℕ) × (k < length (take i xs)) × (get_or (take i xs) k 0 ≡ j) = contains-place (take i xs) j it in
+        let both = taken-low xs i place.0 place.1 in
+        let here : get_or (take i xs) place.0 0 ≡ get_or xs place.0 0 = get_or-take i xs place.0 0 both.0 in
+        let same : get_or (take i xs) place.0 0 ≡ j = place.2 in
+        let h : get_or xs place.0 0 < s = cuts.low place.0 both.0 both.1 in
+        (place-contains xs j place.0 both.1 (sym here ∙ same), omega arith)
+
+    from : Contains xs j × (j < s) → Contains (take i xs) j
+    from (it, less) =
+        let place : (k : ℕ) × (k < length xs) × (get_or xs k 0 ≡ j) = contains-place xs j it in
+        let same : get_or xs place.0 0 ≡ j = place.2 in
+        let in_list : place.0 < length xs = place.1 in
+        let size : length (take i xs) ≡ min i (length xs) = length-take i xs in
+        elim (cases_lt place.0 i) [
+          | inl low ↦ place-contains (take i xs) j place.0 (omega arith) (get_or-take i xs place.0 0 low ∙ same)
+          | inr high ↦ let h : s ≤ get_or xs place.0 0 = cuts.high place.0 high in_list in absurd (omega arith)
+        ]
+
 -- The same of lists that are equal: what was searched, what it was copied from, and what came of it.
 module _ (xs ys : List ℕ) (s : ℕ) (same : ys ≡ xs) (rises : Rises xs) where
   IsFound : List ℕ → Result ℕ ℕ → Type 0
@@ -222,6 +269,13 @@ module _ (xs ys : List ℕ) (s : ℕ) (same : ys ≡ xs) (rises : Rises xs) wher
   members-absent ws i w found j =
       let divides : Divides xs s i = found-divides xs s i rises (subst (λ l. IsFound l (Err i)) same found) in
       (λ it. (it, λ e. divided-absent xs s i divides (subst (λ y. Contains xs y) e (subst (λ l. Contains l j) w it))), λ both. both.0)
+
+-- where the search ends, the numbers from s on begin
+pub cut : (xs ys : List ℕ) (s : ℕ) (r : Result ℕ ℕ) → ys ≡ xs → Rises xs → IsBinarySearchResult (λ y. nat_cmp y s) ys r → MatchResult r (Cuts xs s) (Cuts xs s)
+cut xs ys s r same rises found = found-cuts xs s r rises (subst (λ l. IsBinarySearchResult (λ y. nat_cmp y s) l r) same found)
+
+pub members-taken : (xs ws zs : List ℕ) (s i : ℕ) → ws ≡ xs → zs ≡ take i xs → Cuts xs s i → (j : ℕ) → Contains zs j ↔ Contains ws j × (j < s)
+members-taken xs ws zs s i w e cuts = rw (e, w) (members-take xs s i cuts)
 
 pub members-inserted : (xs ws zs : List ℕ) (s i : ℕ) → ws ≡ xs → zs ≡ insert xs i s → (j : ℕ) → Contains zs j ↔ (j ≡ s) ⊎ Contains ws j
 members-inserted xs ws zs s i w e = rw (e, w) (members-insert xs s i)

@@ -1,5 +1,5 @@
 -- How a search for the states that are reached grows.
-use Rattle.std.proofs.Common.{◌≡◌, ◌≢◌, ◌↔◌, ◌⊎◌, inl, inr, ℕ, zero, suc, ◌<◌, ◌≤◌, ◌+◌, Bool, true, false, List, [], ◌∷◌, ◌++◌, take, refl, sym, ap, ◌∙◌, subst, arith, length, get_or, Contains}
+use Rattle.std.proofs.Common.{◌≡◌, ◌≢◌, ◌⊎◌, inl, inr, ℕ, zero, suc, ◌<◌, ◌≤◌, ◌+◌, Bool, true, false, List, [], ◌∷◌, ◌++◌, take, refl, sym, ap, ◌∙◌, subst, arith, length, get_or, Contains}
 use Rattle.std.proofs.Math.ListN.{set}
 use Rattle.std.proofs.lemmas.List.{get_or_past, length-append, length-set, get_or-set_same, get_or-set_other}
 use Rattle.std.proofs.lemmas.Bool.{cases_eq, cases_lt}
@@ -170,29 +170,8 @@ record-some a b o fields list is same grows = grows-same a b (InAnyField list) (
 pub record-none : (a : Found) (o : Option (List FieldSet)) → o ≡ None → Grows a a (InRecord o)
 record-none a o is = grows-nothing a (InRecord o) (λ j it. absurd (cc))
 
--- a set to which the members of a list are added one by one
-pub union-next : (self list : List ℕ) (i : ℕ) (old new : List ℕ) → i < length list → ((j : ℕ) → Contains old j ↔ (Contains self j ⊎ Contains (take i list) j)) → ((j : ℕ) → Contains new j ↔ (j ≡ get_or list i 0) ⊎ Contains old j) → (j : ℕ) → Contains new j ↔ (Contains self j ⊎ Contains (take (i + 1) list) j)
-union-next self list i old new low before adds j = (to, from)
-  where
-    to : Contains new j → Contains self j ⊎ Contains (take (i + 1) list) j
-    to it = elim ((adds j).0 it) [
-      | inl e ↦ inr (subst (λ k. Contains (take (i + 1) list) k) (sym e) (next-last list i 0 low))
-      | inr was ↦ elim ((before j).0 was) [ inl own ↦ inl own | inr other ↦ inr (next-more list i 0 low j other) ]
-    ]
-
-    from : Contains self j ⊎ Contains (take (i + 1) list) j → Contains new j
-    from (inl own) = (adds j).1 (inr ((before j).1 (inl own)))
-    from (inr it) = elim (next-cases list i 0 low j it) [
-      | inl was ↦ (adds j).1 (inr ((before j).1 (inr was)))
-      | inr e ↦ (adds j).1 (inl (sym e))
-    ]
-
 pub take-all : {X : Type 0} (xs : List X) (n : ℕ) → length xs ≤ n → take n xs ≡ xs
 take-all [] zero le = refl
 take-all [] (suc n) le = refl
 take-all (x ∷ xs) zero le = absurd (omega arith)
 take-all (x ∷ xs) (suc n) le = ap (λ ys. x ∷ ys) (take-all xs n (omega arith))
-
-pub union-all : (self list other : List ℕ) (i : ℕ) (both : List ℕ) → list ≡ other → length list ≤ i → ((j : ℕ) → Contains both j ↔ (Contains self j ⊎ Contains (take i list) j)) → (j : ℕ) → Contains both j ↔ (Contains self j ⊎ Contains other j)
-union-all self list other i both same all it j =
-    subst (λ xs. Contains both j ↔ (Contains self j ⊎ Contains xs j)) (take-all list i all ∙ same) (it j)

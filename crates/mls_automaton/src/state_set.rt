@@ -1,6 +1,7 @@
 //! Sets of states.
 ghost use Rattle.std.specs.Prelude.{◌≡◌, ◌≢◌, ◌↔◌, ◌⊎◌, ◌<◌, ◌++◌, ◌∷◌, [], length, get_or, All, Contains, IfOk, OnOk, OnErr, IsTrue};
 ghost use Rattle.mls_automaton.specs.Sets.{Rises};
+ghost use Rattle.mls_automaton.specs.steps.Merging.{GoesPast, IsLow, StandsAt};
 
 use mls_base::memory::Memory;
 use std::alloc::Global;
@@ -82,7 +83,7 @@ impl StateSet {
         }
     }
 
-    /// The set of the states that are in one of the two.
+    /// The set of the states that are in one of the two, in time linear in both.
     ///
     /// # Errors
     ///
@@ -90,9 +91,16 @@ impl StateSet {
     pub fn union(&self, other: &StateSet) -> Result<StateSet, Memory>
         ensures { IfOk result (λ both. (j : _) → Contains both j ↔ Contains self.now j ⊎ Contains other.now j) }
     {
-        let mut both = self.clone()?;
-        for s in other.as_slice() {
-            both.insert(StateId(*s))?;
+        let first = self.numbers.as_slice();
+        let second = other.numbers.as_slice();
+        let mut both = StateSet::new(*self.numbers.allocator());
+        let mut i = 0;
+        let mut j = 0;
+        while i < first.len() || j < second.len() {
+            let s = least(first, second, i, j);
+            both.push(StateId(s))?;
+            i = past(first, i, s);
+            j = past(second, j, s);
         }
         Ok(both)
     }
@@ -107,6 +115,18 @@ impl StateSet {
                 self.numbers.remove(at);
             }
             Err(_) => {}
+        }
+    }
+
+    /// Takes out the states from this number on, in time logarithmic in the number of members that stay, and linear
+    /// in that of those that go.
+    pub fn truncate(&mut self, states: usize)
+        ensures members { (j : _) → Contains self.new j ↔ Contains self.old j × (j < states) }
+        ensures rises { Rises self.new }
+    {
+        match self.numbers.binary_search(&states) {
+            Ok(at) => self.numbers.truncate(at),
+            Err(at) => self.numbers.truncate(at),
         }
     }
 
@@ -146,5 +166,33 @@ impl StateSet {
         ensures { IsTrue result ↔ Contains self.now s.0 }
     {
         self.numbers.binary_search(&s.0).is_ok()
+    }
+}
+
+// The least of the numbers at these places.
+fn least(first: &[usize], second: &[usize], i: usize, j: usize) -> usize
+    requires left { (i < length first.now) ⊎ (j < length second.now) }
+    ensures first { IsLow first.now i result }
+    ensures second { IsLow second.now j result }
+    ensures there { StandsAt first.now i result ⊎ StandsAt second.now j result }
+{
+    if i >= first.len() {
+        return second[j];
+    }
+    if j >= second.len() {
+        return first[i];
+    }
+    first[i].min(second[j])
+}
+
+// The place behind a number, where it stands at this place; else this place.
+fn past(numbers: &[usize], i: usize, s: usize) -> usize
+    requires { IsLow numbers.now i s }
+    ensures { GoesPast numbers.now i s result }
+{
+    if i < numbers.len() && numbers[i] == s {
+        i + 1
+    } else {
+        i
     }
 }

@@ -1,5 +1,4 @@
-use Rattle.std.proofs.Common.{◌≡◌, ◌<◌, ◌∙◌, List, inl, inr, get_or, length, arith, sym, ap}
-use Rattle.mls_automaton.specs.declared.automaton.FieldSet.{FieldSet}
+use Rattle.std.proofs.Common.{◌<◌, ◌∙◌, inl, inr, get_or, length, arith, ap}
 use Rattle.mls_automaton.specs.steps.Combining.{with_one}
 use Rattle.mls_automaton.proofs.JoinedFields.{equal-labels, greater-less, merge-both, merge-first, merge-second, order-at, united-at}
 use Rattle.mls_automaton.proofs.combine.merge_next.Goals as goal

@@ -1,8 +1,18 @@
-use Rattle.mls_automaton.proofs.Searches.{union-next, union-all}
+use Rattle.std.proofs.Common.{◌↔◌, ◌⊎◌, ℕ, Contains, sym, ◌∙◌, subst}
+use Rattle.mls_automaton.specs.Sets.{Rises}
+use Rattle.mls_automaton.specs.steps.Merging.{AreMerged}
+use Rattle.mls_automaton.proofs.MergedSets.{merged-next, merged-all}
 use Rattle.mls_automaton.proofs.state_set.StateSet.union.Goals as goal
 
-pub loop-s-preserved : goal.loop-s-preserved
-loop-s-preserved c = union-next c.args.self.now c.as_slice-s-items.result.now c.loop-s.s-index c.loop-s.both c.insert.new.self c.loop-s-test.true c.loop-s.invariant c.in_ok-insert.ensures.ok
+pub loop-i-preserved : goal.loop-i-preserved
+loop-i-preserved c =
+    let first : Rises c.as_slice-first.result.now = subst Rises (sym c.as_slice-first.ensures.value) c.self.invariant in
+    let second : Rises c.as_slice-second.result.now = subst Rises (sym c.as_slice-second.ensures.value) c.other.invariant in
+    subst (λ xs. AreMerged c.as_slice-first.result.now c.as_slice-second.result.now c.past-i.result c.past-j.result xs) (sym c.in_ok-push.ensures.ok)
+    (merged-next c.as_slice-first.result.now c.as_slice-second.result.now c.loop-i.both c.loop-i.i c.loop-i.j c.least-s.result c.loop-i.invariant c.least-s.ensures.there c.past-i.result c.past-j.result first second c.past-i.ensures c.past-j.ensures)
 
 pub returns : goal.returns
-returns c = union-all c.args.self.now c.as_slice-s-items.result.now c.args.other.now c.loop-s.s-index c.loop-s.both c.as_slice-s-items.ensures.members c.loop-s-test.false c.loop-s.invariant
+returns c =
+    subst (λ xs. (j : ℕ) → Contains c.loop-i.both j ↔ Contains c.args.self.now j ⊎ Contains xs j) (c.as_slice-second.ensures.value ∙ c.other.view_is)
+    (subst (λ xs. (j : ℕ) → Contains c.loop-i.both j ↔ Contains xs j ⊎ Contains c.as_slice-second.result.now j) (c.as_slice-first.ensures.value ∙ c.self.view_is)
+    (merged-all c.as_slice-first.result.now c.as_slice-second.result.now c.loop-i.both c.loop-i.i c.loop-i.j c.loop-i.invariant c.if-i-first.false c.if-j-second.false))

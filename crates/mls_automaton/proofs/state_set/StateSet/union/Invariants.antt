@@ -1,6 +1,9 @@
-use Rattle.std.proofs.Common.{◌↔◌, ◌⊎◌, ℕ, take, Contains}
+use Rattle.std.proofs.Common.{◌+◌, ◌-◌, length}
+use Rattle.mls_automaton.specs.steps.Merging.{AreMerged}
 use Rattle.mls_automaton.proofs.state_set.StateSet.union.Given as goal
 
--- the members of the one, and those of the other so far
-abbrev pub invariant-loop-s : goal.invariant-loop-s
-invariant-loop-s l = (j : ℕ) → Contains l.both j ↔ (Contains l.self j ⊎ Contains (take l.s-index l.s-items) j)
+abbrev pub invariant-loop-i : goal.invariant-loop-i
+invariant-loop-i l = AreMerged l.first l.second l.i l.j l.both
+
+abbrev pub decreases-loop-i : goal.decreases-loop-i
+decreases-loop-i l = (length l.first + length l.second) - (l.i + l.j)
