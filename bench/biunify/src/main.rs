@@ -23,6 +23,12 @@ struct Room {
     marks: Vec<bool>,
     order: Vec<u32>,
     len: usize,
+    // For each row the number behind its latest pair, and for each pair that of the one before it in its row; and the
+    // same of columns.
+    last_in_row: Vec<u32>,
+    last_in_column: Vec<u32>,
+    before_in_row: Vec<u32>,
+    before_in_column: Vec<u32>,
 }
 
 impl Room {
@@ -37,31 +43,49 @@ impl Room {
             marks: vec![false; positives * negatives],
             order: vec![0; positives * negatives],
             len: 0,
+            last_in_row: vec![0; positives],
+            last_in_column: vec![0; negatives],
+            before_in_row: vec![0; positives * negatives],
+            before_in_column: vec![0; positives * negatives],
         }
     }
 
-    fn insert(&mut self, cell: usize) {
+    fn insert(&mut self, row: usize, column: usize) {
+        let cell = row * self.width + column;
         if !self.marks[cell] {
             self.marks[cell] = true;
             self.order[self.len] = cell as u32;
+            self.before_in_row[self.len] = self.last_in_row[row];
+            self.before_in_column[self.len] = self.last_in_column[column];
             self.len += 1;
+            self.last_in_row[row] = self.len as u32;
+            self.last_in_column[column] = self.len as u32;
         }
     }
 
     fn add_sets(&mut self, positives: &[usize], negatives: &[usize]) {
         for p in positives {
             for n in negatives {
-                let cell = self.places[*p] * self.width + self.places[*n];
-                self.insert(cell);
+                self.insert(self.places[*p], self.places[*n]);
             }
         }
     }
 
-    fn copy(&mut self, from: usize, to: usize, step: usize, count: usize) {
-        for k in 0..count {
-            if self.marks[from + k * step] {
-                self.insert(to + k * step);
-            }
+    fn copy_row(&mut self, from: usize, to: usize) {
+        let mut at = self.last_in_row[from] as usize;
+        while at > 0 {
+            let column = self.order[at - 1] as usize % self.width;
+            self.insert(to, column);
+            at = self.before_in_row[at - 1] as usize;
+        }
+    }
+
+    fn copy_column(&mut self, from: usize, to: usize) {
+        let mut at = self.last_in_column[from] as usize;
+        while at > 0 {
+            let row = self.order[at - 1] as usize / self.width;
+            self.insert(row, to);
+            at = self.before_in_column[at - 1] as usize;
         }
     }
 
@@ -70,6 +94,8 @@ impl Room {
             self.marks[*cell as usize] = false;
         }
         self.len = 0;
+        self.last_in_row.fill(0);
+        self.last_in_column.fill(0);
         self.row_count = 0;
         self.column_count = 0;
         for s in 0..a.heads.len() {
@@ -96,12 +122,10 @@ impl Room {
                 self.add_sets(&upper.1, &lower.1);
             }
             for q in &a.partners[n] {
-                let (from, to) = (self.places[*q], self.places[p]);
-                self.copy(from * self.width, to * self.width, 1, self.column_count);
+                self.copy_row(self.places[*q], self.places[p]);
             }
             for m in &a.partners[p] {
-                let (from, to) = (self.places[*m], self.places[n]);
-                self.copy(from, to, self.width, self.row_count);
+                self.copy_column(self.places[*m], self.places[n]);
             }
             next += 1;
         }
@@ -135,15 +159,15 @@ fn cycles() -> (Automaton, Vec<(usize, usize)>) {
 }
 
 // Positive states 0 to n - 1 and negative states n to 2n - 1. Each negative state n + i has an edge to state i + 1, and
-// each state i is to be below state n + i.
-fn chain(n: usize) -> (Automaton, Vec<(usize, usize)>) {
+// each state i whose number is a multiple of the step is to be below state n + i.
+fn chain(n: usize, step: usize) -> (Automaton, Vec<(usize, usize)>) {
     let mut partners = vec![Vec::new(); 2 * n];
     for i in 0..n - 1 {
         partners[n + i].push(i + 1);
         partners[i + 1].push(n + i);
     }
     let positive = (0..2 * n).map(|s| s < n).collect();
-    let goals = (0..n).map(|i| (i, n + i)).collect();
+    let goals = (0..n).step_by(step).map(|i| (i, n + i)).collect();
     (Automaton { positive, heads: vec![Head::default(); 2 * n], partners }, goals)
 }
 
@@ -163,7 +187,9 @@ fn main() {
     let (a, goals) = cycles();
     measure("cycles", &a, &goals, 1000);
     for n in [125, 250, 500] {
-        let (a, goals) = chain(n);
-        measure(&format!("chain of {}", 2 * n), &a, &goals, n);
+        for step in [1, 2] {
+            let (a, goals) = chain(n, step);
+            measure(&format!("chain of {}, step {step}", 2 * n), &a, &goals, n);
+        }
     }
 }

@@ -79,21 +79,21 @@ module _ (marks : List Bool) (order : List ℕ) (len : ℕ) (are : AreCells mark
       let same : length order ≡ length marks = are.same_length in
       omega arith
 
-  members : take (len + 1) (set order len x) ≡ take len order ++ x ∷ []
-  members = take_more_set order len x cells-room
+  pub cells-members : take (len + 1) (set order len x) ≡ take len order ++ x ∷ []
+  cells-members = take_more_set order len x cells-room
 
   still : (q : ℕ) (b : Bool) → (q == x) ≡ b → get_or (set marks x true) q false ≡ is_among (take (len + 1) (set order len x)) q
   still q true e =
       let same : q ≡ x = eqb-true q x e in
       subst (λ y. get_or (set marks x true) y false ≡ true) (sym same) (get_or-set_same marks x true false low)
-      ∙ sym (ap (λ xs. is_among xs q) members
+      ∙ sym (ap (λ xs. is_among xs q) cells-members
       ∙ (list_any-append (λ y. q == y) (take len order) (x ∷ [])
       ∙ ((λ i. is_among (take len order) q || (e i || false)) ∙ or_true (is_among (take len order) q))))
   still q false e =
       let apart : q ≢ x = λ same. let is : (q == x) ≡ true = eq-eqb q x same in absurd (cc) in
       get_or-set_other marks x q true false apart
       ∙ (are.marked q
-      ∙ sym (ap (λ xs. is_among xs q) members
+      ∙ sym (ap (λ xs. is_among xs q) cells-members
       ∙ (list_any-append (λ y. q == y) (take len order) (x ∷ [])
       ∙ ((λ i. is_among (take len order) q || (e i || false)) ∙ or_false (is_among (take len order) q)))))
 
@@ -105,23 +105,38 @@ module _ (marks : List Bool) (order : List ℕ) (len : ℕ) (are : AreCells mark
         omega arith;
     same_length = length-set order len x ∙ (are.same_length ∙ sym (length-set marks x true));
     small = rw length-set are.small;
-    distinct = subst (IsDistinct (λ x y. x == y)) (sym members) grown;
+    distinct = subst (IsDistinct (λ x y. x == y)) (sym cells-members) grown;
     marked = λ q. still q (q == x) refl;
   }
 
-  pub cells-inserts : Inserts (record { limit = length marks; members = take len order }) (record { limit = length (set marks x true); members = take (len + 1) (set order len x) }) (λ y. y ≡ x)
-  cells-inserts = record {
-    limit = length-set marks x true;
-    behind = (x ∷ [], members);
-    sound = λ y it.
-        elim (Contains-append_cases (take len order) (x ∷ []) y (subst (λ xs. Contains xs y) members it)) [
-          | inl old ↦ inl old
-          | inr new ↦ inr (one_member x y new)
-        ];
-    complete = λ y same.
-        subst (λ xs. Contains xs y) (sym members)
-        (Contains-append_right (take len order) (x ∷ []) y (subst (λ z. Contains (x ∷ []) z) (sym same) (Contains-here x [])));
-  }
+  pub cells-bound : length (take (len + 1) (set order len x)) ≤ length (set marks x true)
+  cells-bound =
+      let room : len < length order = cells-room in
+      let all : length (set order len x) ≡ length order = length-set order len x in
+      let more : length (take (len + 1) (set order len x)) ≡ len + 1 = length-take-le (len + 1) (set order len x) (omega arith) in
+      let same : length order ≡ length marks = are.same_length in
+      let marked : length (set marks x true) ≡ length marks = length-set marks x true in
+      omega arith
+
+-- one more number at the end
+pub cells-inserts : (old new : Numbers) (x : ℕ) → new.limit ≡ old.limit → new.members ≡ old.members ++ x ∷ [] → Inserts old new (λ y. y ≡ x)
+cells-inserts old new x limit members = record {
+  limit = limit;
+  behind = (x ∷ [], members);
+  sound = λ y it.
+      elim (Contains-append_cases old.members (x ∷ []) y (subst (λ xs. Contains xs y) members it)) [
+        | inl before ↦ inl before
+        | inr last ↦ inr (one_member x y last)
+      ];
+  complete = λ y same.
+      subst (λ xs. Contains xs y) (sym members)
+      (Contains-append_right old.members (x ∷ []) y (subst (λ z. Contains (x ∷ []) z) (sym same) (Contains-here x [])));
+}
+
+-- a number without a mark
+pub cells-unmarked : (b : Bool) (P : Type 0) → ((b ≡ true) ↔ P) → (P → ⊥) → b ≡ false
+cells-unmarked true P it absent = absurd (absent (it.0 refl))
+cells-unmarked false P it absent = refl
 
 -- a number that is there is not added again
 pub cells-stay : (cells : Numbers) (x : ℕ) → Contains cells.members x → Inserts cells cells (λ y. y ≡ x)

@@ -20,3 +20,13 @@ pub mod NumberedStates
 pub mod KeyOrder
 pub mod FirstKinds
 pub mod FirstClashes
+pub mod CombinedHeads
+pub mod Members
+pub mod AddedFlows
+pub mod SolvedStates
+pub mod SolvedRooms
+pub mod Marking
+pub mod SolvedFlows
+pub mod LinkSteps
+pub mod Walks
+pub mod LinkedRooms

@@ -1,15 +1,18 @@
 -- What the calls of a room do, by its parts.
-use Rattle.std.proofs.Common.{◌≡◌, ℕ, ◌+◌, ◌*◌, ◌/◌, ◌%◌, ◌<◌, ◌≤◌, [], map, refl, sym, ap, ◌∙◌, subst, arith, length, take, get_or, Contains}
+use Rattle.std.proofs.Common.{◌≡◌, ℕ, ◌+◌, ◌*◌, ◌/◌, ◌%◌, ◌<◌, ◌≤◌, List, [], ◌∷◌, ◌++◌, map, refl, sym, ap, ◌∙◌, subst, arith, length, take, get_or, Contains}
 use Rattle.std.specs.Prelude.{◌↔◌, All}
 use Rattle.std.proofs.Math.ListN.{set}
 use Rattle.std.proofs.lemmas.Nat.{div-mul-add, mod-mul-add}
-use Rattle.std.proofs.lemmas.List.{get_or-take, get_or_default, get_or-map, length-set, length-take-le, length-map}
+use Rattle.std.proofs.lemmas.List.{get_or-take, get_or_default, get_or-map, length-append, length-set, length-take-le, length-map, map-append}
 use Rattle.mls_automaton.proofs.Lists.{Contains-map}
 use Rattle.mls_biunify.specs.Rooms.{Room, Holds}
-use Rattle.mls_biunify.specs.steps.Numbers.{Numbers, Inserts, Copies, AreApart}
-use Rattle.mls_biunify.specs.steps.RoomParts.{Tables, pair_of, IsCell, AreTables, room_of}
+use Rattle.mls_biunify.specs.steps.Links.{LinkTable, AreLinked, IsSameSpace}
+use Rattle.mls_biunify.specs.steps.Numbers.{Numbers, Inserts}
+use Rattle.mls_biunify.specs.steps.RoomParts.{Tables, pair_of, IsCell, AreLinkedCells, AreTables, room_of}
+use Rattle.mls_biunify.proofs.CellSteps.{cells-inserts}
+use Rattle.mls_biunify.proofs.Relating.{Relates-none}
 use Rattle.mls_biunify.specs.steps.Growth.{Relates}
-use Rattle.mls_biunify.proofs.RoomSteps.{IsLine, line_of, line_row, line_column, rows_fit, columns_fit, placed-more, placed-other, no_members, row_in, column_in, cell_fits, pair-cell, pair-line, held_lines, held-cell, are_grown, grown_relates}
+use Rattle.mls_biunify.proofs.RoomSteps.{IsLine, line_of, line_row, line_column, rows_fit, columns_fit, placed-more, placed-other, no_members, row_in, column_in, cell_fits, pair-line, held_lines, held-cell, are_grown, grown_relates}
 
 module _ (t : Tables) (are : AreTables t) (room : Room) (is : room_of t ≡ room) where
   abbrev W : ℕ
@@ -55,9 +58,72 @@ module _ (t : Tables) (are : AreTables t) (room : Room) (is : room_of t ≡ room
     the_pair : pair_of t (row * W + column) ≡ (p, n)
     the_pair = ap (pair_of t) (λ i. row_is i * W + column_is i) ∙ pair-line t are p n row_line column_line
 
-    module _ (more : Numbers) (inserts : Inserts t.cells more (λ y. y ≡ row * W + column)) where
-      pub add_tables : AreTables (record t { cells = more })
-      add_tables = are_grown t are more (λ y. y ≡ row * W + column) inserts is_cell
+    pub add_row_key : row < length t.by_row.last
+    add_row_key =
+        let used : row < t.row_count = row_used in
+        let few : t.row_count ≤ t.positives = are.few_rows in
+        let all : length t.by_row.last ≡ t.positives = are.linked.row_keys in
+        omega arith
+
+    pub add_column_key : column < length t.by_column.last
+    add_column_key =
+        let used : column < t.column_count = column_used in
+        let few : t.column_count ≤ t.negatives = are.few_columns in
+        let all : length t.by_column.last ≡ t.negatives = are.linked.column_keys in
+        omega arith
+
+    module _ (more : Numbers) (limit : more.limit ≡ t.cells.limit) (members : more.members ≡ t.cells.members ++ (row * W + column) ∷ []) where
+      inserts : Inserts t.cells more (λ y. y ≡ row * W + column)
+      inserts = cells-inserts t.cells more (row * W + column) limit members
+
+      row_key : (row * W + column) / W ≡ row
+      row_key = let thin : t.column_count ≤ W = are.few_columns in let narrow : column < t.column_count = column_used in div-mul-add row W column (omega arith)
+
+      column_key : (row * W + column) % W ≡ column
+      column_key = let thin : t.column_count ≤ W = are.few_columns in let narrow : column < t.column_count = column_used in mod-mul-add row W column (omega arith)
+
+      -- there is space for one more place
+      module _ (bound : length more.members ≤ more.limit) where
+        more_cells : length t.cells.members < t.cells.limit
+        more_cells =
+            let all : length more.members ≡ length t.cells.members + 1 = ap length members ∙ length-append t.cells.members ((row * W + column) ∷ []) in
+            omega arith
+
+        pub row_link_fits : t.by_row.len < length t.by_row.before
+        row_link_fits =
+            let size : t.by_row.len ≡ length (map (λ x. x / W) t.cells.members) = are.linked.rows.size in
+            let all : length (map (λ x. x / W) t.cells.members) ≡ length t.cells.members = length-map t.cells.members (λ x. x / W) in
+            let space : length t.by_row.before ≡ t.cells.limit = are.linked.row_space in
+            let less : length t.cells.members < t.cells.limit = more_cells in
+            omega arith
+
+        pub column_link_fits : t.by_column.len < length t.by_column.before
+        column_link_fits =
+            let size : t.by_column.len ≡ length (map (λ x. x % W) t.cells.members) = are.linked.columns.size in
+            let all : length (map (λ x. x % W) t.cells.members) ≡ length t.cells.members = length-map t.cells.members (λ x. x % W) in
+            let space : length t.by_column.before ≡ t.cells.limit = are.linked.column_space in
+            let less : length t.cells.members < t.cells.limit = more_cells in
+            omega arith
+
+      module _ (rows columns : LinkTable) (row_same : IsSameSpace t.by_row rows) (column_same : IsSameSpace t.by_column columns) (row_more : (keys : List ℕ) → AreLinked keys t.by_row → AreLinked (keys ++ row ∷ []) rows) (column_more : (keys : List ℕ) → AreLinked keys t.by_column → AreLinked (keys ++ column ∷ []) columns) where
+        linked : AreLinkedCells t.positives W more rows columns
+        linked = record {
+          row_keys = row_same.last ∙ are.linked.row_keys;
+          column_keys = column_same.last ∙ are.linked.column_keys;
+          row_space = row_same.before ∙ (are.linked.row_space ∙ sym limit);
+          column_space = column_same.before ∙ (are.linked.column_space ∙ sym limit);
+          rows =
+              subst (λ keys. AreLinked keys rows)
+              (sym (ap (map (λ x. x / W)) members ∙ (map-append (λ x. x / W) t.cells.members ((row * W + column) ∷ []) ∙ (λ i. map (λ x. x / W) t.cells.members ++ row_key i ∷ []))))
+              (row_more (map (λ x. x / W) t.cells.members) are.linked.rows);
+          columns =
+              subst (λ keys. AreLinked keys columns)
+              (sym (ap (map (λ x. x % W)) members ∙ (map-append (λ x. x % W) t.cells.members ((row * W + column) ∷ []) ∙ (λ i. map (λ x. x % W) t.cells.members ++ column_key i ∷ []))))
+              (column_more (map (λ x. x % W) t.cells.members) are.linked.columns);
+        }
+
+        pub add_tables : AreTables (record t { cells = more; by_row = rows; by_column = columns })
+        add_tables = are_grown t are more (λ y. y ≡ row * W + column) inserts is_cell rows columns linked
 
       pub add_relates : Relates room (room_of (record t { cells = more })) (λ q m. (q ≡ p) × (m ≡ n))
       add_relates =
@@ -68,175 +134,13 @@ module _ (t : Tables) (are : AreTables t) (room : Room) (is : room_of t ≡ room
           (λ i. (pair i).0, λ i. (pair i).1))
           (λ q m same. (row * W + column, refl, the_pair ∙ (λ i. (sym same.0 i, sym same.1 i)))))
 
-  -- a row
-  module _ (from to source target : ℕ) (from_in : Contains room.rows from) (to_in : Contains room.rows to) (source_read : source ≡ get_or t.places from source) (target_read : target ≡ get_or t.places to target) where
-    source_line : IsLine t.places t.rows t.row_count from
-    source_line = (read_row from source from_in source_read).0
-
-    source_is : source ≡ get_or t.places from 0
-    source_is = (read_row from source from_in source_read).1
-
-    target_line : IsLine t.places t.rows t.row_count to
-    target_line = (read_row to target to_in target_read).0
-
-    target_is : target ≡ get_or t.places to 0
-    target_is = (read_row to target to_in target_read).1
-
-    source_used : source < t.row_count
-    source_used = subst (λ k. k < t.row_count) (sym source_is) source_line.used
-
-    target_used : target < t.row_count
-    target_used = subst (λ k. k < t.row_count) (sym target_is) target_line.used
-
-    pub row_reads : (k : ℕ) → k < t.column_count → source * W + k * 1 < t.cells.limit
-    row_reads k low = let below : source * W + k < t.cells.limit = cell_fits t are source k source_used low in omega arith
-
-    pub row_writes : (k : ℕ) → k < t.column_count → target * W + k * 1 < t.cells.limit
-    row_writes k low = let below : target * W + k < t.cells.limit = cell_fits t are target k target_used low in omega arith
-
-    pub row_apart : AreApart (source * W) (target * W) 1 t.column_count
-    row_apart j k less low same =
-        let thin : t.column_count ≤ W = are.few_columns in
-        let e : source * W + k ≡ target * W + j = omega arith in
-        let one : (source * W + k) % W ≡ k = mod-mul-add source W k (omega arith) in
-        let two : (target * W + j) % W ≡ j = mod-mul-add target W j (omega arith) in
-        let equal : k ≡ j = sym one ∙ (ap (λ x. x % W) e ∙ two) in
-        omega arith
-
-    abbrev IsRowCell : ℕ → Type 0
-    IsRowCell = Copies t.cells (source * W) (target * W) 1 t.column_count
-
-    row_cell : (x : ℕ) → IsRowCell x → IsCell t x
-    row_cell x it = record { row = target; column = it.0; is = let e : x ≡ target * W + it.0 * 1 = it.2 in omega arith; row_used = target_used; column_used = it.1 }
-
-    abbrev IsRowPair : ℕ → ℕ → Type 0
-    IsRowPair q m = (q ≡ to) × Holds room from m
-
-    from_is : get_or t.rows source 0 ≡ from
-    from_is = ap (λ k. get_or t.rows k 0) source_is ∙ source_line.is
-
-    to_is : get_or t.rows target 0 ≡ to
-    to_is = ap (λ k. get_or t.rows k 0) target_is ∙ target_line.is
-
-    row_pair : (row k : ℕ) → k < t.column_count → pair_of t (row * W + k * 1) ≡ (get_or t.rows row 0, get_or t.columns k 0)
-    row_pair row k low = let f : row * W + k * 1 ≡ row * W + k = omega arith in ap (pair_of t) f ∙ pair-cell t are row k low
-
-    row_sound : (x : ℕ) → IsRowCell x → ((pair_of t x).0 ≡ to) × Holds room from (pair_of t x).1
-    row_sound x it =
-        let written : pair_of t x ≡ (get_or t.rows target 0, get_or t.columns it.0 0) = ap (pair_of t) it.2 ∙ row_pair target it.0 it.1 in
-        let second : get_or t.columns it.0 0 ≡ (pair_of t x).1 = sym (λ i. (written i).1) in
-        let read : pair_of t (source * W + it.0 * 1) ≡ (from, (pair_of t x).1) = row_pair source it.0 it.1 ∙ (λ i. (from_is i, second i)) in (
-          (λ i. (written i).0) ∙ to_is,
-          subst (λ (r : Room). Holds r from (pair_of t x).1) is
-              (subst (Contains (map (pair_of t) t.cells.members)) read (Contains-map (pair_of t) t.cells.members (source * W + it.0 * 1) it.3)),
-        )
-
-    row_complete : (q m : ℕ) → (q ≡ to) × Holds room from m → (x : ℕ) × IsRowCell x × (pair_of t x ≡ (q, m))
-    row_complete q m it =
-        let held : Holds (room_of t) from m = subst (λ (r : Room). Holds r from m) (sym is) it.1 in
-        let column = (held_lines t are from m held).1 in
-        let k : ℕ = get_or t.places m 0 in
-        let at : get_or t.places from 0 * W + k ≡ source * W + k * 1 =
-        let e : source * W + k * 1 ≡ source * W + k = omega arith in sym (e ∙ (λ i. source_is i * W + k)) in (
-          target * W + k * 1,
-          (k, column.used, refl, subst (Contains t.cells.members) at ((held-cell t are from m source_line column).1 held)),
-          row_pair target k column.used ∙ (λ i. ((to_is ∙ sym it.0) i, column.is i)),
-        )
-
-    module _ (more : Numbers) (inserts : Inserts t.cells more IsRowCell) where
-      pub row_tables : AreTables (record t { cells = more })
-      row_tables = are_grown t are more IsRowCell inserts row_cell
-
-      pub row_relates : Relates room (room_of (record t { cells = more })) IsRowPair
-      row_relates =
-          subst (λ (r : Room). Relates r (room_of (record t { cells = more })) IsRowPair) is
-          (grown_relates t are more IsRowCell inserts row_cell IsRowPair row_sound row_complete)
-
-  -- a column
-  module _ (from to source target : ℕ) (from_in : Contains room.columns from) (to_in : Contains room.columns to) (source_read : source ≡ get_or t.places from source) (target_read : target ≡ get_or t.places to target) where
-    upper_line : IsLine t.places t.columns t.column_count from
-    upper_line = (read_column from source from_in source_read).0
-
-    upper_is : source ≡ get_or t.places from 0
-    upper_is = (read_column from source from_in source_read).1
-
-    lower_line : IsLine t.places t.columns t.column_count to
-    lower_line = (read_column to target to_in target_read).0
-
-    lower_is : target ≡ get_or t.places to 0
-    lower_is = (read_column to target to_in target_read).1
-
-    upper_used : source < t.column_count
-    upper_used = subst (λ k. k < t.column_count) (sym upper_is) upper_line.used
-
-    lower_used : target < t.column_count
-    lower_used = subst (λ k. k < t.column_count) (sym lower_is) lower_line.used
-
-    pub column_reads : (k : ℕ) → k < t.row_count → source + k * W < t.cells.limit
-    column_reads k low = let below : k * W + source < t.cells.limit = cell_fits t are k source low upper_used in omega arith
-
-    pub column_writes : (k : ℕ) → k < t.row_count → target + k * W < t.cells.limit
-    column_writes k low = let below : k * W + target < t.cells.limit = cell_fits t are k target low lower_used in omega arith
-
-    pub column_apart : AreApart source target W t.row_count
-    column_apart j k less low same =
-        let thin : t.column_count ≤ W = are.few_columns in
-        let upper : source < t.column_count = upper_used in
-        let lower : target < t.column_count = lower_used in
-        let e : k * W + source ≡ j * W + target = omega arith in
-        let one : (k * W + source) / W ≡ k = div-mul-add k W source (omega arith) in
-        let two : (j * W + target) / W ≡ j = div-mul-add j W target (omega arith) in
-        let equal : k ≡ j = sym one ∙ (ap (λ x. x / W) e ∙ two) in
-        omega arith
-
-    abbrev IsColumnCell : ℕ → Type 0
-    IsColumnCell = Copies t.cells source target W t.row_count
-
-    column_cell : (x : ℕ) → IsColumnCell x → IsCell t x
-    column_cell x it = record { row = it.0; column = target; is = let e : x ≡ target + it.0 * W = it.2 in omega arith; row_used = it.1; column_used = lower_used }
-
-    abbrev IsColumnPair : ℕ → ℕ → Type 0
-    IsColumnPair q m = (m ≡ to) × Holds room q from
-
-    below_is : get_or t.columns source 0 ≡ from
-    below_is = ap (λ k. get_or t.columns k 0) upper_is ∙ upper_line.is
-
-    above_is : get_or t.columns target 0 ≡ to
-    above_is = ap (λ k. get_or t.columns k 0) lower_is ∙ lower_line.is
-
-    column_pair : (column k : ℕ) → column < t.column_count → pair_of t (column + k * W) ≡ (get_or t.rows k 0, get_or t.columns column 0)
-    column_pair column k low = let f : column + k * W ≡ k * W + column = omega arith in ap (pair_of t) f ∙ pair-cell t are k column low
-
-    column_sound : (x : ℕ) → IsColumnCell x → ((pair_of t x).1 ≡ to) × Holds room (pair_of t x).0 from
-    column_sound x it =
-        let written : pair_of t x ≡ (get_or t.rows it.0 0, get_or t.columns target 0) = ap (pair_of t) it.2 ∙ column_pair target it.0 lower_used in
-        let first : get_or t.rows it.0 0 ≡ (pair_of t x).0 = sym (λ i. (written i).0) in
-        let read : pair_of t (source + it.0 * W) ≡ ((pair_of t x).0, from) = column_pair source it.0 upper_used ∙ (λ i. (first i, below_is i)) in (
-          (λ i. (written i).1) ∙ above_is,
-          subst (λ (r : Room). Holds r (pair_of t x).0 from) is
-              (subst (Contains (map (pair_of t) t.cells.members)) read (Contains-map (pair_of t) t.cells.members (source + it.0 * W) it.3)),
-        )
-
-    column_complete : (q m : ℕ) → (m ≡ to) × Holds room q from → (x : ℕ) × IsColumnCell x × (pair_of t x ≡ (q, m))
-    column_complete q m it =
-        let held : Holds (room_of t) q from = subst (λ (r : Room). Holds r q from) (sym is) it.1 in
-        let row = (held_lines t are q from held).0 in
-        let k : ℕ = get_or t.places q 0 in
-        let at : k * W + get_or t.places from 0 ≡ source + k * W =
-        let e : source + k * W ≡ k * W + source = omega arith in sym (e ∙ (λ i. k * W + upper_is i)) in (
-          target + k * W,
-          (k, row.used, refl, subst (Contains t.cells.members) at ((held-cell t are q from row upper_line).1 held)),
-          column_pair target k lower_used ∙ (λ i. (row.is i, (above_is ∙ sym it.0) i)),
-        )
-
-    module _ (more : Numbers) (inserts : Inserts t.cells more IsColumnCell) where
-      pub column_tables : AreTables (record t { cells = more })
-      column_tables = are_grown t are more IsColumnCell inserts column_cell
-
-      pub column_relates : Relates room (room_of (record t { cells = more })) IsColumnPair
-      column_relates =
-          subst (λ (r : Room). Relates r (room_of (record t { cells = more })) IsColumnPair) is
-          (grown_relates t are more IsColumnCell inserts column_cell IsColumnPair column_sound column_complete)
+    -- a pair that is held is not added again
+    pub add_held : Contains t.cells.members (row * W + column) → Relates room room (λ q m. (q ≡ p) × (m ≡ n))
+    add_held there =
+        let held : Holds room p n =
+        subst (λ (r : Room). Holds r p n) is
+        (subst (Contains (map (pair_of t) t.cells.members)) the_pair (Contains-map (pair_of t) t.cells.members (row * W + column) there)) in
+        Relates-none room (λ q m. (q ≡ p) × (m ≡ n)) (λ q m same. subst (λ k. Holds room k m) (sym same.0) (subst (λ k. Holds room p k) (sym same.1) held))
 
   -- whether a pair is held
   module _ (p n row column : ℕ) (row_low : row < length room.rows) (row_is : get_or room.rows row 0 ≡ p) (column_low : column < length room.columns) (column_is : get_or room.columns column 0 ≡ n) where
@@ -366,6 +270,7 @@ module _ (t : Tables) (are : AreTables t) (room : Room) (is : room_of t ≡ room
         placed_rows = placed-more t.places t.rows t.row_count s are.placed_rows (omega arith) has_place low_rows;
         placed_columns = placed-other t.places t.columns t.column_count s t.row_count are.placed_columns (columns_fit t are) low_columns;
         used = no_cell (record t { places = set t.places s t.row_count; rows = set t.rows t.row_count s; row_count = t.row_count + 1 });
+        linked = are.linked;
       }
 
   pub column_added : length room.columns < room.negatives → AreTables (record t { places = set t.places s t.column_count; columns = set t.columns t.column_count s; column_count = t.column_count + 1 })
@@ -383,4 +288,5 @@ module _ (t : Tables) (are : AreTables t) (room : Room) (is : room_of t ≡ room
         placed_rows = placed-other t.places t.rows t.row_count s t.column_count are.placed_rows (rows_fit t are) low_rows;
         placed_columns = placed-more t.places t.columns t.column_count s are.placed_columns (omega arith) has_place low_columns;
         used = no_cell (record t { places = set t.places s t.column_count; columns = set t.columns t.column_count s; column_count = t.column_count + 1 });
+        linked = are.linked;
       }

@@ -10,7 +10,8 @@ use Rattle.std.proofs.lemmas.List.{get_or-take, get_or_default, get_or-set_same,
 use Rattle.mls_automaton.proofs.Lists.{Contains-map, Contains-map_back}
 use Rattle.mls_biunify.specs.Rooms.{Holds}
 use Rattle.mls_biunify.specs.steps.Numbers.{Numbers, Inserts}
-use Rattle.mls_biunify.specs.steps.RoomParts.{Tables, pair_of, IsCell, ArePlaced, AreTables, room_of}
+use Rattle.mls_biunify.specs.steps.RoomParts.{Tables, pair_of, IsCell, ArePlaced, AreLinkedCells, AreTables, room_of}
+use Rattle.mls_biunify.specs.steps.Links.{LinkTable}
 use Rattle.mls_biunify.specs.steps.Growth.{Relates}
 
 -- a state of a line that is used
@@ -125,14 +126,11 @@ module _ (t : Tables) (are : AreTables t) where
 
   -- with more cells
   module _ (more : Numbers) (IsNew : ℕ → Type 0) (inserts : Inserts t.cells more IsNew) (used : (x : ℕ) → IsNew x → IsCell t x) where
-    abbrev pub grown : Tables
-    grown = record t { cells = more }
+    moved : (rows columns : LinkTable) (x : ℕ) → IsCell t x → IsCell (record t { cells = more; by_row = rows; by_column = columns }) x
+    moved rows columns x it = record { row = it.row; column = it.column; is = it.is; row_used = it.row_used; column_used = it.column_used }
 
-    moved : (x : ℕ) → IsCell t x → IsCell (record t { cells = more }) x
-    moved x it = record { row = it.row; column = it.column; is = it.is; row_used = it.row_used; column_used = it.column_used }
-
-    pub are_grown : AreTables (record t { cells = more })
-    are_grown = record {
+    pub are_grown : (rows columns : LinkTable) → AreLinkedCells t.positives t.negatives more rows columns → AreTables (record t { cells = more; by_row = rows; by_column = columns })
+    are_grown rows columns linked = record {
       few_rows = are.few_rows;
       few_columns = are.few_columns;
       all_rows = are.all_rows;
@@ -144,9 +142,10 @@ module _ (t : Tables) (are : AreTables t) where
       placed_columns = are.placed_columns;
       used = λ x it.
           elim (inserts.sound x it) [
-            | inl old ↦ moved x (are.used x old)
-            | inr new ↦ moved x (used x new)
+            | inl old ↦ moved rows columns x (are.used x old)
+            | inr new ↦ moved rows columns x (used x new)
           ];
+      linked = linked;
     }
 
     pub grown_relates : (IsPair : ℕ → ℕ → Type 0) → ((x : ℕ) → IsNew x → IsPair (pair_of t x).0 (pair_of t x).1) → ((p n : ℕ) → IsPair p n → (x : ℕ) × IsNew x × (pair_of t x ≡ (p, n))) → Relates (room_of t) (room_of (record t { cells = more })) IsPair

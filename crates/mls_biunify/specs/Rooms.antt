@@ -2,7 +2,7 @@
 use Rattle.std.specs.Prelude.{◌↔◌, ℕ, ◌≤◌, List, Contains, count_by}
 use Rattle.mls_automaton.specs.declared.automaton.Polarity.TheVariants.{Positive, Negative}
 use Rattle.mls_automaton.specs.declared.automaton.State.{State}
-use Rattle.mls_automaton.specs.Automata.{Automaton}
+use Rattle.mls_automaton.specs.Automata.{Automaton, IsState}
 use Rattle.std.specs.Prelude.{Bool, true, false}
 
 -- There is space for the pairs of so many positive and so many negative states. The rows are the positive states and
@@ -21,6 +21,10 @@ Holds room p n = Contains room.pairs (p, n)
 -- the room holds exactly these pairs
 abbrev pub HoldsJust : Room → (ℕ → ℕ → Type 0) → Type 0
 HoldsJust room IsRelated = (p n : ℕ) → Holds room p n ↔ IsRelated p n
+
+-- each pair is one of a positive and a negative state of the automaton
+abbrev pub HoldsStates : Automaton → Room → Type 0
+HoldsStates a room = (p n : ℕ) → Holds room p n → IsState a Positive p × IsState a Negative n
 
 abbrev pub is_positive : State → Bool
 is_positive s = elim s.polarity [ Positive ↦ true | Negative ↦ false ]

@@ -7,3 +7,5 @@ pub mod Consequences
 pub mod Numbering
 pub mod Kinds
 pub mod FirstClashes
+pub mod Solving
+pub mod Links

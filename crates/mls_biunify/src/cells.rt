@@ -1,6 +1,6 @@
 //! Sets of numbers that never take memory: numbers below a limit, in the order in which they came.
-ghost use Rattle.std.specs.Prelude.{◌≡◌, ◌↔◌, ◌+◌, ◌*◌, ◌<◌, ◌≤◌, ◌^◌, ◌&&◌, ℕ, false, not, [], length, get_or, replicate, All, Contains, IfOk, IsTrue};
-ghost use Rattle.mls_biunify.specs.steps.Numbers.{Inserts, Copies, AreApart};
+ghost use Rattle.std.specs.Prelude.{◌≡◌, ◌↔◌, ◌++◌, ◌∷◌, ◌<◌, ◌≤◌, ◌^◌, ◌&&◌, ℕ, false, not, [], length, get_or, replicate, All, Contains, IfOk, IsTrue};
+ghost use Rattle.mls_biunify.specs.steps.Numbers.{Inserts};
 ghost use Rattle.mls_biunify.specs.steps.Among.{is_among};
 
 use mls_base::memory::Memory;
@@ -106,11 +106,22 @@ impl Cells {
         requires { x < self.old.limit }
         ensures { Inserts self.old self.new (λ y. y ≡ x) }
     {
-        if !self.marks[x] {
-            self.marks[x] = true;
-            self.order[self.len] = x as u32;
-            self.len += 1;
+        if !self.contains(x) {
+            self.push(x);
         }
+    }
+
+    // Adds a number that is no member, at the end.
+    pub fn push(&mut self, x: usize)
+        requires in_range { x < self.old.limit }
+        requires new { Contains self.old.members x → ⊥ }
+        ensures members { self.new.members ≡ self.old.members ++ x ∷ [] }
+        ensures limit { self.new.limit ≡ self.old.limit }
+        ensures bound { length self.new.members ≤ self.new.limit }
+    {
+        self.marks[x] = true;
+        self.order[self.len] = x as u32;
+        self.len += 1;
     }
 
     // Takes all members out, in time that grows with their number.
@@ -120,20 +131,5 @@ impl Cells {
     {
         unmark(self.marks.as_mut_slice(), &self.order[..self.len]);
         self.len = 0;
-    }
-
-    // Goes so many steps from two numbers at once. Where the first is a member, the second becomes one.
-    pub fn copy(&mut self, from: usize, to: usize, step: usize, count: usize)
-        requires small { self.old.limit ≤ 2 ^ 32 }
-        requires reads { (k : ℕ) → k < count → from + k * step < self.old.limit }
-        requires writes { (k : ℕ) → k < count → to + k * step < self.old.limit }
-        requires apart { AreApart from to step count }
-        ensures { Inserts self.old self.new (Copies self.old from to step count) }
-    {
-        for k in 0..count {
-            if self.contains(from + k * step) {
-                self.insert(to + k * step);
-            }
-        }
     }
 }

@@ -4,5 +4,10 @@
 mod cells;
 mod clash;
 pub mod goal;
+pub mod laws;
+mod links;
+pub mod materialise;
 pub mod room;
+#[cfg(test)]
+mod samples;
 pub mod saturate;

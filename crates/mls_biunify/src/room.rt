@@ -2,8 +2,11 @@
 ghost use Rattle.std.specs.Prelude.{◌≡◌, ◌↔◌, ℕ, ◌+◌, ◌*◌, ◌<◌, ◌≤◌, ◌++◌, ◌∷◌, [], length, count_by, get_or, All, Contains, IfOk, IsTrue, MatchOption};
 ghost use Rattle.mls_biunify.specs.Rooms.{Fits, Holds, is_positive, is_negative};
 ghost use Rattle.mls_biunify.specs.steps.Growth.{Relates};
+ghost use Rattle.mls_biunify.specs.steps.Numbers.{Inserts};
+ghost use Rattle.mls_biunify.specs.steps.Links.{IsLatest, first, keys_of, second};
 
 use crate::cells::Cells;
+use crate::links::Links;
 use mls_automaton::automaton::{Automaton, Polarity};
 use mls_automaton::state_set::StateId;
 use mls_base::memory::Memory;
@@ -21,6 +24,8 @@ pub struct Room {
     row_count: usize,
     column_count: usize,
     cells: Cells,
+    by_row: Links,
+    by_column: Links,
 }
 
 impl Model for Room {
@@ -72,12 +77,12 @@ fn zeros(alloc: Global, count: usize) -> Result<Vec<usize>, Memory>
 }
 
 impl Room {
-    /// A room for the relations of automata with at most so many states of each polarity. It takes five bytes for each
-    /// pair of a positive and a negative state, and two words for each state.
+    /// A room for the relations of automata with at most so many states of each polarity. It takes 13 bytes for each
+    /// pair of a positive and a negative state, and two words and four bytes for each state.
     ///
     /// # Errors
     ///
-    /// `Memory` where memory is wanting, and where there are more than 4294967296 pairs.
+    /// `Memory` where memory is wanting, and where there are more than 4294967295 pairs.
     pub fn new(alloc: Global, positives: usize, negatives: usize) -> Result<Room, Memory>
         ensures positives { IfOk result (λ room. room.positives ≡ positives) }
         ensures negatives { IfOk result (λ room. room.negatives ≡ negatives) }
@@ -95,6 +100,8 @@ impl Room {
             row_count: 0,
             column_count: 0,
             cells,
+            by_row: Links::new(alloc, positives, limit)?,
+            by_column: Links::new(alloc, negatives, limit)?,
         })
     }
 
@@ -172,7 +179,49 @@ impl Room {
     {
         let row = self.places[positive];
         let column = self.places[negative];
-        self.cells.insert(row * self.negatives + column);
+        let cell = row * self.negatives + column;
+        if self.cells.contains(cell) {
+            return;
+        }
+        self.cells.push(cell);
+        self.by_row.push(row);
+        self.by_column.push(column);
+    }
+
+    // The number behind the place of the latest pair of a positive state, or 0.
+    fn latest_of_positive(&self, p: StateId) -> usize
+        ensures { IsLatest (keys_of first self.now) (length self.now.pairs) p.0 result }
+    {
+        match self.row_of(p) {
+            None => 0,
+            Some(row) => self.by_row.latest(row),
+        }
+    }
+
+    // The number behind the place of the latest pair of a negative state, or 0.
+    fn latest_of_negative(&self, n: StateId) -> usize
+        ensures { IsLatest (keys_of second self.now) (length self.now.pairs) n.0 result }
+    {
+        match self.column_of(n) {
+            None => 0,
+            Some(column) => self.by_column.latest(column),
+        }
+    }
+
+    // The number behind the place of the pair before this one with the same positive state, or 0.
+    fn earlier_of_positive(&self, i: usize) -> usize
+        requires { i < length self.now.pairs }
+        ensures { IsLatest (keys_of first self.now) i (get_or (keys_of first self.now) i 0) result }
+    {
+        self.by_row.earlier(i)
+    }
+
+    // The number behind the place of the pair before this one with the same negative state, or 0.
+    fn earlier_of_negative(&self, i: usize) -> usize
+        requires { i < length self.now.pairs }
+        ensures { IsLatest (keys_of second self.now) i (get_or (keys_of second self.now) i 0) result }
+    {
+        self.by_column.earlier(i)
     }
 
     // Relates one positive state to all to which another is related.
@@ -181,11 +230,12 @@ impl Room {
         requires to { Contains self.old.rows to }
         ensures { Relates self.old self.new (λ p n. (p ≡ to) × Holds self.old from n) }
     {
-        let source = self.places[from];
-        let target = self.places[to];
-        let width = self.negatives;
-        self.cells
-            .copy(source * width, target * width, 1, self.column_count);
+        let mut at = self.latest_of_positive(StateId(from));
+        while at > 0 {
+            let (_, negative) = self.pair(at - 1);
+            self.add(to, negative.0);
+            at = self.earlier_of_positive(at - 1);
+        }
     }
 
     // Relates all positive states that are related to one negative state to another.
@@ -194,10 +244,38 @@ impl Room {
         requires to { Contains self.old.columns to }
         ensures { Relates self.old self.new (λ p n. (n ≡ to) × Holds self.old p from) }
     {
-        let source = self.places[from];
-        let target = self.places[to];
-        self.cells
-            .copy(source, target, self.negatives, self.row_count);
+        let mut at = self.latest_of_negative(StateId(from));
+        while at > 0 {
+            let (positive, _) = self.pair(at - 1);
+            self.add(positive.0, to);
+            at = self.earlier_of_negative(at - 1);
+        }
+    }
+
+    // Marks the negative states to which a positive one is related, in time that grows with their number.
+    pub fn mark_below(&self, marks: &mut Cells, p: StateId)
+        requires { (n : ℕ) → Holds self.now p.0 n → n < marks.old.limit }
+        ensures { Inserts marks.old marks.new (λ n. Holds self.now p.0 n) }
+    {
+        let mut at = self.latest_of_positive(p);
+        while at > 0 {
+            let (_, negative) = self.pair(at - 1);
+            marks.insert(negative.0);
+            at = self.earlier_of_positive(at - 1);
+        }
+    }
+
+    // Marks the positive states that are related to a negative one, in time that grows with their number.
+    pub fn mark_above(&self, marks: &mut Cells, n: StateId)
+        requires { (p : ℕ) → Holds self.now p n.0 → p < marks.old.limit }
+        ensures { Inserts marks.old marks.new (λ p. Holds self.now p n.0) }
+    {
+        let mut at = self.latest_of_negative(n);
+        while at > 0 {
+            let (positive, _) = self.pair(at - 1);
+            marks.insert(positive.0);
+            at = self.earlier_of_negative(at - 1);
+        }
     }
 
     // Holds no pair, and has no rows and no columns, from now on.
@@ -209,6 +287,8 @@ impl Room {
         ensures pairs { self.new.pairs ≡ [] }
     {
         self.cells.clear();
+        self.by_row.clear();
+        self.by_column.clear();
         self.row_count = 0;
         self.column_count = 0;
     }

@@ -6,7 +6,7 @@ ghost use Rattle.mls_automaton.specs.Heads.{AreRising};
 ghost use Rattle.mls_automaton.specs.Models.{HasRisingLabels, IsClosed};
 ghost use Rattle.mls_biunify.specs.Clashes.{HasNoClash, IsFirstClash};
 ghost use Rattle.mls_biunify.specs.Relations.{IsGoal, IsGoalOf, IsRelated};
-ghost use Rattle.mls_biunify.specs.Rooms.{Fits, Holds, HoldsJust};
+ghost use Rattle.mls_biunify.specs.Rooms.{Fits, Holds, HoldsJust, HoldsStates};
 ghost use Rattle.mls_biunify.specs.steps.Growth.{BySome, Relates};
 ghost use Rattle.mls_biunify.specs.steps.Consequences.{ByFunctions, ByField, ByRecords, ByHeads, IsRoomOf, Follows, HasConsequences};
 
@@ -18,7 +18,7 @@ use mls_automaton::state_set::StateId;
 
 /// Makes the room hold exactly the least closed relation of the goals, and tells whether a pair of it clashes. It takes
 /// no memory. Each pair is taken once, at the cost of the members of the sets that its heads name in the same place,
-/// and of a row or a column of the room for each edge at one of its states.
+/// and of the pairs found so far at the other end of each edge at one of its states.
 ///
 /// # Errors
 ///
@@ -30,6 +30,7 @@ pub fn saturate(room: &mut Room, a: &Automaton, goals: &[Goal]) -> Result<(), Cl
     ensures positives { room.new.positives ≡ room.old.positives }
     ensures negatives { room.new.negatives ≡ room.old.negatives }
     ensures relation { HoldsJust room.new (IsRelated a.now (IsGoal goals.now)) }
+    ensures states { HoldsStates a.now room.new }
     ensures ok { OnOk result (HasNoClash a.now (IsRelated a.now (IsGoal goals.now))) }
     ensures clash { IfErr result (IsFirstClash a.now (IsRelated a.now (IsGoal goals.now))) }
 {

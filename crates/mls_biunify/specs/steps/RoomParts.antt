@@ -1,6 +1,7 @@
 -- What holds of the parts of a room.
 use Rattle.std.specs.Prelude.{◌≡◌, ℕ, ◌+◌, ◌*◌, ◌/◌, ◌%◌, ◌<◌, ◌≤◌, ◌^◌, List, length, take, map, get_or, Contains}
 use Rattle.mls_biunify.specs.steps.Numbers.{Numbers}
+use Rattle.mls_biunify.specs.steps.Links.{LinkTable, AreLinked}
 use Rattle.mls_biunify.specs.Rooms.{Room}
 use Rattle.mls_biunify.specs.declared.room.Room.TheInside.{Inside}
 
@@ -14,6 +15,8 @@ pub record Tables : Type 0 where
   pub row_count : ℕ
   pub column_count : ℕ
   pub cells : Numbers
+  pub by_row : LinkTable
+  pub by_column : LinkTable
 
 -- the pair of a cell: cells are numbered row by row
 abbrev pub pair_of : Tables → ℕ → ℕ × ℕ
@@ -31,6 +34,15 @@ pub record IsCell (t : Tables) (x : ℕ) : Type 0 where
 abbrev pub ArePlaced : (places lines : List ℕ) (count : ℕ) → Type 0
 ArePlaced places lines count = (k : ℕ) → k < count → (get_or lines k 0 < length places) × (get_or places (get_or lines k 0) 0 ≡ k)
 
+-- the places of the cells are linked by their rows and by their columns, with space for all
+pub record AreLinkedCells (positives negatives : ℕ) (cells : Numbers) (by_row by_column : LinkTable) : Type 0 where
+  pub row_keys : length by_row.last ≡ positives
+  pub column_keys : length by_column.last ≡ negatives
+  pub row_space : length by_row.before ≡ cells.limit
+  pub column_space : length by_column.before ≡ cells.limit
+  pub rows : AreLinked (map (λ x. x / negatives) cells.members) by_row
+  pub columns : AreLinked (map (λ x. x % negatives) cells.members) by_column
+
 pub record AreTables (t : Tables) : Type 0 where
   pub few_rows : t.row_count ≤ t.positives
   pub few_columns : t.column_count ≤ t.negatives
@@ -42,6 +54,7 @@ pub record AreTables (t : Tables) : Type 0 where
   pub placed_rows : ArePlaced t.places t.rows t.row_count
   pub placed_columns : ArePlaced t.places t.columns t.column_count
   pub used : (x : ℕ) → Contains t.cells.members x → IsCell t x
+  pub linked : AreLinkedCells t.positives t.negatives t.cells t.by_row t.by_column
 
 -- what contracts see of them
 abbrev pub room_of : Tables → Room
@@ -63,6 +76,8 @@ tables_of a = record {
   row_count = a.row_count;
   column_count = a.column_count;
   cells = a.cells;
+  by_row = a.by_row;
+  by_column = a.by_column;
 }
 
 abbrev pub IsRoom : Inside → Type 0

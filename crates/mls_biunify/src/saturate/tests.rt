@@ -1,82 +1,13 @@
 use super::saturate;
-use crate::goal::{Clash, ClashKind, Goal, HeadKind, are_goals, is_state};
+use crate::goal::{Clash, ClashKind, Goal, HeadKind, are_goals};
 use crate::room::Room;
-use mls_automaton::automaton::{Arms, Automaton, FieldSet, FieldSets, Head, Polarity};
-use mls_automaton::state_set::{StateId, StateSet};
+use crate::samples::{automaton, boolean, function, goals_of, int, record};
+use mls_automaton::automaton::{Automaton, Head, Polarity};
+use mls_automaton::state_set::StateId;
 use mls_base::memory::Memory;
-use mls_base::spelling::is_name;
-use mls_book::name::Name;
 use std::alloc::Global;
 use std::process::Abort;
 use std::test::Fail;
-
-// A set of states.
-fn set(alloc: Global, members: &[usize]) -> Result<StateSet, Memory> {
-    let mut set = StateSet::new(alloc);
-    for member in members {
-        set.insert(StateId(*member))?;
-    }
-    Ok(set)
-}
-
-fn function(alloc: Global, domain: &[usize], codomain: &[usize]) -> Result<Head, Memory> {
-    let mut head = Head::empty();
-    head.function = Some(Arms {
-        domain: set(alloc, domain)?,
-        codomain: set(alloc, codomain)?,
-    });
-    Ok(head)
-}
-
-fn record(rt: &impl Abort, alloc: Global, fields: &[(&str, &[usize])]) -> Result<Head, Memory> {
-    let mut all = FieldSets::new(alloc);
-    for (label, members) in fields {
-        assert!(rt; is_name(label.as_bytes()));
-        all.push(FieldSet {
-            label: Name::new(alloc, label.as_bytes())?,
-            set: set(alloc, members)?,
-        })?;
-    }
-    let mut head = Head::empty();
-    head.fields = Some(all);
-    Ok(head)
-}
-
-fn int() -> Head {
-    let mut head = Head::empty();
-    head.integer = true;
-    head
-}
-
-fn boolean() -> Head {
-    let mut head = Head::empty();
-    head.boolean = true;
-    head
-}
-
-// An automaton whose first states have these heads, the positive ones first, with edges from negative to positive ones.
-fn automaton<const P: usize, const N: usize>(
-    rt: &impl Abort,
-    alloc: Global,
-    positives: [Head; P],
-    negatives: [Head; N],
-    edges: &[(usize, usize)],
-) -> Result<Automaton, Memory> {
-    let mut a = Automaton::new(alloc);
-    for head in Vec::from_array(alloc, positives)? {
-        a.state(Polarity::Positive, head)?;
-    }
-    for head in Vec::from_array(alloc, negatives)? {
-        a.state(Polarity::Negative, head)?;
-    }
-    for (negative, positive) in edges {
-        let (negative, positive) = (StateId(*negative), StateId(*positive));
-        assert!(rt; is_state(&a, negative, Polarity::Negative));
-        assert!(rt; is_state(&a, positive, Polarity::Positive));
-        a.add_flow(negative, positive)?;
-    }
-    Ok(a)
-}
 
 // Saturates, and finds this answer and these pairs.
 fn check(
@@ -87,13 +18,7 @@ fn check(
     answer: Result<(), Clash>,
     related: &[(usize, usize)],
 ) -> Result<(), Memory> {
-    let mut goals = Vec::new(alloc);
-    for (positive, negative) in pairs {
-        goals.push(Goal {
-            positive: StateId(*positive),
-            negative: StateId(*negative),
-        })?;
-    }
+    let goals = goals_of(alloc, pairs)?;
     let mut room = Room::new(alloc, a.len(), a.len())?;
     assert!(rt; a.is_closed());
     assert!(rt; room.fits(a));
@@ -356,4 +281,54 @@ fn again(rt: HostRuntime) -> Result<(), Fail> {
     assert!(rt; saturate(&mut room, &a, &[]).is_ok());
     assert!(rt; !room.holds(StateId(0), StateId(1)));
     Ok(())
+}
+
+// Appends as many states with a function to the next one, in a ring, or to the one before.
+fn add_ring(
+    a: &mut Automaton,
+    alloc: Global,
+    polarity: Polarity,
+    count: usize,
+    step: usize,
+) -> Result<(), Memory> {
+    let first = a.len();
+    for i in 0..count {
+        let next = first.saturating_add(i.saturating_add(step) % count);
+        a.state(polarity, function(alloc, &[], &[next])?)?;
+    }
+    Ok(())
+}
+
+// Two pairs of rings, of 500 and of 501 states, meet in all pairs: one pair in the order of the numbers, the other
+// against it.
+#[test]
+fn rings(rt: HostRuntime) -> Result<(), Fail> {
+    let alloc = rt.alloc();
+    let mut a = Automaton::new(alloc);
+    add_ring(&mut a, alloc, Polarity::Positive, 500, 1)?;
+    add_ring(&mut a, alloc, Polarity::Positive, 500, 499)?;
+    add_ring(&mut a, alloc, Polarity::Negative, 501, 1)?;
+    add_ring(&mut a, alloc, Polarity::Negative, 501, 500)?;
+    let goals = goals_of(alloc, &[(0, 1000), (500, 1501)])?;
+    let mut room = Room::new(alloc, 1000, 1002)?;
+    assert!(rt; a.is_closed());
+    assert!(rt; room.fits(&a));
+    assert!(rt; are_goals(&a, goals.as_slice()));
+    assert!(rt; saturate(&mut room, &a, goals.as_slice()).is_ok());
+    assert!(rt; room.len() == 501000);
+    assert!(rt; is_full(&room, (0, 500), (1000, 1501)));
+    assert!(rt; is_full(&room, (500, 1000), (1501, 2002)));
+    Ok(())
+}
+
+// Whether each of the positive states is related to each of the negative ones.
+fn is_full(room: &Room, positives: (usize, usize), negatives: (usize, usize)) -> bool {
+    for p in positives.0..positives.1 {
+        for n in negatives.0..negatives.1 {
+            if !room.holds(StateId(p), StateId(n)) {
+                return false;
+            }
+        }
+    }
+    true
 }

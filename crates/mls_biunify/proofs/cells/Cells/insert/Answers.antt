@@ -1,38 +1,15 @@
-use Rattle.std.proofs.Common.{◌≡◌, ◌<◌, true, false, ◌+◌, length, take, get_or, Contains, subst, sym, ◌∙◌}
-use Rattle.std.proofs.Math.ListN.{set}
-use Rattle.std.proofs.lemmas.List.{get_or_default}
-use Rattle.mls_biunify.specs.steps.Numbers.{Numbers, Inserts}
-use Rattle.mls_biunify.proofs.CellSteps.{cells-room, cells-more, cells-inserts, cells-stay, cells-marked}
+use Rattle.std.proofs.Common.{◌≡◌, true, false}
+use Rattle.mls_biunify.proofs.CellSteps.{cells-inserts, cells-stay}
 use Rattle.mls_biunify.proofs.cells.Cells.insert.Goals as goal
 
-pub index_mut-requires-then-not-index : goal.index_mut-requires-then-not-index
-index_mut-requires-then-not-index c =
-    let low : c.args.x < length c.self.inside.marks.items = subst (λ (v : Numbers). c.args.x < v.limit) (sym c.self.view_is) c.requires in
-    let new : get_or c.self.inside.marks.items c.args.x false ≡ false =
-    get_or_default c.self.inside.marks.items c.args.x false c.index.result.now low ∙ (sym c.index.ensures ∙ c.if-not-index.true) in
-    subst (λ n. c.self.inside.len < n) (sym c.self.inside.order.ok.0)
-    (cells-room c.self.inside.marks.items c.self.inside.order.items c.self.inside.len c.self.invariant c.args.x low new)
+pub push-requires-clause-new : goal.push-requires-clause-new
+push-requires-clause-new c it =
+    let yes : c.contains.result ≡ true = c.contains.ensures.1 it in
+    let no : c.contains.result ≡ false = c.if-not-contains.true in
+    absurd (cc)
 
-pub invariant_of-self : goal.invariant_of-self
-invariant_of-self c =
-    let low : c.args.x < length c.self.inside.marks.items = subst (λ (v : Numbers). c.args.x < v.limit) (sym c.self.view_is) c.requires in
-    let new : get_or c.self.inside.marks.items c.args.x false ≡ false =
-    get_or_default c.self.inside.marks.items c.args.x false c.index.result.now low ∙ (sym c.index.ensures ∙ c.if-not-index.true) in
-    cells-more c.self.inside.marks.items c.self.inside.order.items c.self.inside.len c.self.invariant c.args.x low new
+pub returns-then-not-contains : goal.returns-then-not-contains
+returns-then-not-contains c = cells-inserts c.args.self.now c.push.new.self c.args.x c.push.ensures.limit c.push.ensures.members
 
-pub returns-then-not-index : goal.returns-then-not-index
-returns-then-not-index c =
-    let low : c.args.x < length c.self.inside.marks.items = subst (λ (v : Numbers). c.args.x < v.limit) (sym c.self.view_is) c.requires in
-    let new : get_or c.self.inside.marks.items c.args.x false ≡ false =
-    get_or_default c.self.inside.marks.items c.args.x false c.index.result.now low ∙ (sym c.index.ensures ∙ c.if-not-index.true) in
-    subst (λ (v : Numbers). Inserts v (record { limit = length (set c.self.inside.marks.items c.args.x true); members = take (c.self.inside.len + 1) (set c.self.inside.order.items c.self.inside.len c.args.x) }) (λ y. y ≡ c.args.x)) c.self.view_is
-    (cells-inserts c.self.inside.marks.items c.self.inside.order.items c.self.inside.len c.self.invariant c.args.x low new)
-
-pub returns-else-not-index : goal.returns-else-not-index
-returns-else-not-index c =
-    let low : c.args.x < length c.self.inside.marks.items = subst (λ (v : Numbers). c.args.x < v.limit) (sym c.self.view_is) c.requires in
-    let marked : get_or c.self.inside.marks.items c.args.x false ≡ true =
-    get_or_default c.self.inside.marks.items c.args.x false c.index.result.now low ∙ (sym c.index.ensures ∙ c.if-not-index.false) in
-    cells-stay c.args.self.now c.args.x
-    (subst (λ (v : Numbers). Contains v.members c.args.x) c.self.view_is
-    ((cells-marked c.self.inside.marks.items c.self.inside.order.items c.self.inside.len c.self.invariant c.args.x).0 marked))
+pub returns-else-not-contains : goal.returns-else-not-contains
+returns-else-not-contains c = cells-stay c.args.self.now c.args.x (c.contains.ensures.0 c.if-not-contains.false)
