@@ -151,7 +151,7 @@ module _ (table : Table) where
       row : Row
       row = get_or table.rows.items s d
 
-      shows : ShowsRow plan.automaton plan.order table p (set_at table s) (get_or table.rows.items s d)
+      shows : ShowsRow plan.automaton plan.order (set_at table) p (set_at table s) (get_or table.rows.items s d)
       shows = is.tabled.shows s d low p visited
 
       gone : IsNew (sets_around (places table it.around)) (set_at table s)

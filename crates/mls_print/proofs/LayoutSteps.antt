@@ -195,7 +195,7 @@ module _ (plan : Plan) (table : Table) (is : IsPlan plan table) (whole : IsWhole
   all-same : (Q : ℕ → Type 0) (xs ys : List ℕ) → IsSameSet xs ys → All Q xs → All Q ys
   all-same Q xs ys same all = All-contained Q ys (λ s it. All-contains Q xs s all (same.1 s it))
 
-  module _ (p : Polarity) (s : ℕ) (row : Row) (visited : All (IsVisited a plan.order p) (set_of s)) (shows : ShowsRow a plan.order table p (set_of s) row) where
+  module _ (p : Polarity) (s : ℕ) (row : Row) (visited : All (IsVisited a plan.order p) (set_of s)) (shows : ShowsRow a plan.order (set_at table) p (set_of s) row) where
     abbrev head : Parts
     head = set_head a p (set_of s)
 
@@ -268,7 +268,7 @@ module _ (plan : Plan) (table : Table) (is : IsPlan plan table) (whole : IsWhole
       let j : ℕ = w.sets in
       let near : Near = record { id = s; number = j } in
       let visited : All (IsVisited a plan.order p) (set_of s) = All-head (IsSound plan table) (laid.Show p s) rest it.sound in
-      let shows : ShowsRow a plan.order table p (set_of s) row = is.tabled.shows s d low p visited in
+      let shows : ShowsRow a plan.order (set_at table) p (set_of s) row = is.tabled.shows s d low p visited in
       let gone : number_around it.around s ≡ None = sym (it.shown s low) ∙ none in
       let new_set = around-new it.around s it.below low gone in
       let taken =

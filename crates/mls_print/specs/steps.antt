@@ -9,3 +9,6 @@ pub mod Tables
 pub mod Progress
 pub mod Items
 pub mod Joining
+pub mod Grouping
+pub mod Registers
+pub mod Building

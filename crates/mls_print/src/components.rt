@@ -1,7 +1,10 @@
 //! The components of a set, in the order of the text.
 ghost use Rattle.std.specs.Prelude.{◌≡◌, ◌++◌, [], ◌∷◌, map, codes, option_map, IfOk, OnOk};
-ghost use Rattle.mls_print.specs.steps.Items.{items_told, components_told, has_more, function_component, variable_items, push_field, push_items, row_components, row_items, row_is_alone};
-ghost use Rattle.mls_print.specs.steps.Printing.{bit_items, component_items, field_items, function_items, record_items, text};
+ghost use Rattle.mls_print.specs.steps.Items.{items_told, components_told, has_more, function_component};
+ghost use Rattle.mls_print.specs.steps.Items.{variable_items, push_field, push_items, row_components, row_items};
+ghost use Rattle.mls_print.specs.steps.Items.{row_is_alone};
+ghost use Rattle.mls_print.specs.steps.Printing.{bit_items, component_items, field_items, function_items};
+ghost use Rattle.mls_print.specs.steps.Printing.{record_items, text};
 ghost use Rattle.mls_print.specs.steps.Tables.{arms_of, labelled};
 ghost use Rattle.mls_print.specs.Pieces.{separator};
 
@@ -44,7 +47,8 @@ pub fn items_of<'a>(
     row: &Row<'a>,
     polarity: Polarity,
 ) -> Result<Vec<Item<'a>>, Memory>
-    ensures { IfOk result (λ items. (sets around : _) → items_told sets around items.items ≡ row_items sets around polarity row.now) }
+    ensures { IfOk result (λ items. (sets around : _) → items_told sets around items.items
+        ≡ row_items sets around polarity row.now) }
 {
     let components = components_of(alloc, row, polarity)?;
     let items = joined(alloc, components.as_slice(), polarity)?;
@@ -57,7 +61,8 @@ fn joined<'a>(
     components: &[Vec<Item<'a>>],
     polarity: Polarity,
 ) -> Result<Vec<Item<'a>>, Memory>
-    ensures { IfOk result (λ items. (sets around : _) → items_told sets around items.items ≡ component_items polarity (components_told sets around components.now)) }
+    ensures { IfOk result (λ items. (sets around : _) → items_told sets around items.items
+        ≡ component_items polarity (components_told sets around components.now)) }
 {
     let mut items = Vec::new(alloc);
     for (i, component) in components.iter().enumerate() {
@@ -76,7 +81,9 @@ fn add_component<'a>(
     component: &[Item<'a>],
     polarity: Polarity,
 ) -> Result<(), Memory>
-    ensures { OnOk result ((sets around : _) → items_told sets around items.new.items ≡ items_told sets around items.old.items ++ push_items polarity is_first (items_told sets around component.now)) }
+    ensures { OnOk result ((sets around : _) → items_told sets around items.new.items
+        ≡ items_told sets around items.old.items
+        ++ push_items polarity is_first (items_told sets around component.now)) }
 {
     if !is_first {
         items.push(Item::Tell(Piece::Text(separator_of(polarity))))?;
@@ -111,7 +118,8 @@ fn components_of<'a>(
     row: &Row<'a>,
     polarity: Polarity,
 ) -> Result<Vec<Vec<Item<'a>>>, Memory>
-    ensures { IfOk result (λ components. (sets around : _) → components_told sets around components.items ≡ row_components sets around polarity row.now) }
+    ensures { IfOk result (λ components. (sets around : _) → components_told sets around components.items
+        ≡ row_components sets around polarity row.now) }
 {
     let mut components = Vec::new(alloc);
     add_variables(alloc, &mut components, row.variables.as_slice())?;
@@ -128,7 +136,8 @@ fn add_variables<'a>(
     components: &mut Vec<Vec<Item<'a>>>,
     variables: &[usize],
 ) -> Result<(), Memory>
-    ensures { OnOk result ((sets around : _) → components_told sets around components.new.items ≡ components_told sets around components.old.items ++ variable_items variables.now) }
+    ensures { OnOk result ((sets around : _) → components_told sets around components.new.items
+        ≡ components_told sets around components.old.items ++ variable_items variables.now) }
 {
     for s in variables {
         components.push(vec![in alloc; Item::Tell(Piece::Variable(*s))]?)?;
@@ -143,7 +152,8 @@ fn add_word<'a>(
     is_there: bool,
     word: &'a [u8],
 ) -> Result<(), Memory>
-    ensures { OnOk result ((sets around : _) → components_told sets around components.new.items ≡ components_told sets around components.old.items ++ bit_items word.now is_there) }
+    ensures { OnOk result ((sets around : _) → components_told sets around components.new.items
+        ≡ components_told sets around components.old.items ++ bit_items word.now is_there) }
 {
     if is_there {
         components.push(vec![in alloc; Item::Tell(Piece::Text(word))]?)?;
@@ -158,7 +168,9 @@ fn add_function<'a>(
     row: &Row<'a>,
     polarity: Polarity,
 ) -> Result<(), Memory>
-    ensures { OnOk result ((sets around : _) → components_told sets around components.new.items ≡ components_told sets around components.old.items ++ function_component (has_more row.now) (function_items around polarity (arms_of sets row.now.function))) }
+    ensures { OnOk result ((sets around : _) → components_told sets around components.new.items
+        ≡ components_told sets around components.old.items
+        ++ function_component (has_more row.now) (function_items around polarity (arms_of sets row.now.function))) }
 {
     if let Some(arms) = row.function {
         let domain = Item::ShowDomain(polarity.opposite(), arms.domain);
@@ -182,7 +194,9 @@ fn add_record<'a>(
     fields: &Option<Vec<RowField<'a>>>,
     polarity: Polarity,
 ) -> Result<(), Memory>
-    ensures { OnOk result ((sets around : _) → components_told sets around components.new.items ≡ components_told sets around components.old.items ++ record_items around polarity (option_map (λ all. map (labelled sets) all.items) fields.now)) }
+    ensures { OnOk result ((sets around : _) → components_told sets around components.new.items
+        ≡ components_told sets around components.old.items ++ record_items around polarity (option_map
+        (λ all. map (labelled sets) all.items) fields.now)) }
 {
     if let Some(fields) = fields {
         components.push(record_of(alloc, fields.as_slice(), polarity)?)?;
@@ -196,7 +210,8 @@ fn record_of<'a>(
     fields: &[RowField<'a>],
     polarity: Polarity,
 ) -> Result<Vec<Item<'a>>, Memory>
-    ensures { IfOk result (λ items. (sets around : _) → items_told sets around items.items ≡ text (codes "{") ∷ field_items around polarity (map (labelled sets) fields.now)) }
+    ensures { IfOk result (λ items. (sets around : _) → items_told sets around items.items
+        ≡ text (codes "{") ∷ field_items around polarity (map (labelled sets) fields.now)) }
 {
     let mut items = vec![in alloc; Item::Tell(Piece::Text(b"{"))]?;
     for (i, field) in fields.iter().enumerate() {
@@ -213,7 +228,8 @@ fn add_field<'a>(
     field: &RowField<'a>,
     polarity: Polarity,
 ) -> Result<(), Memory>
-    ensures { OnOk result ((sets around : _) → items_told sets around items.new.items ≡ items_told sets around items.old.items ++ push_field around polarity is_first (labelled sets field.now)) }
+    ensures { OnOk result ((sets around : _) → items_told sets around items.new.items
+        ≡ items_told sets around items.old.items ++ push_field around polarity is_first (labelled sets field.now)) }
 {
     if !is_first {
         items.push(Item::Tell(Piece::Text(b", ")))?;

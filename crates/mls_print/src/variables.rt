@@ -1,5 +1,6 @@
 //! The variables that a set shows.
-ghost use Rattle.std.specs.Prelude.{◌≡◌, ◌↔◌, ◌<◌, length, get_or, map, ◌++◌, All, Contains, Some, None, IfOk, OnOk, is_some, slice_set, if◌then◌else◌};
+ghost use Rattle.std.specs.Prelude.{◌≡◌, ◌↔◌, ◌<◌, length, get_or, map, ◌++◌, All, Contains, Some, None, IfOk, OnOk};
+ghost use Rattle.std.specs.Prelude.{is_some, slice_set, if◌then◌else◌};
 ghost use Rattle.std.specs.Option.{option_to_list};
 ghost use Rattle.std.specs.List.{filter_map, list_any};
 ghost use Rattle.mls_automaton.specs.Automata.{IsState};
@@ -83,7 +84,8 @@ pub fn shown_variables(
     requires numbered { IsNumbered (length automaton.now.states) order.now.states.items order.now.numbers.items }
     requires variables { HasVariables automaton.now order.now.states.items numbers.now }
     requires states { All (IsState automaton.now polarity) set.now }
-    ensures { IfOk result (λ variables. variables.items ≡ shown_variables automaton.now order.now.states.items polarity set.now) }
+    ensures { IfOk result (λ variables. variables.items
+        ≡ shown_variables automaton.now order.now.states.items polarity set.now) }
 {
     let candidates = candidates_of(alloc, automaton, polarity, set)?;
     let shown = rising(numbers_of(alloc, numbers, candidates.as_slice())?);
@@ -99,7 +101,8 @@ fn candidates_of(
     set: &[usize],
 ) -> Result<Vec<usize>, Memory>
     requires { All (λ s. s < length automaton.now.states) set.now }
-    ensures { IfOk result (λ candidates. (j : _) → Contains candidates.items j ↔ IsCandidate automaton.now polarity set.now j) }
+    ensures { IfOk result (λ candidates. (j : _) → Contains candidates.items j
+        ↔ IsCandidate automaton.now polarity set.now j) }
 {
     match polarity {
         Polarity::Negative => {

@@ -21,7 +21,8 @@ pub fn printing_order(alloc: Global, automaton: &Automaton, root: StateId) -> Re
     requires closed { IsClosed automaton.now }
     requires root { root.0 < length automaton.now.states }
     ensures walked { IfOk result (λ order. Visits automaton.now [] (root.0 ∷ []) order.states.items) }
-    ensures numbered { IfOk result (λ order. IsNumbered (length automaton.now.states) order.states.items order.numbers.items) }
+    ensures numbered { IfOk result (λ order. IsNumbered
+        (length automaton.now.states) order.states.items order.numbers.items) }
 {
     let mut states = Vec::new(alloc);
     let mut numbers = vec![in alloc; None; automaton.len()]?;

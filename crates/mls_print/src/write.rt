@@ -1,5 +1,6 @@
 //! The bytes of the pieces, with names by first appearance.
-ghost use Rattle.std.specs.Prelude.{◌≡◌, ◌+◌, ◌^◌, ◌<◌, ◌≤◌, ◌++◌, codes, length, get_or, false, map, All, None, IfOk, OnOk};
+ghost use Rattle.std.specs.Prelude.{◌≡◌, ◌+◌, ◌^◌, ◌<◌, ◌≤◌, ◌++◌, codes, length, get_or, false, map, All, None};
+ghost use Rattle.std.specs.Prelude.{IfOk, OnOk};
 ghost use Rattle.mls_print.specs.Keys.{variable, recursion};
 ghost use Rattle.mls_print.specs.Pieces.{is_called, text_of};
 ghost use Rattle.mls_print.specs.steps.Writing.{HasStateBelow, HasSetBelow, piece_of, GetsNumber, NamesKey, Writes};
@@ -32,7 +33,8 @@ pub fn text_of(alloc: Global, layout: &Layout, states: usize) -> Result<Vec<u8>,
 fn named_again(alloc: Global, layout: &Layout) -> Result<Vec<bool>, Memory>
     requires { All (HasSetBelow layout.now.sets) layout.now.pieces.items }
     ensures size { IfOk result (λ again. length again.items ≡ layout.now.sets) }
-    ensures again { IfOk result (λ again. (j : _) → get_or again.items j false ≡ is_called (map piece_of layout.now.pieces.items) j) }
+    ensures again { IfOk result (λ again. (j : _) → get_or again.items j false
+        ≡ is_called (map piece_of layout.now.pieces.items) j) }
 {
     let mut again = vec![in alloc; false; layout.sets]?;
     for piece in layout.pieces.iter() {
@@ -88,7 +90,8 @@ impl Writer {
     fn write_binder(&mut self, alloc: Global, set: usize) -> Result<(), Memory>
         requires in_range { set < length self.old.recursions.items }
         requires fits { self.old.named ≤ length self.old.text.items }
-        ensures { OnOk result (NamesKey (λ name. codes "rec " ++ (name ++ codes ". ")) (recursion set) self.old self.new) }
+        ensures { OnOk result (NamesKey (λ name. codes "rec " ++ (name
+            ++ codes ". ")) (recursion set) self.old self.new) }
     {
         self.text.extend_from_slice(b"rec ")?;
         self.write_recursion(alloc, set)?;
@@ -123,7 +126,8 @@ impl Writer {
 fn number_of(numbers: &mut Vec<Option<usize>>, index: usize, named: &mut usize) -> usize
     requires in_range { index < length numbers.old.items }
     requires fits { named.old + 1 < 2 ^ 64 }
-    ensures { GetsNumber (get_or numbers.old.items index None) index named.old numbers.old.items numbers.new.items named.new result }
+    ensures { GetsNumber
+        (get_or numbers.old.items index None) index named.old numbers.old.items numbers.new.items named.new result }
 {
     match numbers[index] {
         Some(number) => number,

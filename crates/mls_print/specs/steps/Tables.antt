@@ -43,13 +43,13 @@ IsRecordOf _ _ = ⊥
 abbrev pub IsFunctionOf : Option Arms → Option Arms → Type 0
 IsFunctionOf = IsSameOption (λ (f : Arms) g. IsSameSet f.domain g.domain × IsSameSet f.codomain g.codomain)
 
--- a row shows this set at this polarity, where its numbers are those of sets of the table
-pub record ShowsRow (a : Automaton) (order : List ℕ) (table : Table) (p : Polarity) (set : List ℕ) (row : Row) : Type 0 where
+-- a row shows this set at this polarity, where its numbers are those of these sets
+pub record ShowsRow (a : Automaton) (order : List ℕ) (sets : ℕ → List ℕ) (p : Polarity) (set : List ℕ) (row : Row) : Type 0 where
   pub variables : row.variables.items ≡ shown_variables a order p set
   pub boolean : row.boolean ≡ (set_head a p set).boolean
   pub integer : row.integer ≡ (set_head a p set).integer
-  pub function : IsFunctionOf (set_head a p set).function (arms_of (set_at table) row.function)
-  pub fields : IsRecordOf (set_head a p set).fields (option_map (λ fields. map (labelled (set_at table)) fields.items) row.fields)
+  pub function : IsFunctionOf (set_head a p set).function (arms_of sets row.function)
+  pub fields : IsRecordOf (set_head a p set).fields (option_map (λ fields. map (labelled sets) fields.items) row.fields)
 
 -- the sets that a row names are in the table
 abbrev pub HasArmsBelow : ℕ → Option RowArms → Type 0
@@ -74,4 +74,4 @@ pub record IsWhole (table : Table) : Type 0 where
 pub record IsTable (a : Automaton) (order : List ℕ) (root : ℕ) (table : Table) : Type 0 where
   pub first : set_at table 0 ≡ root ∷ []
   pub distinct : (i j : ℕ) → i < length table.sets.items → j < length table.sets.items → IsSameSet (set_at table i) (set_at table j) → i ≡ j
-  pub shows : (i : ℕ) (d : Row) → i < length table.rows.items → (p : Polarity) → All (IsVisited a order p) (set_at table i) → ShowsRow a order table p (set_at table i) (get_or table.rows.items i d)
+  pub shows : (i : ℕ) (d : Row) → i < length table.rows.items → (p : Polarity) → All (IsVisited a order p) (set_at table i) → ShowsRow a order (set_at table) p (set_at table i) (get_or table.rows.items i d)
