@@ -1,3 +1,5 @@
 pub mod Merged
 pub mod ReadAutomata
+pub mod ReadTypes
 pub mod Smallest
+pub mod steps

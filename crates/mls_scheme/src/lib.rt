@@ -1,6 +1,21 @@
 //! The schemes that inference begins with, and how it puts schemes together.
 #![tactic(auto)]
 
+pub mod absorb;
 pub mod build;
+mod edges;
+mod environments;
+mod heads;
+mod layer;
+pub mod read;
+mod signs;
+mod states;
+#[cfg(test)]
+mod tables;
 #[cfg(test)]
 mod tests;
+#[cfg(test)]
+mod tests_of_books;
+#[cfg(test)]
+mod tests_of_reading;
+mod uses;
