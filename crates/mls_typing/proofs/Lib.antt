@@ -1,0 +1,17 @@
+pub mod Answered
+pub mod Contexts
+pub mod FirstNone
+pub mod Inference
+pub mod Instances
+pub mod Irrelevant
+pub mod Lists
+pub mod OnePart
+pub mod PartNodes
+pub mod Readings
+pub mod Rows
+pub mod Scoped
+pub mod TypedForms
+pub mod TypedLet
+pub mod TypedMake
+pub mod TypedParts
+pub mod TypedUses

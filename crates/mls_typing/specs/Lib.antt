@@ -1,0 +1,3 @@
+pub mod InferenceLaws
+pub mod Runs
+pub mod Typed
