@@ -1,0 +1,171 @@
+-- The answers of solving: a solution, or no types.
+--     solvable_solution, solvable_none     over constraints in which each binder has one state
+--     solution_same, none_same             over constraints with the same types
+--     solvable_scheme, answer_none         and what solving answers over these
+--     counts                               positive and negative states are all
+--     solution_kept                        an equivalent scheme is a solution too
+use Rattle.std.proofs.Common.{◌≡◌, ◌↔◌, ℕ, suc, ◌+◌, ◌==◌, Bool, true, ◌&&◌, false, List, [], ◌∷◌, length, map, refl, subst, arith, Contains, All}
+use Rattle.std.specs.Prelude.{cond, count_by}
+use Rattle.std.proofs.lemmas.List.Sums.{sum_by-cons}
+use Rattle.std.specs.List.{list_any}
+use Rattle.std.proofs.lemmas.Bool.{eqb-true}
+use Rattle.std.proofs.lemmas.Bool.Decides.{nat_tests}
+use Rattle.mls_book.specs.Predicates.{Predicate}
+use Rattle.mls_book.specs.Schemes as book
+use Rattle.mls_automaton.specs.declared.automaton.Polarity.TheVariants.{Positive, Negative}
+use Rattle.mls_automaton.specs.declared.automaton.Polarity.{Polarity}
+use Rattle.mls_automaton.specs.declared.automaton.Head.{Head}
+use Rattle.mls_automaton.specs.declared.automaton.State.{State}
+use Rattle.mls_automaton.specs.declared.scheme.EnvEntry.{EnvEntry}
+use Rattle.mls_automaton.specs.declared.scheme.Scheme.{Scheme}
+use Rattle.mls_automaton.specs.Automata.{Automaton}
+use Rattle.mls_automaton.specs.Environments.{BindersRise}
+use Rattle.mls_automaton.specs.Schemes.{IsScheme, IsSchemeOf, AreEquivalentSchemes}
+use Rattle.mls_automaton.proofs.BooksExist.{scheme_exists}
+use Rattle.mls_automaton.proofs.Instances.{AreGoals}
+use Rattle.mls_automaton.proofs.Lists.{any_found, found_any}
+use Rattle.mls_automaton.proofs.Reaching.{entry-found}
+use Rattle.mls_biunify.specs.declared.goal.Clash.{Clash}
+use Rattle.mls_biunify.specs.declared.goal.Goal.{Goal}
+use Rattle.mls_biunify.specs.Clashes.{HasNoClash, IsClashOf}
+use Rattle.mls_biunify.specs.Relations.{IsGoal, IsGoalOf, IsRelated, IsTable, goal, domain, codomain, field, along}
+use Rattle.mls_biunify.specs.Rooms.{Room, HoldsJust, is_negative, is_positive}
+use Rattle.mls_biunify.specs.Solved.{IsSolved}
+use Rattle.mls_biunify.proofs.Following.{goals_between, related_states}
+use Rattle.mls_biunify.proofs.Solution.{Sources}
+use Rattle.mls_biunify.proofs.SolvedInstances.{over, over_solved}
+use Rattle.mls_biunify.proofs.SolvedRooms.{solved-same}
+use Rattle.mls_biunify.proofs.SourceLists.{sources_from_table}
+use Rattle.mls_infer.specs.declared.merge.Solvable.{Solvable}
+use Rattle.mls_infer.specs.Constraints.{Constraint, HasStates}
+use Rattle.mls_infer.specs.Merges.{HaveSameTypes, solvable_constraint}
+use Rattle.mls_infer.specs.Posed.{goal_pair}
+use Rattle.mls_infer.specs.declared.solve.NoSolution.{NoSolution}
+use Rattle.mls_infer.specs.declared.solve.NoSolution.TheVariants as none
+use Rattle.mls_infer.specs.Solved.{ClashesFirst, IsClashWithout, IsSolvedFor}
+use Rattle.mls_infer.specs.Steps.{IsSolution, HasNoTypes}
+use Rattle.mls_infer.proofs.Models.{EachFound, GoalsOf}
+use Rattle.mls_infer.proofs.Reading.{read_as}
+use Rattle.mls_infer.proofs.Solvable.{between_pairs, goal_in, pair_in}
+use Rattle.mls_infer.proofs.Solving.{clash_no_types, solved_solution}
+use Rattle.mls_infer.proofs.Stepping.{solution_equivalent}
+
+-- more goals relate more
+related_more : (a : Automaton) (R S : ℕ → ℕ → Type 0) → ((p n : ℕ) → R p n → S p n) → (p n : ℕ) → IsRelated a R p n → IsRelated a S p n
+related_more a R S more p n (goal it) = goal (more p n it)
+related_more a R S more p n (domain {p = q} {n = m} it from to) = domain (related_more a R S more q m it) from to
+related_more a R S more p n (codomain {p = q} {n = m} it from to) = codomain (related_more a R S more q m it) from to
+related_more a R S more p n (field {p = q} {n = m} label it from to) = field label (related_more a R S more q m it) from to
+related_more a R S more p n (along {n = m} {q = q} it edge after) = along (related_more a R S more p m it) edge (related_more a R S more q n after)
+
+-- whether a room holds a pair, as a test
+is_pair : (p n : ℕ) → ℕ × ℕ → Bool
+is_pair p n q = (q.0 == p) && (q.1 == n)
+
+both : (x y : Bool) → x && y ≡ true → (x ≡ true) × (y ≡ true)
+both true true e = (refl, refl)
+both true false e = absurd (cc)
+both false y e = absurd (cc)
+
+module _ (room : Room) (R : ℕ → ℕ → Type 0) (just : HoldsJust room R) where
+  holds : ℕ → ℕ → Bool
+  holds p n = list_any (is_pair p n) room.pairs
+
+  table : IsTable R holds
+  unfolding holds is_pair
+  table = record {
+    sound = λ p n e.
+        let found = any_found (is_pair p n) room.pairs e in
+        let equal = both (found.0.0 == p) (found.0.1 == n) found.2 in
+        let first : found.0.0 ≡ p = eqb-true found.0.0 p equal.0 in
+        let second : found.0.1 ≡ n = eqb-true found.0.1 n equal.1 in
+        let pair : ℕ × ℕ = (p, n) in
+        let same : found.0 ≡ pair = λ i. (first i, second i) in
+        (just p n).0 (subst (Contains room.pairs) same found.1);
+    complete = λ p n it.
+        let pair : ℕ × ℕ = (p, n) in
+        let first : (p == p) ≡ true = grind (arith, nat_tests) in
+        let second : (n == n) ≡ true = grind (arith, nat_tests) in
+        let self : is_pair p n pair ≡ true = λ i. first i && second i in
+        found_any (is_pair p n) room.pairs pair ((just p n).1 it) self;
+  }
+
+module _ (s : Solvable) (is : IsScheme s.scheme) (rise : BindersRise s.scheme.env) (are : All (IsGoalOf s.scheme.automaton) s.goals) where
+  abbrev c : Constraint
+  c = solvable_constraint s
+
+  abbrev a : Automaton
+  a = s.scheme.automaton
+
+  abbrev R : ℕ → ℕ → Type 0
+  R = IsRelated a (IsGoal s.goals)
+
+  abbrev S : ℕ → ℕ → Type 0
+  S = IsRelated a (GoalsOf c)
+
+  each : EachFound s.scheme.env
+  each = entry-found s.scheme.env rise
+
+  goals_are : AreGoals a (GoalsOf c)
+  goals_are = between_pairs a s.goals are
+
+  to_pairs : (p n : ℕ) → R p n → S p n
+  to_pairs = related_more a (IsGoal s.goals) (GoalsOf c) (pair_in s.goals)
+
+  from_pairs : (p n : ℕ) → S p n → R p n
+  from_pairs = related_more a (GoalsOf c) (IsGoal s.goals) (goal_in s.goals)
+
+  pub solvable_none : (clash : Clash) → IsClashOf a R clash → HasNoTypes c
+  solvable_none clash it = clash_no_types c is each goals_are clash (to_pairs clash.positive.0 clash.negative.0 it.0, it.1)
+
+  pub solvable_solution : (solved : Automaton) → IsSolvedFor a s.goals solved → IsSolution c (over s.scheme solved)
+  solvable_solution solved it =
+      let just : HoldsJust it.room S = λ p n. (λ h. to_pairs p n ((it.relation p n).0 h), λ h. (it.relation p n).1 (from_pairs p n h)) in
+      let free : HasNoClash a S = λ p n h. it.free p n (from_pairs p n h) in
+      let solves : IsSolved a S solved = solved-same a R S (λ p n. (to_pairs p n, from_pairs p n)) solved it.is_solved in
+      let sources : Sources a S = sources_from_table a S (holds it.room S just) (table it.room S just) (λ p n h. (related_states a (GoalsOf c) is.automaton goals_are p n h).0.in_range) in
+      solved_solution c is each goals_are solved solves it.closed free sources
+
+  pub solvable_scheme : (solved : Automaton) → IsSolvedFor a s.goals solved → IsScheme (over s.scheme solved)
+  solvable_scheme solved it = over_solved s.scheme (IsGoal s.goals) is (goals_between a s.goals are) solved it.is_solved it.closed
+
+  -- where solving answers a clash
+  pub answer_none : (d : Constraint) → HaveSameTypes d c → (e : NoSolution) → ClashesFirst a s.goals e → IsClashWithout d e
+  answer_none d same (none.Clash m) it = λ types f h. solvable_none it.clash it.first.clash types f ((same types f).0 h)
+  answer_none d same none.Memory it = tt
+
+-- positive and negative states are all
+pub counts : (states : List State) → count_by is_positive states + count_by is_negative states ≡ length states
+counts [] = refl
+counts (x ∷ rest) = one x.polarity x.head (counts rest)
+  where
+    one : (p : Polarity) (h : Head) → count_by is_positive rest + count_by is_negative rest ≡ length rest
+        → count_by is_positive (record { polarity = p; head = h } ∷ rest) + count_by is_negative (record { polarity = p; head = h } ∷ rest) ≡ suc (length rest)
+    one Positive h later =
+        let x : State = record { polarity = Positive; head = h } in
+        let yes : count_by is_positive (x ∷ rest) ≡ 1 + count_by is_positive rest = sum_by-cons (λ y. cond (is_positive y) 1 0) x rest in
+        let no : count_by is_negative (x ∷ rest) ≡ 0 + count_by is_negative rest = sum_by-cons (λ y. cond (is_negative y) 1 0) x rest in
+        omega arith
+    one Negative h later =
+        let x : State = record { polarity = Negative; head = h } in
+        let no : count_by is_positive (x ∷ rest) ≡ 0 + count_by is_positive rest = sum_by-cons (λ y. cond (is_positive y) 1 0) x rest in
+        let yes : count_by is_negative (x ∷ rest) ≡ 1 + count_by is_negative rest = sum_by-cons (λ y. cond (is_negative y) 1 0) x rest in
+        omega arith
+
+pub solution_same : (c d : Constraint) (s : Scheme) → HaveSameTypes c d → IsSolution d s → IsSolution c s
+solution_same c d s same it = record {
+  states = it.states;
+  just = λ types f. (λ h. (it.just types f).0 ((same types f).0 h), λ h. (same types f).1 ((it.just types f).1 h));
+}
+
+pub none_same : (c d : Constraint) → HaveSameTypes c d → HasNoTypes d → HasNoTypes c
+none_same c d same none types f h = none types f ((same types f).0 h)
+
+pub solution_kept : (c : Constraint) (s t : Scheme) → IsSolution c s → IsScheme s → BindersRise s.env → IsScheme t → BindersRise t.env → AreEquivalentSchemes s t → IsSolution c t
+solution_kept c s t solution is rise is' rise' same =
+    let each : EachFound s.env = entry-found s.env rise in
+    let each' : EachFound t.env = entry-found t.env rise' in
+    let b = scheme_exists s is in
+    let d = scheme_exists t is' in
+    let states : HasStates t = record { automaton = is'.automaton; root = is'.root; env = λ entry inside. is'.env entry.binder entry.state.0 (each' entry inside) } in
+    solution_equivalent c s t b.0 d.0 solution states (read_as s is each b.0 b.1) (read_as t is' each' d.0 d.1) (same b.0 d.0 b.1 d.1)

@@ -1,0 +1,35 @@
+use Rattle.std.proofs.Common.{rules, List, subst}
+use Rattle.mls_automaton.specs.declared.scheme.Scheme.{Scheme}
+use Rattle.mls_biunify.specs.declared.goal.Goal.{Goal}
+use Rattle.mls_biunify.proofs.SolvedInstances.{over}
+use Rattle.mls_infer.specs.declared.merge.Solvable.{Solvable}
+use Rattle.mls_infer.specs.Merges.{solvable_constraint}
+use Rattle.mls_infer.specs.Posed.{constraint_of}
+use Rattle.mls_infer.specs.Solved.{ClashesFirst, IsClashWithout, IsSolvedFor}
+use Rattle.mls_infer.proofs.SolvedConstraints.{answer_none, solution_kept, solution_same, solvable_scheme, solvable_solution}
+use Rattle.mls_infer.proofs.solve.solve.Goals as goal
+
+pub returns-in_err-automaton-clause-none : goal.returns-in_err-automaton-clause-none
+returns-in_err-automaton-clause-none c =
+    let s : Solvable = c.in_ok-scheme.field-0 in
+    let e = c.in_err-automaton.field-0.0 in
+    let first : ClashesFirst s.scheme.automaton s.goals e = subst (λ (goals : List Goal). ClashesFirst s.scheme.automaton goals e) c.as_slice.ensures c.in_err-automaton.ensures.err in
+    let none : IsClashWithout (constraint_of c.args.c) e = answer_none s c.in_ok-scheme.ensures.scheme c.in_ok-scheme.ensures.rise c.in_ok-scheme.ensures.goals (constraint_of c.args.c) c.in_ok-scheme.ensures.types e first in
+    search rules
+
+pub keep_reachable-requires : goal.keep_reachable-requires
+keep_reachable-requires c =
+    let s : Solvable = c.in_ok-scheme.field-0 in
+    let is : IsSolvedFor s.scheme.automaton s.goals c.in_ok-automaton.automaton = subst (λ (goals : List Goal). IsSolvedFor s.scheme.automaton goals c.in_ok-automaton.automaton) c.as_slice.ensures c.in_ok-automaton.ensures.ok in
+    solvable_scheme s c.in_ok-scheme.ensures.scheme c.in_ok-scheme.ensures.rise c.in_ok-scheme.ensures.goals c.in_ok-automaton.automaton is
+
+pub returns-clause-solution : goal.returns-clause-solution
+returns-clause-solution c =
+    let s : Solvable = c.in_ok-scheme.field-0 in
+    let is : IsSolvedFor s.scheme.automaton s.goals c.in_ok-automaton.automaton = subst (λ (goals : List Goal). IsSolvedFor s.scheme.automaton goals c.in_ok-automaton.automaton) c.as_slice.ensures c.in_ok-automaton.ensures.ok in
+    let whole : Scheme = over s.scheme c.in_ok-automaton.automaton in
+    solution_kept (constraint_of c.args.c) whole c.in_ok-kept.kept
+    (solution_same (constraint_of c.args.c) (solvable_constraint s) whole c.in_ok-scheme.ensures.types
+    (solvable_solution s c.in_ok-scheme.ensures.scheme c.in_ok-scheme.ensures.rise c.in_ok-scheme.ensures.goals c.in_ok-automaton.automaton is))
+    (solvable_scheme s c.in_ok-scheme.ensures.scheme c.in_ok-scheme.ensures.rise c.in_ok-scheme.ensures.goals c.in_ok-automaton.automaton is)
+    c.in_ok-scheme.ensures.rise c.in_ok-kept.ensures.scheme c.binders_rise.ensures c.in_ok-kept.ensures.equivalent

@@ -1,0 +1,98 @@
+//! The constraints of small expressions.
+ghost use Rattle.std.specs.Prelude.{◌≡◌, length, All, IfOk};
+ghost use Rattle.mls_automaton.specs.Schemes.{IsScheme};
+
+use crate::constraints::Constraints;
+use crate::rows::{
+    application, bound, conditional, function, known, let_in, number, projection, record,
+    recursion, truth,
+};
+use mls_automaton::scheme::Scheme;
+use mls_base::list::List;
+use mls_base::memory::Memory;
+use mls_base::spelling::is_name;
+use mls_book::name::Name;
+use mls_scheme::build::lambda_use;
+use mls_term::term::{Part, Parts};
+use std::alloc::Global;
+use std::process::Abort;
+use std::test::Fail;
+
+// Whether there are so many states, edges and entries, the root is this one, and there are so many goals.
+fn has_shape(c: &Constraints, shape: [usize; 5]) -> bool {
+    c.automaton.len() == shape[0]
+        && c.automaton.flows().len() == shape[1]
+        && c.env.len() == shape[2]
+        && c.root.0 == shape[3]
+        && c.goals.len() == shape[4]
+}
+
+fn used(alloc: Global, binder: usize) -> Result<Scheme, Memory>
+    ensures { IfOk result IsScheme }
+{
+    let scheme = lambda_use(alloc, binder)?;
+    Ok(scheme)
+}
+
+fn one_scheme(alloc: Global) -> Result<List<Scheme>, Memory>
+    ensures each { IfOk result (λ schemes. All IsScheme schemes) }
+    ensures one { IfOk result (λ schemes. length schemes ≡ 1) }
+{
+    let scheme = used(alloc, 0)?;
+    let mut schemes = List::new(alloc);
+    schemes.push(scheme)?;
+    Ok(schemes)
+}
+
+fn one_part(rt: &impl Abort, alloc: Global) -> Result<Parts, Memory>
+    ensures { IfOk result (λ parts. length parts ≡ 1) }
+{
+    let label = b"l";
+    assert!(rt; is_name(label));
+    let mut parts = List::new(alloc);
+    parts.push(Part {
+        label: Name::new(alloc, label)?,
+        child: 0,
+    })?;
+    Ok(parts)
+}
+
+#[test]
+fn forms_of_one_part_have_their_constraints(rt: HostRuntime) -> Result<(), Fail> {
+    let alloc = rt.alloc();
+    let label = b"l";
+    assert!(rt; is_name(label));
+    let name = Name::new(alloc, label)?;
+    assert!(rt; has_shape(&bound(alloc, 0)?, [2, 1, 1, 1, 0]));
+    assert!(rt; has_shape(&number(alloc)?, [1, 0, 0, 0, 0]));
+    assert!(rt; has_shape(&truth(alloc)?, [1, 0, 0, 0, 0]));
+    assert!(rt; has_shape(&known(alloc, &used(alloc, 0)?)?, [2, 1, 1, 1, 0]));
+    assert!(rt; has_shape(&function(alloc, 0, used(alloc, 0)?)?, [3, 1, 0, 2, 0]));
+    assert!(rt; has_shape(&recursion(alloc, 0, used(alloc, 0)?)?, [2, 1, 0, 1, 1]));
+    assert!(rt; has_shape(&projection(alloc, name, used(alloc, 0)?)?, [5, 2, 1, 3, 1]));
+    Ok(())
+}
+
+#[test]
+fn forms_of_several_parts_have_their_constraints(rt: HostRuntime) -> Result<(), Fail> {
+    let alloc = rt.alloc();
+    let second = used(alloc, 1)?;
+    let third = used(alloc, 2)?;
+    let applied = application(alloc, used(alloc, 0)?, &second)?;
+    assert!(rt; has_shape(&applied, [7, 3, 2, 5, 1]));
+    let chosen = conditional(alloc, used(alloc, 0)?, &second, &third)?;
+    assert!(rt; has_shape(&chosen, [9, 4, 3, 8, 3]));
+    let bound = let_in(alloc, used(alloc, 0)?, &second)?;
+    assert!(rt; has_shape(&bound, [4, 2, 2, 3, 0]));
+    Ok(())
+}
+
+#[test]
+fn a_record_has_its_constraint(rt: HostRuntime) -> Result<(), Fail> {
+    let alloc = rt.alloc();
+    let parts = one_part(&rt, alloc)?;
+    let schemes = one_scheme(alloc)?;
+    let made = record(alloc, &parts, schemes.as_slice())?;
+    assert!(rt; has_shape(&made, [3, 1, 1, 2, 0]));
+    Ok(())
+}
