@@ -1,0 +1,10 @@
+//! Flow between states of automata: which negative states are below which positive ones.
+#![tactic(auto)]
+
+mod claims;
+mod needs;
+mod pairs;
+mod standing;
+pub mod table;
+#[cfg(test)]
+mod tests;
