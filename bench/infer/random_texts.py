@@ -1,17 +1,26 @@
-"""Compares two programs that infer signatures on random texts of modules: their output and status have to agree.
-It ends with 1 where they differ.
+"""Compares a program that infers signatures with the plain Rust program on random texts of modules. It ends with 1
+where they differ.
 
-    python3 bench/infer/random_texts.py FIRST SECOND SEED COUNT
+    python3 bench/infer/random_texts.py PROGRAM PLAIN SEED COUNT [forms]
+
+Most of the texts have a fault; with the word `forms` none has one, every form stands in them, and some of them have no
+signature. Status and output have to be the same, but for this: signatures may be equivalent line by line, as PLAIN says
+of them, and for a binding without scheme the kind of the clash may be another one, which is counted and shown. Either
+program may have words behind it: "infer-bench --simplify".
 """
 import collections
 import os
 import random
+import re
+import shlex
 import subprocess
 import sys
 import tempfile
 
 NAMES = ["a", "b", "c", "f", "x", "y"]
-TOKENS = """let rec fun -> = in if then else ( ) { } , . + - * < == import a b x 1 true : | $ 9223372036854775808 val""".split()
+TOKENS = """let rec fun -> = in if then else ( ) { } , . + - * < == import a b x 1 true : | $ 9223372036854775808
+val""".split()
+REFUSED = re.compile(rb"(main\.ml:\d+:\d+: no scheme for \w+): (.*)\n")
 
 
 def expression(pick, depth):
@@ -70,24 +79,181 @@ def text_of(pick):
     return changed(pick, text) if pick.random() < 0.6 else text
 
 
+class Forms:
+    """Expressions of every form without fault. What is wanted is a shape: "int", "bool", "any", ("fun", shape, shape)
+    or ("record", {label: shape}). Names are in scope with their shapes; a parameter of shape "free" is used as whatever
+    is wanted."""
+
+    def __init__(self, pick, slips):
+        self.pick = pick
+        self.slips = slips
+
+    def shape(self, depth):
+        pick = self.pick
+        chance = pick.random()
+        if depth <= 0 or chance < 0.45:
+            return pick.choice(["int", "bool", "any", "any"])
+        if chance < 0.75:
+            return ("fun", self.shape(depth - 1), self.shape(depth - 1))
+        return ("record", {label: self.shape(depth - 1) for label in pick.sample(NAMES, pick.randrange(4))})
+
+    def fits(self, shape, wanted):
+        if wanted == "any" or shape == "free":
+            return True
+        if isinstance(wanted, str) or isinstance(shape, str) or shape[0] != wanted[0]:
+            return shape == wanted
+        if wanted[0] == "fun":
+            return self.fits(wanted[1], shape[1]) and self.fits(shape[2], wanted[2])
+        return all(label in shape[1] and self.fits(shape[1][label], part) for label, part in wanted[1].items())
+
+    def name(self, scope):
+        return self.pick.choice(NAMES)
+
+    def atom(self, wanted, scope, depth):
+        """An expression as an operand."""
+        text = self.of(wanted, scope, depth)
+        is_atom = re.fullmatch(r"\w+|\{[^{}]*\}|\w+(\.\w+)+", text) and not text.startswith(("fun ", "if "))
+        return text if is_atom and self.pick.random() < 0.9 else f"({text})"
+
+    def of(self, wanted, scope, depth):
+        pick = self.pick
+        if pick.random() < self.slips:
+            wanted = self.shape(1)
+        known = [name for name, shape in scope.items() if self.fits(shape, wanted)]
+        if known and pick.random() < (0.35 if depth > 0 else 0.85):
+            return pick.choice(known)
+        if depth <= 0:
+            return self.leaf(wanted, scope)
+        chance = pick.random()
+        if chance < 0.4:
+            return self.made(wanted, scope, depth)
+        return pick.choice([self.applied, self.applied, self.projected, self.chosen, self.let, self.let, self.rec])(
+            wanted, scope, depth - 1)
+
+    def leaf(self, wanted, scope):
+        if wanted == "any":
+            wanted = self.pick.choice(["int", "bool", ("record", {})])
+        if wanted == "int":
+            return str(self.pick.randrange(10))
+        if wanted == "bool":
+            return self.pick.choice(["true", "false"])
+        return self.made(wanted, scope, 0)
+
+    def made(self, wanted, scope, depth):
+        """The form that makes what is wanted."""
+        pick = self.pick
+        if wanted == "any":
+            wanted = self.shape(2)
+        if wanted == "any" or (depth <= 0 and isinstance(wanted, str)):
+            return self.leaf(wanted, scope)
+        if wanted == "int":
+            sign = pick.choice("+-*")
+            return f"{self.atom('int', scope, depth - 1)} {sign} {self.atom('int', scope, depth - 1)}"
+        if wanted == "bool":
+            sign = pick.choice(["<", "=="])
+            return f"{self.atom('int', scope, depth - 1)} {sign} {self.atom('int', scope, depth - 1)}"
+        if wanted[0] == "fun":
+            name = self.name(scope)
+            shape = pick.choice(["free", wanted[1]])
+            return f"fun {name} -> {self.of(wanted[2], {**scope, name: shape}, depth - 1)}"
+        parts = dict(wanted[1])
+        if pick.random() < 0.3:
+            parts.setdefault(pick.choice(NAMES), "any")
+        made = [f"{label} = {self.of(part, scope, depth - 1)}" for label, part in parts.items()]
+        return "{" + ", ".join(made) + "}"
+
+    def applied(self, wanted, scope, depth):
+        shape = self.shape(1)
+        function = self.atom(("fun", shape, wanted), scope, depth)
+        return f"{function} {self.atom(shape, scope, depth)}"
+
+    def projected(self, wanted, scope, depth):
+        label = self.pick.choice(NAMES)
+        return f"{self.atom(('record', {label: wanted}), scope, depth)}.{label}"
+
+    def chosen(self, wanted, scope, depth):
+        condition = self.of("bool", scope, depth)
+        return f"if {condition} then {self.of(wanted, scope, depth)} else {self.of(wanted, scope, depth)}"
+
+    def let(self, wanted, scope, depth):
+        name = self.name(scope)
+        shape = self.shape(2)
+        if self.pick.random() < 0.25:
+            first = self.of(shape, {**scope, name: shape}, depth)
+            return f"let rec {name} = {first} in {self.of(wanted, {**scope, name: shape}, depth)}"
+        return f"let {name} = {self.of(shape, scope, depth)} in {self.of(wanted, {**scope, name: shape}, depth)}"
+
+    def rec(self, wanted, scope, depth):
+        name = self.name(scope)
+        return f"rec {name} -> {self.of(wanted, {**scope, name: wanted}, depth)}"
+
+
+def module_of_forms(pick):
+    forms = Forms(pick, pick.choice([0, 0, 0, 0.05]))
+    scope = {}
+    lines = []
+    for number in range(pick.randrange(1, 5)):
+        name = f"{pick.choice(NAMES)}{number}"
+        shape = forms.shape(2)
+        for _ in range(pick.choice([0, 0, 1, 2, 3])):
+            shape = ("fun", "any", shape)
+        is_rec = pick.random() < 0.25
+        inner = {**scope, name: shape} if is_rec else scope
+        lines.append(f"let {'rec ' if is_rec else ''}{name} = {forms.of(shape, inner, pick.randrange(2, 6))}\n")
+        scope[name] = shape
+    return "".join(lines)
+
+
+def answer(program):
+    done = subprocess.run([*program, "infer", "main"], capture_output=True)
+    return done.stdout, done.returncode
+
+
+def program_of(words):
+    first, *others = shlex.split(words)
+    return [os.path.abspath(first), *others]
+
+
+def are_equivalent(plain, said):
+    for number, (signature, _) in enumerate(said):
+        with open(f"{number}.mli", "wb") as file:
+            file.write(signature)
+    return subprocess.run([*plain, "compare", "0.mli", "1.mli"], capture_output=True).returncode == 0
+
+
+def verdict(plain, text, said):
+    """What is counted of two answers; nothing where they differ."""
+    (first, status), (_, other) = said
+    if said[0] == said[1]:
+        if status == 3:
+            return "fault " + first.split(b": fault ")[1].split(b":")[0].decode()
+        return {0: "signature, same text", 1: "no scheme, same kind"}.get(status, f"status {status}")
+    if (status, other) == (0, 0) and are_equivalent(plain, said):
+        return "signature, other text"
+    refused = [REFUSED.fullmatch(output) for output, _ in said]
+    if (status, other) == (1, 1) and None not in refused and refused[0].group(1) == refused[1].group(1):
+        print("kinds differ:", repr(text), [match.group(2).decode() for match in refused])
+        return "no scheme, other kind"
+    return None
+
+
 def main():
-    first, second = (os.path.abspath(path) for path in sys.argv[1:3])
+    programs = [program_of(words) for words in sys.argv[1:3]]
     pick = random.Random(int(sys.argv[3]))
-    kinds = collections.Counter()
-    differ = 0
+    make = module_of_forms if sys.argv[5:] == ["forms"] else text_of
+    counts = collections.Counter()
     os.chdir(tempfile.mkdtemp())
     for _ in range(int(sys.argv[4])):
-        text = text_of(pick)
+        text = make(pick)
         with open("main.ml", "w") as file:
             file.write(text)
-        answers = [subprocess.run([path, "infer", "main"], capture_output=True) for path in (first, second)]
-        said = [(answer.stdout, answer.returncode) for answer in answers]
-        kinds[said[0][0].split(b": fault ")[1].split(b":")[0].decode() if said[0][1] == 3 else "signature"] += 1
-        if said[0] != said[1]:
-            differ += 1
-            print(repr(text), said)
-    print(dict(kinds), "differ:", differ)
-    return 1 if differ else 0
+        said = [answer(program) for program in programs]
+        found = verdict(programs[1], text, said)
+        counts[found or "differ"] += 1
+        if not found:
+            print("differ:", repr(text), said)
+    print(dict(counts))
+    return 1 if counts["differ"] else 0
 
 
 sys.exit(main())

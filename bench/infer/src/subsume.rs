@@ -1,0 +1,88 @@
+//! Whether one closed scheme has all instances of another.
+use crate::automaton::{Automaton, Head, Polarity, Scheme, StateId};
+use crate::flow::{admissible, only};
+use crate::simplify::determinise;
+use std::collections::{HashMap, HashSet};
+
+/// A state of the general scheme, and one of the special scheme.
+type Pair = (StateId, StateId);
+
+/// The pairs that are reached from the roots through constructors that both have.
+fn walk(general: &Automaton, special: &Automaton, roots: Pair) -> Vec<Pair> {
+    let mut pairs = vec![roots];
+    let mut known = HashSet::from([roots]);
+    let mut next = 0;
+    while let Some(pair) = pairs.get(next).copied() {
+        let below = children(general.head(pair.0), special.head(pair.1));
+        pairs.extend(below.into_iter().filter(|pair| known.insert(*pair)));
+        next += 1;
+    }
+    pairs
+}
+
+fn children(general: &Head, special: &Head) -> Vec<Pair> {
+    let mut pairs = Vec::new();
+    if let (Some(function), Some(other)) = (&general.function, &special.function) {
+        pairs.push((only(&function.domain), only(&other.domain)));
+        pairs.push((only(&function.codomain), only(&other.codomain)));
+    }
+    for field in general.fields.iter().flatten() {
+        if let Some(set) = special.field(field.label) {
+            pairs.push((only(&field.set), only(set)));
+        }
+    }
+    pairs
+}
+
+/// Whether the special state has all constructors of the general one, with the fields that its polarity asks for.
+fn heads_fit(polarity: Polarity, general: &Head, special: &Head) -> bool {
+    let has_all = (!general.boolean || special.boolean)
+        && (!general.integer || special.integer)
+        && (general.function.is_none() || special.function.is_some());
+    let fields_fit = match (&general.fields, &special.fields) {
+        (None, _) => true,
+        (Some(_), None) => false,
+        (Some(fields), Some(others)) => match polarity {
+            Polarity::Positive => others.iter().all(|other| general.field(other.label).is_some()),
+            Polarity::Negative => fields.iter().all(|field| special.field(field.label).is_some()),
+        },
+    };
+    has_all && fields_fit
+}
+
+/// For each edge of the general scheme that is paired on both ends, the ends in the special scheme.
+fn flows_needed(general: &Automaton, pairs: &[Pair]) -> Vec<Pair> {
+    let mut partners: HashMap<StateId, Vec<StateId>> = HashMap::new();
+    for (state, other) in pairs {
+        partners.entry(*state).or_default().push(*other);
+    }
+    let mut needed = HashSet::new();
+    for (positive, other) in pairs.iter().filter(|pair| general.state(pair.0).polarity == Polarity::Positive) {
+        for negative in general.state(*positive).edges.as_slice() {
+            let sources = partners.get(negative).into_iter().flatten();
+            needed.extend(sources.map(|source| (*source, *other)));
+        }
+    }
+    needed.into_iter().collect()
+}
+
+fn deterministic_subsumes(general: &Scheme, special: &Scheme) -> bool {
+    let pairs = walk(&general.automaton, &special.automaton, (general.part.root, special.part.root));
+    let fit = pairs.iter().all(|pair| {
+        let state = general.automaton.state(pair.0);
+        heads_fit(state.polarity, &state.head, special.automaton.head(pair.1))
+    });
+    fit && admissible(&special.automaton, &flows_needed(&general.automaton, &pairs)).into_iter().all(|holds| holds)
+}
+
+/// Whether each of two closed schemes subsumes the other.
+pub fn are_equivalent(first: &Scheme, second: &Scheme) -> bool {
+    let (first, second) = (determinise(first), determinise(second));
+    deterministic_subsumes(&first, &second) && deterministic_subsumes(&second, &first)
+}
+
+/// Whether the first of two closed schemes subsumes the second.
+#[cfg(test)]
+pub fn subsumes(general: &Scheme, special: &Scheme) -> bool {
+    deterministic_subsumes(&determinise(general), &determinise(special))
+}

@@ -1,0 +1,131 @@
+//! What the program says of some modules.
+use crate::subsume::{are_equivalent, subsumes};
+use crate::types::{compare, entries, labels_of, numbered};
+use crate::{answer, generate};
+use bench_common::tokens;
+
+/// A module, what is said of it when schemes are simplified, and the status.
+const ROWS: [(&str, &str, i32); 20] = [
+    ("let id = fun x -> x", "val id : a -> a\n", 0),
+    ("let twice = fun f -> fun x -> f (f x)", "val twice : (a | b -> a) -> b -> a\n", 0),
+    ("let self = fun x -> x x", "val self : a & (a -> b) -> b\n", 0),
+    ("let pick = fun b -> if b then 1 else true", "val pick : bool -> bool | int\n", 0),
+    ("let rec f = fun x -> f", "val f : rec a. top -> a\n", 0),
+    ("let get = fun r -> {a = r, b = r.a}", "val get : a & {a: b} -> {a: a, b: b}\n", 0),
+    ("", "", 0),
+    ("let e = {}", "val e : {}\n", 0),
+    ("let bad = {a = 1}.b", "main.ml:1:19: no scheme for bad: a record without the field b\n", 1),
+    ("let bad = 1 2", "main.ml:1:11: no scheme for bad: int where a function is expected\n", 1),
+    ("let p = let i = fun x -> x in {a = i 1, b = i true}", "val p : {a: int, b: bool}\n", 0),
+    ("let q = fun x -> let y = x in y + 1", "val q : int -> int\n", 0),
+    ("let s = fun x -> let f = fun y -> x in fun x -> f x", "val s : a -> top -> a\n", 0),
+    ("let w = (fun x -> x x) (fun x -> x x)", "val w : bot\n", 0),
+    ("let fix = fun f -> (fun x -> f (x x)) (fun x -> f (x x))", "val fix : (a -> a) -> a\n", 0),
+    ("let n = fun b -> if b then b else false", "val n : bool -> bool\n", 0),
+    ("let comp = fun f -> fun g -> fun x -> f (g x)", "val comp : (a -> b) -> (c -> a) -> c -> b\n", 0),
+    ("let bad = true + 1", "main.ml:1:16: no scheme for bad: bool where int is expected\n", 1),
+    ("let ok = 1\nlet bad = ok ok", "main.ml:2:11: no scheme for bad: int where a function is expected\n", 1),
+    ("let n = 9223372036854775807", "val n : int\n", 0),
+];
+
+#[test]
+fn simplified_signatures() {
+    for (text, said, status) in ROWS {
+        assert_eq!(answer("main", text.as_bytes(), true), (said.to_string(), status), "{text}");
+    }
+}
+
+/// Whether the first type subsumes the second, and the second the first.
+fn directions(first: &str, second: &str) -> (bool, bool) {
+    let text = format!("val first : {first}\nval second : {second}\n");
+    let tokens = tokens(text.as_bytes()).ok().expect("the types have tokens");
+    let labels = numbered(&labels_of([(text.as_bytes(), &tokens[..])].into_iter()));
+    let read = entries(text.as_bytes(), &tokens, &labels).expect("the types are read");
+    let [(_, first), (_, second)] = &read[..] else { panic!("two entries") };
+    let both = (subsumes(first, second), subsumes(second, first));
+    assert_eq!(are_equivalent(first, second), both == (true, true));
+    both
+}
+
+#[test]
+fn subsumption() {
+    let rows = [
+        ("a -> a", "int -> int", (true, false)),
+        ("a -> a", "a & int -> a | int", (true, false)),
+        ("a -> a", "(rec a. {next: a}) -> rec a. {next: a}", (true, false)),
+        ("a -> a", "a -> b", (false, true)),
+        ("a -> a", "int -> bool", (false, false)),
+        ("a -> a", "{}", (false, false)),
+        ("{}", "{a: int}", (false, true)),
+        ("bool", "bool | int", (true, false)),
+        ("a -> top -> a", "a -> b -> a", (true, true)),
+        ("a -> top -> a", "a -> a -> a", (true, false)),
+        ("rec a. top -> a", "rec a. top -> top -> a", (true, true)),
+        ("rec a. top -> a", "top -> rec a. top -> a", (true, true)),
+        ("rec a. {l: rec b. a | {m: b}}", "rec a. {l: a}", (false, true)),
+        ("rec a. {l: rec b. a | {l: b}}", "rec a. {l: a}", (true, true)),
+        ("bot", "a -> b", (true, false)),
+        ("top -> bot", "a -> b", (true, true)),
+        ("(a | b -> a) -> b -> a", "(a -> a) -> a -> a", (true, false)),
+        ("a & {a: b} -> {a: a, b: b}", "b & {a: a} -> {b: a, a: b}", (true, true)),
+        ("{l: int} & a -> a", "{l: int} -> {l: int}", (true, false)),
+    ];
+    for (first, second, expected) in rows {
+        assert_eq!(directions(first, second), expected, "{first} and {second}");
+    }
+}
+
+const PAIRS: &str = "let pair = fun x -> fun y -> {fst = x, snd = y}
+let swap = fun p -> {fst = p.snd, snd = p.fst}
+let tt = fun x -> fun y -> x
+let ff = fun x -> fun y -> y
+let cond = fun b -> fun x -> fun y -> b x y
+let rec counter = fun n -> {now = n, next = fun u -> counter (n + 1)}
+let p = pair 1 true
+let q = swap p
+let c = counter 0
+let d = (c.next {}).now
+let r = cond tt q.fst d
+";
+
+const PAIRS_SIGNATURE: &str = "val pair : a -> b -> {fst: a, snd: b}
+val swap : {fst: a, snd: b} -> {fst: b, snd: a}
+val tt : a -> top -> a
+val ff : top -> a -> a
+val cond : (a -> b -> c) -> a -> b -> c
+val counter : int -> rec a. {next: top -> a, now: int}
+val p : {fst: int, snd: bool}
+val q : {fst: bool, snd: int}
+val c : rec a. {next: top -> a, now: int}
+val d : int
+val r : bool
+";
+
+#[test]
+fn some_modules() {
+    assert_eq!(answer("main", PAIRS.as_bytes(), true), (PAIRS_SIGNATURE.to_string(), 0));
+    let (plain, status) = answer("main", PAIRS.as_bytes(), false);
+    assert_eq!(status, 0);
+    let (said, all) = compare(plain.as_bytes(), PAIRS_SIGNATURE.as_bytes()).expect("both are signatures");
+    assert!(all, "{said}");
+}
+
+#[test]
+fn generated_modules() {
+    let text = generate::generate(1, 4);
+    assert_eq!(
+        text,
+        "let v0 = fun x -> fun y -> {a = x, b = y, c = 838}
+let v1 = (v0 113) true
+let v2 = fun r -> r.b + v1.c
+let rec v3 = fun n -> if n < 627 then v2 {a = n, b = n, c = n} else v3 (n - 1)
+"
+    );
+    let said = "val v0 : a -> b -> {a: a, b: b, c: int}
+val v1 : {a: int, b: bool, c: int}
+val v2 : {b: int} -> int
+val v3 : int -> int
+";
+    assert_eq!(answer("generated", text.as_bytes(), true), (said.to_string(), 0));
+    assert_eq!((text.len(), said.len()), (182, 120));
+}

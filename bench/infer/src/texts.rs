@@ -1,0 +1,110 @@
+//! The texts that both programs are measured on.
+use crate::generate::generate;
+use std::fmt::Write as _;
+use std::fs;
+use std::path::Path;
+
+/// What stands between lines `0`, `1` and so on, made by a function of their numbers.
+fn joined(count: usize, between: &str, line: impl Fn(usize) -> String) -> String {
+    (0..count).map(line).collect::<Vec<_>>().join(between)
+}
+
+/// The texts of inference, each with its name.
+fn texts_of_inference() -> Vec<(&'static str, String)> {
+    let fields = joined(3_000, ", ", |number| format!("l{number} = {number}"));
+    let projections = joined(3_000, " + ", |number| format!("r.l{number}"));
+    let numerals = joined(3_000, "\n", |number| match number {
+        0 => "let n0 = add one one".to_string(),
+        _ => format!("let n{number} = add n{} one", number - 1),
+    });
+    let church = "let one = fun f -> fun x -> f x\nlet add = fun m -> fun n -> fun f -> fun x -> m f (n f x)";
+    // a text of as many lets as may be nested; a line may be so much deeper than its let
+    let lets = |deeper: usize, first: &str, line: fn(usize) -> String| {
+        let count = 198 - deeper;
+        format!("let a = let x0 = {first} in {} in x{count}", joined(count, " in ", move |number| line(number + 1)))
+    };
+    vec![
+        ("generated", generate(1, 10_000)),
+        ("identities", format!("let id = fun x -> x\nlet a = {} 1", "id ".repeat(2_000))),
+        ("parameter", format!("let a = fun f -> f{}", " 1".repeat(2_000))),
+        ("church", format!("{church}\n{numerals}")),
+        ("fields", format!("let r = {{{fields}}}\nlet a = {projections}")),
+        ("fields_of_let", format!("let a = let r = {{{fields}}} in {projections}")),
+        ("fields_of_parameter", format!("let a = fun r -> {projections}")),
+        ("operands", format!("let a = 1{}", "+1".repeat(249_999))),
+        ("operands_of_parameter", format!("let a = fun x -> x{}", "+x".repeat(249_999))),
+        ("lets_of_numbers", lets(0, "1", |number| format!("let x{number} = x{} + 1", number - 1))),
+        (
+            "lets_of_functions",
+            lets(2, "fun y -> y", |number| format!("let x{number} = fun y -> x{0} (x{0} y)", number - 1)),
+        ),
+        ("lets_of_records", lets(1, "{}", |number| format!("let x{number} = {{l = x{}}}", number - 1))),
+    ]
+}
+
+/// Writes the texts that both programs are measured on into a folder.
+pub fn write_texts(folder: &str) -> std::io::Result<()> {
+    for (name, text) in texts_of_inference() {
+        fs::write(Path::new(folder).join(format!("{name}.ml")), text)?;
+    }
+    for count in [2_500, 5_000, 10_000, 20_000] {
+        let mut text = String::new();
+        for number in 0..count {
+            let _ = writeln!(text, "let value{number} = fun first -> fun other{} -> first", number % 7);
+        }
+        fs::write(format!("{folder}/bindings{count}.ml"), text)?;
+    }
+    let deep = |open: &str, leaf: &str, close: &str| {
+        let mut text = String::new();
+        let mut number = 0;
+        while text.len() < 1_040_000 {
+            let _ = writeln!(text, "let d{number} = {}{leaf}{}", open.repeat(199), close.repeat(199));
+            number += 1;
+        }
+        text
+    };
+    fs::write(format!("{folder}/functions.ml"), deep("fun x -> ", "x", ""))?;
+    fs::write(format!("{folder}/parentheses.ml"), deep("(", "1", ")"))?;
+    let mut short = String::new();
+    let mut number = 0;
+    while short.len() < 1_048_500 {
+        let _ = writeln!(short, "let a{number} = fun x -> x");
+        number += 1;
+    }
+    fs::write(format!("{folder}/short.ml"), short)?;
+    fs::write(format!("{folder}/open.ml"), format!("let a = {}", "(".repeat(1_048_560)))?;
+    fs::write(format!("{folder}/spaces.ml"), " ".repeat(1_048_576))?;
+    let long = |before: &str, part: &str| {
+        let count = (1_048_576 - before.len()) / part.len();
+        format!("{before}{}", part.repeat(count))
+    };
+    fs::write(format!("{folder}/sum.ml"), long("let a = 1", "+1"))?;
+    fs::write(format!("{folder}/product.ml"), long("let a = 1", "*1"))?;
+    fs::write(format!("{folder}/arguments.ml"), long("let f = fun x -> x let a = f", " 1"))?;
+    fs::write(format!("{folder}/projections.ml"), long("let a = fun x -> x", ".l"))?;
+    let mut record = String::from("let a = {l = 1");
+    let mut label = 0;
+    while record.len() < 1_048_500 {
+        let _ = write!(record, ",l{label}=1");
+        label += 1;
+    }
+    fs::write(format!("{folder}/record.ml"), record + "}")?;
+    fs::write(format!("{folder}/lets.ml"), deep("let x = 1 in ", "x", ""))?;
+    fs::write(format!("{folder}/records.ml"), deep("{l = ", "1", "}"))?;
+    fs::write(format!("{folder}/choices.ml"), deep("if true then 1 else ", "1", ""))?;
+    fs::write(
+        format!("{folder}/imports.ml"),
+        (0..70_000).fold(String::new(), |mut text, number| {
+            let _ = writeln!(text, "import m{number}");
+            text
+        }),
+    )?;
+    fs::write(
+        format!("{folder}/earlier.ml"),
+        (0..40_000).fold(String::from("let a0 = 1\n"), |mut text, number| {
+            let _ = writeln!(text, "let a{} = a{number}", number + 1);
+            text
+        }),
+    )?;
+    fs::write(format!("{folder}/bytes.ml"), vec![255; 1_048_576])
+}
