@@ -6,6 +6,7 @@ pub mod Quiet
 pub mod Separating
 pub mod Fields
 pub mod Deciding
+pub mod Irredundant
 pub mod Refining
 pub mod Exactness
 pub mod Losses

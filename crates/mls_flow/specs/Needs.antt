@@ -9,7 +9,7 @@ use Rattle.mls_automaton.specs.declared.automaton.Polarity.TheVariants.{Positive
 use Rattle.mls_automaton.specs.Automata.{Automaton, flow, head_at, HasFlow, IsState}
 use Rattle.mls_automaton.specs.Heads.{set_at}
 use Rattle.mls_flow.specs.declared.standing.Claim.{Claim}
-use Rattle.mls_flow.specs.Claims.{claim_at}
+use Rattle.mls_flow.specs.Claims.{AllIn, claim_at}
 
 -- the one member of a set
 abbrev pub only : List ℕ → ℕ
@@ -79,3 +79,19 @@ pub record IsClaimOf (a : Automaton) (list : List Flow) (f : Flow) (c : Claim) :
 -- a claim for each of the first pairs
 pub record AreClaimsOf (a : Automaton) (list : List Flow) (claims : List Claim) : Type 0 where
   pub each : (k : ℕ) → k < length claims → IsClaimOf a list (pair_at list k) (claim_at claims k)
+
+-- a base type of both, or one of the claim's lists is in the set: what the claim stands on without the edge
+abbrev pub StandsByHeads : (ℕ → Bool) → Head → Head → Claim → Type 0
+StandsByHeads kept h k c = HasCommonBase h k ⊎ (AllIn kept c.first ⊎ AllIn kept c.second)
+
+-- a claim of the pair stands so
+abbrev pub IsSaid : Automaton → List Flow → List Claim → (ℕ → Bool) → Flow → Type 0
+IsSaid a list claims kept f =
+    (k : ℕ) × (k < length list) × (pair_at list k ≡ f)
+    × StandsByHeads kept (head_at a f.negative.0) (head_at a f.positive.0) (claim_at claims k)
+
+-- Of these edges those are kept that no claim says.
+abbrev pub AreKeptOf : (Flow → Type 0) → List Flow → List Flow → Type 0
+AreKeptOf IsSaid edges kept =
+    ((f : Flow) → Contains kept f → Contains edges f × (IsSaid f → ⊥))
+    × ((f : Flow) → Contains edges f → Contains kept f ⊎ IsSaid f)

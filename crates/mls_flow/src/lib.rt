@@ -4,6 +4,7 @@
 mod claims;
 mod needs;
 mod pairs;
+pub mod redundant;
 mod standing;
 pub mod table;
 #[cfg(test)]

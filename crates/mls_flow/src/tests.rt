@@ -1,4 +1,5 @@
 //! Small automata, and which of their states are below which.
+use crate::redundant::irredundant_flows;
 use crate::table::{admissible, admissible_among};
 use mls_automaton::automaton::Polarity::{Negative, Positive};
 use mls_automaton::automaton::{Arms, Automaton, FieldSet, FieldSets, Flow, Head, Polarity};
@@ -208,5 +209,32 @@ fn a_table_knows_what_its_pairs_need(rt: HostRuntime) -> Result<(), Fail> {
     assert!(rt; table.has(StateId(0), StateId(1)));
     assert!(rt; table.has(StateId(2), StateId(3)));
     assert!(rt; !table.has(StateId(2), StateId(1)));
+    Ok(())
+}
+
+#[test]
+fn edges_that_heads_say_are_left_out(rt: HostRuntime) -> Result<(), Fail> {
+    let alloc = rt.alloc();
+    let rows = [
+        (Part::Nothing, Part::Nothing, 1),
+        (Part::Boolean, Part::Boolean, 0),
+        (Part::Boolean, Part::Integer, 1),
+        (Part::Integer, Part::Integer, 0),
+        (Part::Integer, Part::Nothing, 1),
+        (Part::Empty, Part::Empty, 0),
+        (Part::Empty, Part::Nothing, 1),
+        (Part::Field(b'a', 0), Part::Empty, 0),
+        (Part::Empty, Part::Field(b'a', 1), 1),
+        (Part::Field(b'a', 0), Part::Field(b'a', 1), 0),
+        (Part::Field(b'a', 0), Part::Field(b'b', 1), 1),
+        (Part::Function(1, 0), Part::Function(0, 1), 0),
+        (Part::Function(1, 0), Part::Empty, 1),
+    ];
+    for (lower, upper, expected) in rows {
+        let states = [(Negative, lower), (Positive, upper)];
+        let a = automaton(&rt, alloc, states.as_slice(), true)?;
+        assert!(rt; a.is_closed() && a.is_deterministic());
+        assert_eq!(rt; irredundant_flows(alloc, &a)?.len(), expected);
+    }
     Ok(())
 }
