@@ -3,8 +3,8 @@
 --     entries_below              binders rise where those of the first environment do
 --     binders_rise               the binders of the second environment rise
 --     entry_of, entry_env        the state of a binder in the one environment and in the other
-use Rattle.std.proofs.Common.{◌≡◌, ◌⊎◌, inl, inr, ℕ, zero, suc, ◌+◌, ◌<◌, ◌==◌, Bool, true, false, List, [], ◌∷◌, ◌++◌, map, take, refl, sym, ap, ◌∙◌, subst, arith, length, get_or, All, Contains, Some, None}
-use Rattle.std.specs.Prelude.{Option, find, cond, option_map}
+use Rattle.std.proofs.Common.{◌≡◌, inl, inr, ℕ, zero, suc, ◌<◌, ◌==◌, Bool, true, false, List, [], ◌∷◌, ◌++◌, map, take, refl, sym, ap, subst, arith, length, get_or, All, Contains, Some}
+use Rattle.std.specs.Prelude.{find, cond, option_map}
 use Rattle.std.proofs.lemmas.List.Elements.{All-cons, All-head, All-tail, Contains-append_left, Contains-push}
 use Rattle.mls_automaton.specs.declared.automaton.Polarity.TheVariants.{Negative}
 use Rattle.mls_automaton.specs.declared.scheme.EnvEntry.{EnvEntry}

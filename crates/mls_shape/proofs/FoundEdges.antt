@@ -2,7 +2,7 @@
 --     partner_low, holders_added, targets_none, targets_more, targets_all   the sets to which a set has edges
 --     edge_of, of_edge, target_positive                                     they are those of the definition
 --     flows_sorted, flows_of_set                                            the edges from one set
-use Rattle.std.proofs.Common.{◌≡◌, ◌⊎◌, inl, inr, ℕ, ◌+◌, ◌<◌, ◌≤◌, List, [], ◌∷◌, ◌++◌, take, refl, sym, ap, ◌∙◌, subst, arith, length, get_or, All, Contains}
+use Rattle.std.proofs.Common.{◌≡◌, ◌⊎◌, inl, inr, ℕ, ◌+◌, ◌<◌, ◌≤◌, List, [], ◌++◌, take, sym, ap, ◌∙◌, subst, arith, length, get_or, All, Contains}
 use Rattle.std.specs.Prelude.{◌↔◌, OnOk, Result, Ok, Err}
 use Rattle.std.specs.List.{flat_map}
 use Rattle.std.specs.List.Sorted.{IsPermutation}

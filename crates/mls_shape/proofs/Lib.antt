@@ -5,6 +5,15 @@ pub mod AddedFlows
 pub mod Registered
 pub mod NumberedHeads
 pub mod CombinedHeads
+pub mod NumberedStates
+pub mod BuiltStates
+pub mod RisingSets
+pub mod Built
+pub mod HeadCodes
+pub mod StateKeys
+pub mod Numberings
+pub mod Settled
+pub mod ClassedSchemes
 pub mod Spreading
 pub mod Determinising
 pub mod Dropping
@@ -16,3 +25,4 @@ pub mod Keeping
 pub mod Simplifying
 pub mod Equivalences
 pub mod Worked
+pub mod KeptFlows

@@ -45,7 +45,12 @@ pub fn combined_head(
     combine_heads(alloc, polarity, &first, &second)
 }
 
-fn copied_head(head: &Head) -> Result<Head, Memory>
+/// The same head once more.
+///
+/// # Errors
+///
+/// `Memory` where memory is wanting.
+pub fn copied_head(head: &Head) -> Result<Head, Memory>
     ensures { IfOk result (λ copy. copy ≡ head.now) }
 {
     let copy = head.clone()?;

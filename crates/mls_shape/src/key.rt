@@ -40,10 +40,17 @@ impl Key {
         numbers.extend_from_slice(members.as_slice())?;
         Ok(Key { numbers })
     }
+
+    /// The key of these numbers.
+    pub fn from_numbers(numbers: Vec<usize>) -> Key
+        ensures { result ≡ numbers.items }
+    {
+        Key { numbers }
+    }
 }
 
-// The number of a polarity.
-fn sign(polarity: Polarity) -> usize
+/// The number of a polarity.
+pub fn sign(polarity: Polarity) -> usize
     ensures { result ≡ sign polarity }
 {
     match polarity {

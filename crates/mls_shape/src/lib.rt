@@ -1,8 +1,20 @@
 //! Simpler automata for schemes.
 #![tactic(auto)]
 
+mod classed;
+mod classes;
+pub mod determinise;
+pub mod drop;
+#[cfg(test)]
+mod edge_tests;
 mod edges;
 mod environment;
 mod heads;
 mod key;
+pub mod minimise;
+mod numbering;
 mod register;
+pub mod simplify;
+mod states;
+#[cfg(test)]
+mod tests;

@@ -1,8 +1,8 @@
-use Rattle.std.proofs.Common.{◌≡◌, ◌<◌, ◌+◌, ◌∙◌, sym, ℕ, List, subst, ap, length, arith}
+use Rattle.std.proofs.Common.{◌≡◌, ◌<◌, ◌∙◌, sym, ℕ, List, subst, ap, length, arith}
 use Rattle.mls_automaton.specs.declared.automaton.Polarity.TheVariants.{Positive, Negative}
 use Rattle.mls_shape.specs.declared.register.SetState.{SetState}
 use Rattle.mls_shape.specs.steps.Edges.{AddsFlows, AreHolders, IsEdge, IsTarget, set_at}
-use Rattle.mls_shape.proofs.AddedFlows.{states-stay, flows-more, flows-all, flows-same}
+use Rattle.mls_shape.proofs.AddedFlows.{states-stay, flows-more, flows-same}
 use Rattle.mls_shape.proofs.FoundEdges.{set_is, edge_of, of_edge, target_positive}
 use Rattle.mls_shape.proofs.edges.add_flows.Goals as goal
 

@@ -1,4 +1,4 @@
-use Rattle.std.proofs.Common.{◌≡◌, ℕ}
+use Rattle.std.proofs.Common.{◌≡◌}
 use Rattle.mls_automaton.specs.declared.automaton.Polarity.TheVariants.{Negative}
 use Rattle.mls_shape.specs.steps.Edges.{AddsFlows, IsTarget, set_at}
 use Rattle.mls_shape.proofs.AddedFlows.{FromBelow}

@@ -1,6 +1,6 @@
 use Rattle.std.proofs.lemmas.List.{get_or_default}
 use Rattle.mls_automaton.specs.declared.automaton.Polarity.TheVariants.{Positive}
-use Rattle.std.proofs.Common.{◌≡◌, ◌+◌, ◌∙◌, [], ℕ, List, Contains, subst, ap, length, arith}
+use Rattle.std.proofs.Common.{◌≡◌, ◌∙◌, [], ℕ, List, Contains, subst, ap, length, arith}
 use Rattle.mls_shape.specs.declared.register.SetState.{SetState}
 use Rattle.mls_shape.specs.steps.Edges.{AddsHolders, AreHolders}
 use Rattle.mls_shape.proofs.Holders.{holders-more}

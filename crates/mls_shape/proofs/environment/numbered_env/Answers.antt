@@ -1,4 +1,4 @@
-use Rattle.std.proofs.Common.{rules, ◌≡◌, ◌+◌, ◌++◌, ◌∷◌, [], List, take, get_or, refl, sym, ap, ◌∙◌, subst}
+use Rattle.std.proofs.Common.{◌+◌, ◌++◌, ◌∷◌, [], List, take, get_or, refl, sym, subst}
 use Rattle.std.proofs.lemmas.List.{take_more}
 use Rattle.mls_automaton.specs.declared.automaton.Polarity.TheVariants.{Negative}
 use Rattle.mls_automaton.specs.declared.scheme.EnvEntry.{EnvEntry}

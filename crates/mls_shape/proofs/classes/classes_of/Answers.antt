@@ -1,0 +1,20 @@
+use Rattle.std.proofs.Common.{◌≡◌, List, rules, refl, sym, subst, ℕ}
+use Rattle.mls_shape.specs.steps.Classes.{class_in, AreClassesBy, LookAlike}
+use Rattle.mls_shape.proofs.Settled.{finer_keeps, settled}
+use Rattle.mls_shape.proofs.classes.classes_of.Goals as goal
+
+pub loop-init : goal.loop-init
+loop-init c = λ x y low low' alike. subst (λ (xs : List ℕ). class_in xs x ≡ class_in xs y) (sym c.new-classes.ensures.items) refl
+
+pub loop-preserved : goal.loop-preserved
+loop-preserved c =
+    finer_keeps c.args.a.now c.requires.closed c.loop.classes.items c.in_ok-finer.finer
+    (subst (λ (xs : List ℕ). AreClassesBy c.args.a.now (LookAlike c.args.a.now xs) c.in_ok-finer.finer) c.as_slice.ensures.value c.in_ok-finer.ensures)
+    c.loop.invariant
+
+pub returns-then-eq : goal.returns-then-eq
+returns-then-eq c =
+    let same : c.in_ok-finer.finer.numbers.items ≡ c.loop.classes.items = search rules in
+    settled c.args.a.now c.requires.closed c.loop.classes.items c.in_ok-finer.finer
+    (subst (λ (xs : List ℕ). AreClassesBy c.args.a.now (LookAlike c.args.a.now xs) c.in_ok-finer.finer) c.as_slice.ensures.value c.in_ok-finer.ensures)
+    c.loop.invariant same

@@ -1,0 +1,176 @@
+//! Classes of alike states, by rounds: two states stay together where they look alike by the classes so far.
+ghost use Rattle.std.specs.Prelude.{◌≡◌, ◌<◌, ◌++◌, ◌∷◌, length, IfOk, OnOk};
+ghost use Rattle.std.specs.List.{flat_map};
+ghost use Rattle.mls_automaton.specs.Models.{IsClosed, IsDeterministic};
+ghost use Rattle.mls_shape.specs.steps.Classes.{AreClasses, AreClassesBy, IsKeyOf, LookAlike};
+ghost use Rattle.mls_shape.specs.steps.Classes.{bit_code, class_in, field_code, function_code, head_code};
+ghost use Rattle.mls_shape.specs.steps.Classes.{one_of, record_code};
+
+use crate::key::{Key, sign};
+use crate::numbering::Numbering;
+use mls_automaton::automaton::{Arms, Automaton, FieldSet, FieldSets, Head};
+use mls_automaton::state_set::{StateId, StateSet};
+use mls_base::memory::Memory;
+use mls_book::name::Name;
+use std::alloc::Global;
+
+/// The number of the class of each state, and a state of each class.
+#[derive(Drop)]
+pub struct Classes {
+    pub numbers: Vec<usize>,
+    pub chosen: Vec<usize>,
+}
+
+/// The classes of alike states. Each round takes time linear in heads and edges, with the binary digits of the number
+/// of states, and splits some class but in the last.
+///
+/// # Errors
+///
+/// `Memory` where memory is wanting.
+pub fn classes_of(alloc: Global, a: &Automaton) -> Result<Classes, Memory>
+    requires closed { IsClosed a.now }
+    requires deterministic { IsDeterministic a.now }
+    ensures { IfOk result (AreClasses a.now) }
+{
+    let mut classes = Vec::new(alloc);
+    for _ in 0..usize::MAX {
+        let finer = refined(alloc, a, classes.as_slice())?;
+        if finer.numbers.as_slice() == classes.as_slice() {
+            return Ok(finer);
+        }
+        classes = finer.numbers;
+    }
+    // No memory holds states of so many classes.
+    Err(Memory)
+}
+
+// The classes of states that look alike by the classes so far.
+fn refined(alloc: Global, a: &Automaton, classes: &[usize]) -> Result<Classes, Memory>
+    requires closed { IsClosed a.now }
+    requires deterministic { IsDeterministic a.now }
+    ensures { IfOk result (AreClassesBy a.now (LookAlike a.now classes.now)) }
+{
+    let mut numbering = Numbering::new(alloc);
+    for s in 0..a.len() {
+        let key = key_of(alloc, a, classes, StateId(s))?;
+        numbering.add(key)?;
+    }
+    Ok(numbering.classes)
+}
+
+// The key of a state.
+fn key_of(alloc: Global, a: &Automaton, classes: &[usize], s: StateId) -> Result<Key, Memory>
+    requires { s.0 < length a.now.states }
+    ensures { IfOk result (IsKeyOf a.now (class_in classes.now) s.0) }
+{
+    let partners = a.partners(s);
+    let mut numbers = vec![in alloc; sign(a.polarity(s))]?;
+    numbers.push(partners.len())?;
+    numbers.extend_from_slice(partners.as_slice())?;
+    add_head(&mut numbers, classes, a.head(s))?;
+    Ok(Key::from_numbers(numbers))
+}
+
+fn add_head(key: &mut Vec<usize>, classes: &[usize], head: &Head) -> Result<(), Memory>
+    ensures { OnOk result (key.new.items ≡ key.old.items ++ head_code (class_in classes.now) head.now) }
+{
+    key.push(bit(head.boolean))?;
+    key.push(bit(head.integer))?;
+    add_function(key, classes, &head.function)?;
+    add_record(key, classes, &head.fields)
+}
+
+fn bit(is: bool) -> usize
+    ensures { result ≡ bit_code is }
+{
+    if is { 1 } else { 0 }
+}
+
+fn add_function(
+    key: &mut Vec<usize>,
+    classes: &[usize],
+    function: &Option<Arms>,
+) -> Result<(), Memory>
+    ensures { OnOk result (key.new.items ≡ key.old.items ++ function_code (class_in classes.now) function.now) }
+{
+    match function {
+        None => {
+            key.push(0)?;
+            Ok(())
+        }
+        Some(arms) => {
+            key.push(1)?;
+            key.push(class_of_set(classes, &arms.domain))?;
+            key.push(class_of_set(classes, &arms.codomain))?;
+            Ok(())
+        }
+    }
+}
+
+fn add_record(
+    key: &mut Vec<usize>,
+    classes: &[usize],
+    fields: &Option<FieldSets>,
+) -> Result<(), Memory>
+    ensures { OnOk result (key.new.items ≡ key.old.items ++ record_code (class_in classes.now) fields.now) }
+{
+    match fields {
+        None => {
+            key.push(0)?;
+            Ok(())
+        }
+        Some(fields) => {
+            key.push(1)?;
+            add_fields(key, classes, fields.as_slice())
+        }
+    }
+}
+
+fn add_fields(key: &mut Vec<usize>, classes: &[usize], fields: &[FieldSet]) -> Result<(), Memory>
+    ensures { OnOk result (key.new.items ≡ key.old.items ++ flat_map (field_code (class_in classes.now)) fields.now) }
+{
+    for field in fields {
+        add_field(key, classes, field)?;
+    }
+    Ok(())
+}
+
+fn add_field(key: &mut Vec<usize>, classes: &[usize], field: &FieldSet) -> Result<(), Memory>
+    ensures { OnOk result (key.new.items ≡ key.old.items ++ field_code (class_in classes.now) field.now) }
+{
+    add_label(key, &field.label)?;
+    key.push(class_of_set(classes, &field.set))?;
+    Ok(())
+}
+
+// The length of a label, and its bytes.
+fn add_label(key: &mut Vec<usize>, label: &Name) -> Result<(), Memory>
+    ensures { OnOk result (key.new.items ≡ key.old.items ++ length label.now ∷ label.now) }
+{
+    let bytes = label.bytes();
+    key.push(bytes.len())?;
+    for byte in bytes {
+        key.push(*byte as usize)?;
+    }
+    Ok(())
+}
+
+/// The class of a state.
+pub fn class_of(classes: &[usize], s: usize) -> usize
+    ensures { result ≡ class_in classes.now s }
+{
+    match classes.get(s) {
+        Some(class) => *class,
+        None => 0,
+    }
+}
+
+/// The class of the member of a set of one member.
+pub fn class_of_set(classes: &[usize], set: &StateSet) -> usize
+    ensures { result ≡ class_in classes.now (one_of set.now) }
+{
+    match set.as_slice().get(0) {
+        Some(s) => class_of(classes, *s),
+        None => class_of(classes, 0),
+    }
+}
