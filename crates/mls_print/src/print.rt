@@ -1,7 +1,7 @@
 //! A type scheme as the text of a type.
 ghost use Rattle.std.specs.Prelude.{◌≡◌, [], IfOk};
 ghost use Rattle.mls_automaton.specs.Schemes.{IsScheme};
-ghost use Rattle.mls_print.specs.Laws.{ReadsBack};
+ghost use Rattle.mls_print.specs.Laws.{ReadsBack, IsOneLine};
 ghost use Rattle.mls_print.specs.Printed.{IsPrinted};
 
 use crate::layout::layout_of;
@@ -14,7 +14,8 @@ use mls_automaton::scheme::Scheme;
 use mls_base::memory::Memory;
 use std::alloc::Global;
 
-/// The printed text of a scheme that needs no binder. It is read as an equivalent scheme.
+/// The printed text of a scheme that needs no binder. It is read as an equivalent scheme, and has no newline and no
+/// comment.
 ///
 /// # Errors
 ///
@@ -24,6 +25,7 @@ pub fn print_scheme(alloc: Global, s: &Scheme) -> Result<Vec<u8>, Memory>
     requires env { s.now.env ≡ [] }
     ensures text { IfOk result (λ text. IsPrinted s.now text.items) }
     ensures reads_back { IfOk result (λ text. ReadsBack s.now text.items) }
+    ensures one_line { IfOk result (λ text. IsOneLine text.items) }
 {
     let automaton = &s.automaton;
     read_labels(automaton);

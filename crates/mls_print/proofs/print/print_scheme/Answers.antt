@@ -3,6 +3,7 @@ use Rattle.mls_automaton.specs.declared.scheme.Scheme.{Scheme}
 use Rattle.mls_print.specs.steps.Progress.{IsLaidOut}
 use Rattle.mls_print.specs.steps.Writing.{HasStateBelow}
 use Rattle.mls_print.proofs.PrintedText.{plan, is_plan, laid_out_is_printed}
+use Rattle.mls_print.proofs.OneLines.{printed_is_one_line}
 use Rattle.mls_print.proofs.ReadsBack.{printed_reads_back}
 use Rattle.mls_print.proofs.print.print_scheme.Goals as goal
 
@@ -37,3 +38,11 @@ returns-clause-reads_back c =
     let small : c.in_ok-text.text.cap < 9223372036854775808 = c.in_ok-text.text.small in
     let short : length c.in_ok-text.text.items < 18446744073709551616 = omega arith in
     printed_reads_back c.args.s.now c.in_ok-text.text.items c.requires.scheme c.read_labels.ensures c.requires.env (returns-clause-text c) short
+
+pub returns-clause-one_line : goal.returns-clause-one_line
+returns-clause-one_line c =
+    let len : c.in_ok-text.text.len ≡ length c.in_ok-text.text.items = c.in_ok-text.text.ok.0 in
+    let room : c.in_ok-text.text.len ≤ c.in_ok-text.text.cap = c.in_ok-text.text.ok.1 in
+    let small : c.in_ok-text.text.cap < 9223372036854775808 = c.in_ok-text.text.small in
+    let short : length c.in_ok-text.text.items < 18446744073709551616 = omega arith in
+    printed_is_one_line c.args.s.now c.in_ok-text.text.items c.requires.scheme c.read_labels.ensures c.requires.env (returns-clause-text c) short
