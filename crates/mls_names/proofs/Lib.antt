@@ -1,7 +1,5 @@
 pub mod Bounds
-pub mod BuiltChains
 pub mod Counting
-pub mod LeastPlaces
 pub mod Meant
 pub mod Named
 pub mod NamesWithin

@@ -1,6 +1,6 @@
--- The places of names without a meaning, and of nodes that are not built, lie within the text.
+-- The places of names without a meaning, and of the nodes of terms, lie within the text.
 use Rattle.std.proofs.Common.{◌≡◌, ℕ, zero, suc, ◌<◌, ◌≤◌, Bool, true, false, if◌then◌else◌, List, [], ◌∷◌, ◌++◌, length, map, sym, subst, arith}
-use Rattle.std.specs.Prelude.{filter, not, slice_index_or}
+use Rattle.std.specs.Prelude.{slice_get, Some}
 use Rattle.mls_grammar.specs.declared.module.Module.{Module}
 use Rattle.mls_grammar.specs.declared.module.Import.{Import}
 use Rattle.mls_grammar.specs.declared.fault.Fault.{Fault}
@@ -11,7 +11,6 @@ use Rattle.mls_grammar.specs.Trees.{Tree, a_name, an_operator, a_number, a_truth
 use Rattle.mls_grammar.specs.Modules.{import_of, module_of, IsModuleText, IsModule}
 use Rattle.mls_term.specs.Terms.{TermTree, TermFields, postorder, field_postorder}
 use Rattle.mls_names.specs.Resolution.{Scope, Meant, binder, let_number, scheme, use_of, Means, MeanFields, AreTermsOf, Resolves, scope_after, is_known, names_of, unknowns, field_unknowns, unknown_names, HasUnknownName}
-use Rattle.mls_names.specs.Unbuilt.{is_built, unbuilt_among, unbuilt_of, IsLeastUnbuilt}
 use Rattle.mls_grammar.specs.Faults.{fault_place}
 use Rattle.mls_grammar.proofs.PlacesWithin.{TreeWithin, FieldsWithin, ImportsWithin, BindingsWithin}
 use Rattle.mls_grammar.proofs.FaultsWithin.{SourceWithin, text-within}
@@ -139,29 +138,23 @@ terms-within n declared earlier (b ∷ bs) rs h are =
       terms-within n declared (earlier ++ b.x ∷ []) bs are.1 h.2 are.4,
     )
 
-unbuilt-node : (n : ℕ) (b : Bool) (node : TermNode) (rest : List TermNode) → node.at ≤ n → AllWithin n (map (λ (node : TermNode). node.at) rest) → AllWithin n (map (λ (node : TermNode). node.at) (if b then node ∷ rest else rest))
-unbuilt-node n true node rest low h = (low, h)
-unbuilt-node n false node rest low h = h
+-- a node of a term, by the numbers of its binding and of the node
+one-within : (n : ℕ) (nodes : List TermNode) (i : ℕ) (node : TermNode) → NodesWithin n nodes → slice_get nodes i ≡ Some node → node.at ≤ n
+one-within n [] i node h e = absurd (cc)
+one-within n (first ∷ nodes) zero node h e = let same : first ≡ node = cc in subst (λ (node : TermNode). node.at ≤ n) same h.0
+one-within n (first ∷ nodes) (suc i) node h e = one-within n nodes i node h.1 e
 
-unbuilt-nodes : (n : ℕ) (nodes : List TermNode) → NodesWithin n nodes → AllWithin n (unbuilt_among nodes)
-unbuilt-nodes n [] h = tt
-unbuilt-nodes n (node ∷ nodes) h = unbuilt-node n (not (is_built node.form)) node (filter (λ node. not (is_built node.form)) nodes) h.0 (unbuilt-nodes n nodes h.1)
+term-within : (n : ℕ) (rs : List ResolvedBinding) (k : ℕ) (r : ResolvedBinding) → TermsWithin n rs → slice_get rs k ≡ Some r → NodesWithin n r.term.nodes
+term-within n [] k r h e = absurd (cc)
+term-within n (first ∷ rs) zero r h e = let same : first ≡ r = cc in subst (λ (r : ResolvedBinding). NodesWithin n r.term.nodes) same h.0
+term-within n (first ∷ rs) (suc k) r h e = term-within n rs k r h.1 e
 
-unbuilt-terms : (n : ℕ) (rs : List ResolvedBinding) → TermsWithin n rs → AllWithin n (unbuilt_of rs)
-unbuilt-terms n [] h = tt
-unbuilt-terms n (r ∷ rs) h = within-append n (unbuilt_among r.term.nodes) (unbuilt_of rs) (unbuilt-nodes n r.term.nodes h.0) (unbuilt-terms n rs h.1)
-
-one-within : (n : ℕ) (xs : List ℕ) (at : ℕ) → AllWithin n xs → (k : ℕ) → k < length xs → slice_index_or xs k at ≡ at → at ≤ n
-one-within n [] at h k low e = absurd (omega arith)
-one-within n (x ∷ xs) at h zero low e = subst (λ x. x ≤ n) e h.0
-one-within n (x ∷ xs) at h (suc k) low e = one-within n xs at h.1 k (omega arith) e
-
-pub unbuilt-within : (text : List ℕ) (m : Module) (declared : List (List (List ℕ))) (r : Resolved) (at : ℕ) → IsModuleText text m → Resolves m declared r → IsLeastUnbuilt r at → at ≤ length text
-unbuilt-within text m declared r at is resolves least =
+pub node-within : (text : List ℕ) (m : Module) (declared : List (List (List ℕ))) (r : Resolved) (k i : ℕ) (b : ResolvedBinding) (node : TermNode) → IsModuleText text m → Resolves m declared r
+    → slice_get r.bindings k ≡ Some b → slice_get b.term.nodes i ≡ Some node → node.at ≤ length text
+node-within text m declared r k i b node is resolves at at' =
     let n = length text in
     let all = module-within text m resolves.tree is resolves.nodes in
-    let c = least.there in
-    one-within n (unbuilt_of r.bindings) at (unbuilt-terms n r.bindings (terms-within n declared [] resolves.tree.bound r.bindings all.bound resolves.terms)) c.0 c.1 c.2
+    one-within n b.term.nodes i node (term-within n r.bindings k b (terms-within n declared [] resolves.tree.bound r.bindings all.bound resolves.terms) at) at'
 
 first-within : (n : ℕ) (trees : List ImportTree) (i : Import) (rest : List Import) → ImportsWithin n trees → map import_of trees ≡ i ∷ rest → i.at ≤ n
 first-within n [] i rest h e = absurd (cc)

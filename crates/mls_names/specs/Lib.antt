@@ -1,4 +1,3 @@
 pub mod Resolution
-pub mod Unbuilt
 pub mod ResolutionLaws
 pub mod steps

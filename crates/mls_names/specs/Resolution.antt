@@ -1,5 +1,5 @@
 -- What the names of a module mean.
-use Rattle.std.specs.Prelude.{◌≡◌, ℕ, suc, ◌+◌, ◌<◌, List, [], ◌∷◌, ◌++◌, map, length, sum_by, find, bytes_eq}
+use Rattle.std.specs.Prelude.{◌≡◌, ℕ, suc, ◌+◌, List, [], ◌∷◌, ◌++◌, map, length, sum_by, find, bytes_eq}
 use Rattle.std.specs.Prelude.{if◌then◌else◌, Bool, Option, Some, option_map}
 use Rattle.std.specs.List.{list_any}
 use Rattle.mls_grammar.specs.declared.module.Module.{Module}
@@ -208,18 +208,3 @@ pub record HasUnknownName (m : Module) (declared : List (List (List ℕ))) (faul
   pub later : List ℕ
   pub first : unknown_names declared [] tree.bound ≡ place ∷ later
   pub fault_is : fault ≡ UnknownName place
-
--- functions around a use of a binder, a number or a truth value; the functions bind the numbers from b on, from outside
--- in
-abbrev pub IsChain : ℕ → TermTree → Type 0
-IsChain b (fun at x e) = (x ≡ b) × IsChain (suc b) e
-IsChain b (bound at x) = x < b
-IsChain b (number at value) = Unit {0}
-IsChain b (truth at value) = Unit {0}
-IsChain b _ = ⊥
-
--- so far every term is a chain of functions
-pub record HasChain (r : ResolvedBinding) : Type 0 where
-  pub term_tree : TermTree
-  pub chain : IsChain 0 term_tree
-  pub nodes : r.term.nodes ≡ postorder 0 term_tree

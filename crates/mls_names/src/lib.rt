@@ -5,4 +5,3 @@ mod counts;
 pub mod resolution_laws;
 pub mod resolve;
 mod resolver;
-pub mod unbuilt;

@@ -12,5 +12,4 @@ pub use Rattle.mls_grammar.specs.Faults
 pub use Rattle.mls_grammar.specs.Laws
 pub use Rattle.mls_grammar.specs.GrammarLaws
 pub use Rattle.mls_names.specs.Resolution
-pub use Rattle.mls_names.specs.Unbuilt
 pub use Rattle.mls_names.specs.ResolutionLaws

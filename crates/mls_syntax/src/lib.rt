@@ -2,7 +2,7 @@
 #![tactic(auto)]
 
 pub use mls_grammar::{grammar_laws, laws, module};
-pub use mls_names::{resolution_laws, resolve, unbuilt};
+pub use mls_names::{resolution_laws, resolve};
 pub use mls_reader::parse;
 pub use mls_term::{term, typing_laws};
 
@@ -11,7 +11,6 @@ mod tests {
     use crate::parse::{Fault, parse_module};
     use crate::resolve::resolve;
     use crate::term::Term;
-    use crate::unbuilt::first_unbuilt;
     use std::alloc::Global;
     use std::test::Fail;
 
@@ -146,25 +145,6 @@ mod tests {
                 Err(fault) => assert_eq!(rt; fault, Fault::UnknownName(place)),
             }
         }
-        Ok(())
-    }
-
-    // The least place of a node of a text whose form is not built.
-    fn unbuilt_of(alloc: Global, text: &[u8]) -> Result<Option<usize>, Fault> {
-        let module = parse_module(alloc, text)?;
-        if let Some(import) = module.imports.as_slice().first() {
-            return Err(Fault::NotBuilt(import.at));
-        }
-        let resolved = resolve(alloc, &module, &[])?;
-        Ok(first_unbuilt(&resolved))
-    }
-
-    #[test]
-    fn tells_the_least_place(rt: HostRuntime) -> Result<(), Fail> {
-        let built = b"let k = fun x -> fun y -> x let t = true let n = 7";
-        assert_eq!(rt; unbuilt_of(rt.alloc(), built)?, None);
-        let other = b"let f = fun x -> (x + 1) (x x)";
-        assert_eq!(rt; unbuilt_of(rt.alloc(), other)?, Some(17));
         Ok(())
     }
 }
