@@ -36,15 +36,15 @@ module _ (known : Known) where
   schemes_of [] all = []
   schemes_of (part ∷ parts) all = all.0.scheme ∷ schemes_of parts all.1
 
-  all_states : (parts : List (ℕ × TermTree)) (all : AllInferred known parts) → AllHaveStates (automata_of parts all)
+  pub all_states : (parts : List (ℕ × TermTree)) (all : AllInferred known parts) → AllHaveStates (automata_of parts all)
   all_states [] all = tt
   all_states (part ∷ parts) all = (all.0.states, all_states parts all.1)
 
-  all_read : (parts : List (ℕ × TermTree)) (all : AllInferred known parts) → AllReadAs (automata_of parts all) (schemes_of parts all)
+  pub all_read : (parts : List (ℕ × TermTree)) (all : AllInferred known parts) → AllReadAs (automata_of parts all) (schemes_of parts all)
   all_read [] all = tt
   all_read (part ∷ parts) all = (all.0.read, all_read parts all.1)
 
-  all_infer : (parts : List (ℕ × TermTree)) (all : AllInferred known parts) → AllInfer known parts (schemes_of parts all)
+  pub all_infer : (parts : List (ℕ × TermTree)) (all : AllInferred known parts) → AllInfer known parts (schemes_of parts all)
   all_infer [] all = no_part refl refl
   all_infer (part ∷ parts) all = a_part part.0 part.1 parts all.0.scheme (schemes_of parts all.1) refl refl all.0.infers (all_infer parts all.1)
 
@@ -56,7 +56,7 @@ module _ (known : Known) where
     abbrev schemes : List book.Scheme
     schemes = schemes_of (early_parts n t) all
 
-    pub inferred_step : (s : Scheme) (u : book.Scheme) → IsSolution c s → IsReadAs s u → Inferred known n t
+    abbrev pub inferred_step : (s : Scheme) (u : book.Scheme) → IsSolution c s → IsReadAs s u → Inferred known n t
     inferred_step s u solution read = record {
       automaton = s;
       scheme = u;
@@ -85,7 +85,7 @@ module _ (known : Known) where
 
   -- a let, whose second part was inferred with the scheme of the first
   module _ (n at k : ℕ) (e e' : TermTree) (first : Inferred known n e) where
-    pub inferred_let : (second : Inferred (with_let known k first.scheme) (n + suc (before e)) e') (s : Scheme) (u : book.Scheme) → IsSolution (let_constraint first.automaton second.automaton) s → IsReadAs s u → Inferred known n (local at k e e')
+    abbrev pub inferred_let : (second : Inferred (with_let known k first.scheme) (n + suc (before e)) e') (s : Scheme) (u : book.Scheme) → IsSolution (let_constraint first.automaton second.automaton) s → IsReadAs s u → Inferred known n (local at k e e')
     inferred_let second s u solution read = record {
       automaton = s;
       scheme = u;

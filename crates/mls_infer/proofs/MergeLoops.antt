@@ -1,7 +1,7 @@
 -- The entries of one binder are a piece of the sorted ones, and give way to one entry.
 --     half_merges          one entry for those of one binder, by halves
 --     merged_to-next, merged_to-end     group after group
-use Rattle.std.proofs.Common.{◌≡◌, ◌≢◌, ◌⊎◌, inl, inr, ℕ, zero, suc, ◌<◌, ◌≤◌, ◌+◌, ◌-◌, List, [], ◌∷◌, ◌++◌, length, get_or, take, drop, refl, sym, ap, ◌∙◌, subst, arith, Contains, All}
+use Rattle.std.proofs.Common.{◌≡◌, ◌≢◌, ◌⊎◌, inl, inr, ℕ, suc, ◌<◌, ◌≤◌, ◌+◌, ◌-◌, List, [], ◌∷◌, ◌++◌, length, get_or, take, drop, refl, sym, ap, ◌∙◌, subst, arith, Contains, All}
 use Rattle.std.proofs.lemmas.List.{take-append-drop, take_all, length-append, length-drop, get_or_append_left, get_or_default}
 use Rattle.std.proofs.Math.Seq.{get_or-append_seam, take-add}
 use Rattle.mls_book.proofs.LongerBooks.{below_or_more}
@@ -12,8 +12,7 @@ use Rattle.mls_automaton.specs.declared.state_set.StateId.{StateId}
 use Rattle.mls_automaton.specs.declared.scheme.EnvEntry.{EnvEntry}
 use Rattle.mls_automaton.specs.Automata.{Automaton, IsState}
 use Rattle.mls_automaton.specs.Models.{IsClosed}
-use Rattle.mls_automaton.proofs.Lists.{All-contained, Contains-here, Contains-later, Contains-cases}
-use Rattle.mls_infer.specs.Constraints.{id}
+use Rattle.mls_automaton.proofs.Lists.{All-contained, Contains-here, Contains-cases}
 use Rattle.mls_infer.specs.Merges.{AreNegative, BindersAscend, HasSameMembers, IsGroup, IsMergedTo, IsMet, Merges}
 use Rattle.mls_infer.proofs.ConstraintRows.{nothing_in}
 use Rattle.mls_infer.proofs.Merges.{merges_append, merges_members, merges_met, merges_refl, merges_trans}

@@ -77,7 +77,7 @@ pub states_one : (x : ℕ) (env : List EnvEntry) (o : Option StateId) → Binder
 states_one x env o rise is = listed_numbers o ∙ (ap numbers is ∙ sym (one_found x env rise))
 
 -- each entry is the one that is found
-rising_found : (env : List EnvEntry) → BindersRise env → EachFound env
+pub rising_found : (env : List EnvEntry) → BindersRise env → EachFound env
 rising_found [] rise entry inside = absurd (nothing_in entry inside)
 rising_found (e ∷ rest) rise entry inside = by_case (Contains-cases e rest entry inside) (rising_found rest (later_rise e rest rise) entry)
   where

@@ -2,17 +2,17 @@
 --     goal_in, pair_in     goals as pairs of states, and as the program keeps them
 --     between_pairs, goals_later
 --     merged_scheme
-use Rattle.std.proofs.Common.{◌≡◌, ℕ, List, map, subst, Contains, All, Some}
+use Rattle.std.proofs.Common.{◌≡◌, ℕ, List, map, subst, Contains, All}
 use Rattle.mls_automaton.specs.declared.automaton.Polarity.TheVariants.{Positive, Negative}
 use Rattle.mls_automaton.specs.declared.state_set.StateId.{StateId}
 use Rattle.mls_automaton.specs.declared.scheme.EnvEntry.{EnvEntry}
 use Rattle.mls_automaton.specs.Automata.{Automaton, IsState}
-use Rattle.mls_automaton.specs.Schemes.{IsScheme, state_of}
+use Rattle.mls_automaton.specs.Schemes.{IsScheme}
 use Rattle.mls_automaton.proofs.Lists.{All-contained, Contains-map}
 use Rattle.std.proofs.lemmas.List.Elements.{All-contains}
 use Rattle.mls_biunify.specs.declared.goal.Goal.{Goal}
 use Rattle.mls_biunify.specs.Relations.{IsGoal, IsGoalOf}
-use Rattle.mls_infer.specs.Merges.{AreBetween, AreNegative, Merges}
+use Rattle.mls_infer.specs.Merges.{AreBetween, Merges}
 use Rattle.mls_infer.specs.Posed.{goal_pair}
 use Rattle.mls_infer.proofs.Grown.{Contains-mapped}
 use Rattle.mls_infer.proofs.Models.{found_entry}

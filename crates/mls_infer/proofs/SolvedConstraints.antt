@@ -4,29 +4,25 @@
 --     solvable_scheme, answer_none         and what solving answers over these
 --     counts                               positive and negative states are all
 --     solution_kept                        an equivalent scheme is a solution too
-use Rattle.std.proofs.Common.{◌≡◌, ◌↔◌, ℕ, suc, ◌+◌, ◌==◌, Bool, true, ◌&&◌, false, List, [], ◌∷◌, length, map, refl, subst, arith, Contains, All}
+use Rattle.std.proofs.Common.{◌≡◌, ℕ, suc, ◌+◌, ◌==◌, Bool, true, ◌&&◌, false, List, [], ◌∷◌, length, refl, subst, arith, Contains, All}
 use Rattle.std.specs.Prelude.{cond, count_by}
 use Rattle.std.proofs.lemmas.List.Sums.{sum_by-cons}
 use Rattle.std.specs.List.{list_any}
 use Rattle.std.proofs.lemmas.Bool.{eqb-true}
 use Rattle.std.proofs.lemmas.Bool.Decides.{nat_tests}
-use Rattle.mls_book.specs.Predicates.{Predicate}
-use Rattle.mls_book.specs.Schemes as book
 use Rattle.mls_automaton.specs.declared.automaton.Polarity.TheVariants.{Positive, Negative}
 use Rattle.mls_automaton.specs.declared.automaton.Polarity.{Polarity}
 use Rattle.mls_automaton.specs.declared.automaton.Head.{Head}
 use Rattle.mls_automaton.specs.declared.automaton.State.{State}
-use Rattle.mls_automaton.specs.declared.scheme.EnvEntry.{EnvEntry}
 use Rattle.mls_automaton.specs.declared.scheme.Scheme.{Scheme}
 use Rattle.mls_automaton.specs.Automata.{Automaton}
 use Rattle.mls_automaton.specs.Environments.{BindersRise}
-use Rattle.mls_automaton.specs.Schemes.{IsScheme, IsSchemeOf, AreEquivalentSchemes}
+use Rattle.mls_automaton.specs.Schemes.{IsScheme, AreEquivalentSchemes}
 use Rattle.mls_automaton.proofs.BooksExist.{scheme_exists}
 use Rattle.mls_automaton.proofs.Instances.{AreGoals}
 use Rattle.mls_automaton.proofs.Lists.{any_found, found_any}
 use Rattle.mls_automaton.proofs.Reaching.{entry-found}
 use Rattle.mls_biunify.specs.declared.goal.Clash.{Clash}
-use Rattle.mls_biunify.specs.declared.goal.Goal.{Goal}
 use Rattle.mls_biunify.specs.Clashes.{HasNoClash, IsClashOf}
 use Rattle.mls_biunify.specs.Relations.{IsGoal, IsGoalOf, IsRelated, IsTable, goal, domain, codomain, field, along}
 use Rattle.mls_biunify.specs.Rooms.{Room, HoldsJust, is_negative, is_positive}
@@ -39,7 +35,6 @@ use Rattle.mls_biunify.proofs.SourceLists.{sources_from_table}
 use Rattle.mls_infer.specs.declared.merge.Solvable.{Solvable}
 use Rattle.mls_infer.specs.Constraints.{Constraint, HasStates}
 use Rattle.mls_infer.specs.Merges.{HaveSameTypes, solvable_constraint}
-use Rattle.mls_infer.specs.Posed.{goal_pair}
 use Rattle.mls_infer.specs.declared.solve.NoSolution.{NoSolution}
 use Rattle.mls_infer.specs.declared.solve.NoSolution.TheVariants as none
 use Rattle.mls_infer.specs.Solved.{ClashesFirst, IsClashWithout, IsSolvedFor}

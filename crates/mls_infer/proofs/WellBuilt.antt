@@ -9,11 +9,9 @@ use Rattle.mls_automaton.specs.declared.automaton.Head.{Head}
 use Rattle.mls_automaton.specs.Automata.{IsState}
 use Rattle.mls_automaton.specs.Models.{HasArmsIn, HasFieldsIn, HasRisingLabels}
 use Rattle.mls_automaton.proofs.Lists.{All-contained, Contains-map}
-use Rattle.mls_automaton.specs.declared.scheme.Scheme.{Scheme}
 use Rattle.mls_infer.specs.declared.constraints.Constraints.{Constraints}
-use Rattle.mls_infer.specs.Constraints.{Constraint, HasStates, literal_constraint, no_goals}
+use Rattle.mls_infer.specs.Constraints.{Constraint, HasStates, literal_constraint}
 use Rattle.mls_infer.specs.Posed.{constraint_of, goal_pair, IsGoalOf}
-use Rattle.mls_infer.proofs.ConstraintRows.{nothing_in}
 use Rattle.mls_infer.proofs.ClosedConstraints.{IsWellFormed, literal_closed}
 
 well_formed : (c : Constraints) (d : Constraint) → constraint_of c ≡ d → IsWellFormed d → IsWellFormed (constraint_of c)
@@ -36,6 +34,3 @@ plain_closed h no_function no_fields =
       fields = subst (λ (o : Option (List FieldSet)). HasFieldsIn (IsState a) Positive o) (sym no_fields) tt;
     })
     (subst (λ (o : Option (List FieldSet)). HasRisingLabels o) (sym no_fields) tt)
-
-pub copy_closed : (s : Scheme) → HasStates s → IsWellFormed (no_goals s)
-copy_closed s is = record { states = is; goals = λ p n inside. absurd (nothing_in (p, n) inside) }

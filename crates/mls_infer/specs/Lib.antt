@@ -1,4 +1,7 @@
 pub mod Constraints
+pub mod Finished
+pub mod Finishing
+pub mod Inference
 pub mod Joining
 pub mod Merges
 pub mod Posed

@@ -14,8 +14,8 @@ use Rattle.mls_biunify.specs.Relations.{IsGoal, IsRelated}
 use Rattle.mls_biunify.specs.Rooms.{Room, HoldsJust}
 use Rattle.mls_biunify.specs.Solved.{IsSolved}
 use Rattle.mls_infer.specs.declared.merge.Solvable.{Solvable}
-use Rattle.mls_infer.specs.declared.solve.Mismatch.{Mismatch}
-use Rattle.mls_infer.specs.declared.solve.Mismatch.TheVariants as told
+use Rattle.mls_infer.specs.declared.fault.SiteKind.{SiteKind}
+use Rattle.mls_infer.specs.declared.fault.SiteKind.TheVariants as told
 use Rattle.mls_infer.specs.declared.solve.NoSolution.{NoSolution}
 use Rattle.mls_infer.specs.declared.solve.NoSolution.TheVariants as none
 use Rattle.mls_infer.specs.Constraints.{Constraint}
@@ -28,12 +28,12 @@ HasField None i = ⊥
 HasField (Some fields) i = (field : FieldSet) × (slice_get fields i ≡ Some field)
 
 -- it tells the kind of a clash, with the label of the field that is lacking; the head is that of the negative state
-abbrev pub TellsKind : Head → ClashKind → Mismatch → Type 0
+abbrev pub TellsKind : Head → ClashKind → SiteKind → Type 0
 TellsKind h (kind.Unlike first second) m = m ≡ told.Unlike first second
 TellsKind h (kind.Lacks i) m = m ≡ told.Lacks (label_of h.fields i)
 
 -- it tells the kind of the first clash of the closed relation
-pub record IsFirstMismatch (a : Automaton) (goals : List Goal) (m : Mismatch) : Type 0 where
+pub record IsFirstKind (a : Automaton) (goals : List Goal) (m : SiteKind) : Type 0 where
   pub clash : Clash
   pub first : IsFirstClash a (IsRelated a (IsGoal goals)) clash
   pub tells : TellsKind (head_at a clash.negative.0) clash.kind m
@@ -48,7 +48,7 @@ pub record IsSolvedFor (a : Automaton) (goals : List Goal) (solved : Automaton) 
 
 -- a clash is the first one
 abbrev pub ClashesFirst : Automaton → List Goal → NoSolution → Type 0
-ClashesFirst a goals (none.Clash m) = IsFirstMismatch a goals m
+ClashesFirst a goals (none.Clash m) = IsFirstKind a goals m
 ClashesFirst a goals none.Memory = Unit {0}
 
 -- where there is a clash, there are no types
@@ -58,5 +58,5 @@ IsClashWithout c none.Memory = Unit {0}
 
 -- A clash is the first one of a constraint with the same types, in which each binder has one state.
 abbrev pub TellsFirstClash : Constraint → NoSolution → Type 0
-TellsFirstClash c (none.Clash m) = (s : Solvable) × IsScheme s.scheme × HaveSameTypes c (solvable_constraint s) × IsFirstMismatch s.scheme.automaton s.goals m
+TellsFirstClash c (none.Clash m) = (s : Solvable) × IsScheme s.scheme × HaveSameTypes c (solvable_constraint s) × IsFirstKind s.scheme.automaton s.goals m
 TellsFirstClash c none.Memory = Unit {0}

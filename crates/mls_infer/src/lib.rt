@@ -2,8 +2,15 @@
 #![tactic(auto)]
 
 pub mod constraints;
+pub mod fault;
+mod finished;
+mod firsts;
+pub mod infer;
 mod merge;
+pub mod node;
 mod rows;
 pub mod solve;
 #[cfg(test)]
 mod tests;
+#[cfg(test)]
+mod tests_of_terms;

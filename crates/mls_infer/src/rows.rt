@@ -10,7 +10,7 @@ ghost use Rattle.mls_automaton.specs.Environments.{BindersRise};
 ghost use Rattle.mls_automaton.specs.Schemes.{IsScheme, state_of};
 ghost use Rattle.mls_automaton.specs.declared.state_set.StateId.{StateId};
 ghost use Rattle.mls_infer.specs.Constraints.{HasStates, bool_head, int_head, function_head, joined, record_head};
-ghost use Rattle.mls_infer.specs.Constraints.{no_goals, size, states_of, without};
+ghost use Rattle.mls_infer.specs.Constraints.{size, states_of, without};
 ghost use Rattle.mls_infer.specs.Constraints.{bound_constraint, literal_constraint, fun_constraint, fix_constraint};
 ghost use Rattle.mls_infer.specs.Constraints.{apply_constraint, project_constraint, choice_constraint, let_constraint};
 ghost use Rattle.mls_automaton.specs.Automata.{HasTrueFlows};
@@ -256,23 +256,6 @@ pub(crate) fn let_in(alloc: Global, bound: Scheme, body: &Scheme) -> Result<Cons
         automaton: both.automaton,
         env: both.env,
         root,
-        goals: List::new(alloc),
-    })
-}
-
-/// Of a known name: a copy of its scheme.
-pub(crate) fn known(alloc: Global, scheme: &Scheme) -> Result<Constraints, Memory>
-    requires { IsScheme scheme.now }
-    ensures constraint { IfOk result (λ c. constraint_of c ≡ no_goals scheme.now) }
-    ensures states { IfOk result (λ c. HasStates (constraint_of c).scheme) }
-    ensures goals { IfOk result (λ c. All (IsGoalOf c.automaton) c.goals) }
-{
-    let automaton = scheme.automaton.copy()?;
-    let env = entries_of(alloc, &scheme.env)?;
-    Ok(Constraints {
-        automaton,
-        env,
-        root: scheme.root,
         goals: List::new(alloc),
     })
 }

@@ -1,5 +1,6 @@
 //! Constraints are solved: the scheme with their types, or why there is none.
-ghost use Rattle.std.specs.Prelude.{◌≡◌, ◌+◌, All, IfErr, IfOk, OnOk, count_by};
+ghost use Rattle.std.specs.Prelude.{◌≡◌, ◌≤◌, All, IfErr, IfOk, OnOk, count_by};
+ghost use Rattle.mls_automaton.specs.declared.scheme.Scheme.{Scheme};
 ghost use Rattle.mls_automaton.specs.Automata.{head_at};
 ghost use Rattle.mls_automaton.specs.Environments.{BindersRise};
 ghost use Rattle.mls_automaton.specs.Models.{IsClosed};
@@ -13,32 +14,24 @@ ghost use Rattle.mls_infer.specs.Solved.{ClashesFirst, HasField, IsClashWithout,
 ghost use Rattle.mls_infer.specs.Steps.{IsSolution};
 
 use crate::constraints::Constraints;
+use crate::fault::SiteKind;
 use crate::merge::{Solvable, merge};
 use mls_automaton::automaton::{Automaton, Head, Polarity};
 use mls_automaton::scheme::{Env, Scheme};
 use mls_automaton::state_set::StateId;
 use mls_base::memory::Memory;
-use mls_biunify::goal::{Clash, ClashKind, Goal, HeadKind};
+use mls_biunify::goal::{Clash, ClashKind, Goal};
 use mls_biunify::materialise::materialise;
 use mls_biunify::room::Room;
 use mls_biunify::saturate::saturate;
 use mls_book::name::Name;
 use std::alloc::Global;
 
-/// Why no type is below the one type and above the other.
-#[derive(Debug, Drop)]
-pub enum Mismatch {
-    /// There is the one part where the other is wanted.
-    Unlike(HeadKind, HeadKind),
-    /// There is a record without the field of this label.
-    Lacks(Name),
-}
-
 /// Why constraints have no solution.
 #[derive(Debug, Drop)]
 pub enum NoSolution {
     /// Two types clash.
-    Clash(Mismatch),
+    Clash(SiteKind),
     /// Memory was wanting.
     Memory,
 }
@@ -54,7 +47,7 @@ impl From<Memory> for NoSolution {
 }
 
 /// The scheme that has just the types of the constraints, over the states alone that are reached. The room serves many
-/// calls; where the automaton does not fit, a new one takes its place, with space for twice as many states.
+/// calls; where the automaton does not fit, a new one takes its place, with space for a quarter more states.
 ///
 /// # Errors
 ///
@@ -64,6 +57,7 @@ pub fn solve(alloc: Global, room: &mut Room, c: Constraints) -> Result<Scheme, N
     requires goals { All (IsGoalOf c.automaton) c.goals }
     ensures solution { IfOk result (IsSolution (constraint_of c)) }
     ensures scheme { IfOk result IsScheme }
+    ensures rise { IfOk result (λ (s : Scheme). BindersRise s.env) }
     ensures none { IfErr result (IsClashWithout (constraint_of c)) }
     ensures first { IfErr result (TellsFirstClash (constraint_of c)) }
 {
@@ -121,22 +115,22 @@ fn make_room(alloc: Global, room: &mut Room, a: &Automaton) -> Result<(), Memory
     Ok(())
 }
 
-// A room for twice as many states.
+// A room with space for more states.
 fn new_room(alloc: Global, a: &Automaton) -> Result<Room, Memory>
     ensures { IfOk result (Fits a.now) }
 {
     let positives = positives(a);
     let negatives = a.len() - positives;
-    let rows = twice(positives)?;
-    let columns = twice(negatives)?;
+    let rows = with_spare(positives)?;
+    let columns = with_spare(negatives)?;
     let room = Room::new(alloc, rows, columns)?;
     Ok(room)
 }
 
-fn twice(count: usize) -> Result<usize, Memory>
-    ensures { IfOk result (λ both. both ≡ count + count) }
+fn with_spare(count: usize) -> Result<usize, Memory>
+    ensures { IfOk result (λ size. count ≤ size) }
 {
-    count.checked_add(count).ok_or(Memory)
+    count.checked_add(count / 4 + 8).ok_or(Memory)
 }
 
 // How many positive states there are.
@@ -154,15 +148,15 @@ fn positives(a: &Automaton) -> usize
 }
 
 // The clash, without states.
-fn told(a: &Automaton, clash: Clash) -> Result<Mismatch, Memory>
+fn told(a: &Automaton, clash: Clash) -> Result<SiteKind, Memory>
     requires { Clashes (head_at a.now clash.positive.0) (head_at a.now clash.negative.0) clash.kind }
     ensures { IfOk result (TellsKind (head_at a.now clash.negative.0) clash.kind) }
 {
     match clash.kind {
-        ClashKind::Unlike(first, second) => Ok(Mismatch::Unlike(first, second)),
+        ClashKind::Unlike(first, second) => Ok(SiteKind::Unlike(first, second)),
         ClashKind::Lacks(i) => {
             let label = label_at(a.head(clash.negative), i)?;
-            Ok(Mismatch::Lacks(label))
+            Ok(SiteKind::Lacks(label))
         }
     }
 }

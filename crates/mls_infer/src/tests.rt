@@ -4,8 +4,7 @@ ghost use Rattle.mls_automaton.specs.Schemes.{IsScheme};
 
 use crate::constraints::Constraints;
 use crate::rows::{
-    application, bound, conditional, function, known, let_in, number, projection, record,
-    recursion, truth,
+    application, bound, conditional, function, let_in, number, projection, record, recursion, truth,
 };
 use mls_automaton::scheme::Scheme;
 use mls_base::list::List;
@@ -66,7 +65,6 @@ fn forms_of_one_part_have_their_constraints(rt: HostRuntime) -> Result<(), Fail>
     assert!(rt; has_shape(&bound(alloc, 0)?, [2, 1, 1, 1, 0]));
     assert!(rt; has_shape(&number(alloc)?, [1, 0, 0, 0, 0]));
     assert!(rt; has_shape(&truth(alloc)?, [1, 0, 0, 0, 0]));
-    assert!(rt; has_shape(&known(alloc, &used(alloc, 0)?)?, [2, 1, 1, 1, 0]));
     assert!(rt; has_shape(&function(alloc, 0, used(alloc, 0)?)?, [3, 1, 0, 2, 0]));
     assert!(rt; has_shape(&recursion(alloc, 0, used(alloc, 0)?)?, [2, 1, 0, 1, 1]));
     assert!(rt; has_shape(&projection(alloc, name, used(alloc, 0)?)?, [5, 2, 1, 3, 1]));

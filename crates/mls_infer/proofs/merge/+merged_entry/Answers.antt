@@ -1,4 +1,4 @@
-use Rattle.std.proofs.Common.{rules, ◌≡◌, ◌/◌, [], ◌-◌, ◌<◌, ℕ, take, drop, length, get_or, All}
+use Rattle.std.proofs.Common.{rules, ◌≡◌, ◌/◌, [], ◌-◌, ℕ, take, drop, length, All}
 use Rattle.mls_automaton.specs.declared.automaton.Polarity.TheVariants.{Negative}
 use Rattle.mls_automaton.specs.declared.scheme.EnvEntry.{EnvEntry}
 use Rattle.mls_infer.specs.Merges.{AreNegative}

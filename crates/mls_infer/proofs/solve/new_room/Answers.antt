@@ -10,8 +10,8 @@ returns c =
     let all : count_by is_positive states + count_by is_negative states ≡ length states = counts states in
     let positive : c.positives-positives.result ≡ count_by is_positive states = c.positives-positives.ensures in
     let size : c.len.result ≡ length states = c.len.ensures.len in
-    let rows : c.in_ok-rows.rows ≡ c.positives-positives.result + c.positives-positives.result = c.in_ok-rows.ensures in
-    let columns : c.in_ok-columns.columns ≡ (c.len.result - c.positives-positives.result) + (c.len.result - c.positives-positives.result) = c.in_ok-columns.ensures in
+    let rows : c.positives-positives.result ≤ c.in_ok-rows.rows = c.in_ok-rows.ensures in
+    let columns : c.len.result - c.positives-positives.result ≤ c.in_ok-columns.columns = c.in_ok-columns.ensures in
     let has_rows : c.in_ok-room.room.positives ≡ c.in_ok-rows.rows = c.in_ok-room.ensures.positives in
     let has_columns : c.in_ok-room.room.negatives ≡ c.in_ok-columns.columns = c.in_ok-room.ensures.negatives in
     record { positives = omega arith; negatives = omega arith }

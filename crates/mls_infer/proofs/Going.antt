@@ -1,0 +1,199 @@
+-- The loop over the nodes goes on to the root of each expression: whatever schemes its steps answer, the expression is inferred then, or
+-- inference stopped at one of its nodes.
+--     Done, Ready            what stands where the loop has come to
+--     node_goes              over the node of an expression that is no let and no known name
+--     let_goes, inner_goes, global_goes
+use Rattle.std.proofs.Common.{◌≡◌, ◌≢◌, ℕ, suc, ◌+◌, ◌<◌, ◌≤◌, false, List, [], ◌∷◌, length, map, All, Contains, refl, sym, ◌∙◌, subst, arith, Some, slice_get}
+use Rattle.std.specs.List.{AllPairs}
+use Rattle.std.proofs.lemmas.List.Elements.{All-cons}
+use Rattle.std.proofs.lemmas.List.Kept.{AllPairs-cons}
+use Rattle.mls_book.specs.Schemes as book
+use Rattle.mls_automaton.specs.declared.scheme.Scheme.{Scheme}
+use Rattle.mls_automaton.specs.Environments.{BindersRise}
+use Rattle.mls_automaton.specs.Schemes.{IsScheme}
+use Rattle.mls_automaton.proofs.BooksExist.{scheme_exists}
+use Rattle.mls_term.specs.declared.term.TermForm.{TermForm}
+use Rattle.mls_term.specs.declared.term.TermForm.TheVariants as form
+use Rattle.mls_term.specs.declared.term.TermNode.{TermNode}
+use Rattle.mls_term.specs.Terms.{TermTree, before}
+use Rattle.mls_term.specs.Derivations.{Known}
+use Rattle.mls_term.specs.WellFormed.{early_parts}
+use Rattle.mls_typing.specs.Runs.{is_let, none, Infers}
+use Rattle.mls_typing.proofs.Inference.{AreInTurn, parts_in_turn, in_turn_le}
+use Rattle.mls_infer.specs.declared.fault.SiteKind.{SiteKind}
+use Rattle.mls_infer.specs.declared.solve.NoSolution.TheVariants as clash
+use Rattle.mls_infer.specs.Constraints.{Constraint}
+use Rattle.mls_infer.specs.Solved.{TellsFirstClash}
+use Rattle.mls_infer.specs.Steps.{IsReadAs, IsSolution, IsConstraintOf}
+use Rattle.mls_infer.specs.Finished.{Finished, Has, HasEach}
+use Rattle.mls_infer.specs.Finishing.{children, IsBuilt, IsPosed, Scope, HasConstraint, HasParts, CanStep, is_copied, is_read, IsAnswer, is_named, is_solved, IsStep, IsStop, GoesOn}
+use Rattle.mls_infer.proofs.Inferred.{Inferred, AllInferred, automata_of, inferred_step, inferred_none}
+use Rattle.mls_infer.proofs.OneState.{rising_found}
+use Rattle.mls_infer.proofs.Reading.{read_as}
+
+-- each automaton with rising binders is read as a scheme
+pub read_scheme : (s : Scheme) → IsScheme s → BindersRise s.env → (u : book.Scheme) × IsReadAs s u
+read_scheme s is rise = let it = scheme_exists s is in (it.0, read_as s is (rising_found s.env rise) it.0 it.1)
+
+-- at a node of the term, this is the kind of the first clash of its constraint over automata of its parts
+pub record IsKindAt (i : ℕ) (m : SiteKind) : Type 0 where
+  pub known : Known
+  pub n : ℕ
+  pub t : TermTree
+  pub number_is : i ≡ n + before t
+  pub all : AllInferred known (early_parts n t)
+  pub constraint : Constraint
+  pub is : IsConstraintOf known t (automata_of known (early_parts n t) all) constraint
+  pub first : TellsFirstClash constraint (clash.Clash m)
+
+-- a finished part, whose automaton is there
+pub record Done (known : Known) (n : ℕ) (t : TermTree) (done : Finished) : Type 0 where
+  pub part : Inferred known n t
+  pub is : IsScheme part.automaton
+  pub there : Has done (n + before t) part.automaton
+
+abbrev pub AllDone : Known → List (ℕ × TermTree) → Finished → Type 0
+AllDone known [] done = Unit {0}
+AllDone known (part ∷ parts) done = Done known part.0 part.1 done × AllDone known parts done
+
+-- the first n are the same
+abbrev pub Agree : ℕ → Finished → Finished → Type 0
+Agree n old new = (j : ℕ) → j < n → slice_get new j ≡ slice_get old j
+
+pub agree_trans : (n m : ℕ) (a b c : Finished) → n ≤ m → Agree n a b → Agree m b c → Agree n a c
+agree_trans n m a b c le first second j low = second j (omega arith) ∙ first j low
+
+pub agree_self : (n : ℕ) (a : Finished) → Agree n a a
+agree_self n a j low = refl
+
+abbrev pub done_later : (known : Known) (n m : ℕ) (t : TermTree) (old new : Finished) → n + before t < m → Agree m old new → Done known n t old → Done known n t new
+done_later known n m t old new low agree it = record { part = it.part; is = it.is; there = agree (n + before t) low ∙ it.there }
+
+abbrev pub root_of : ℕ × TermTree → ℕ
+root_of part = part.0 + before part.1
+
+abbrev pub roots : List (ℕ × TermTree) → List ℕ
+roots parts = map root_of parts
+
+-- the roots of parts that stand in turn rise
+pub roots_between : (c a b : ℕ) (parts : List (ℕ × TermTree)) → AreInTurn a parts b → c ≤ a → All (λ j. (c ≤ j) × (j < b)) (roots parts)
+roots_between c a b [] turn le = λ i d low. absurd (omega arith)
+roots_between c a b (part ∷ rest) turn le =
+    let at : part.0 ≡ a = turn.0 in
+    let high : part.0 + suc (before part.1) ≤ b = in_turn_le (part.0 + suc (before part.1)) rest b turn.1 in
+    All-cons (λ j. (c ≤ j) × (j < b)) (root_of part) (roots rest) (omega arith, omega arith) (roots_between c (part.0 + suc (before part.1)) b rest turn.1 (omega arith))
+
+pub roots_distinct : (a b : ℕ) (parts : List (ℕ × TermTree)) → AreInTurn a parts b → AllPairs (λ i j. i ≢ j) (roots parts)
+roots_distinct a b [] turn = λ i j d less low. absurd (omega arith)
+roots_distinct a b (part ∷ rest) turn =
+    let next : ℕ = part.0 + suc (before part.1) in
+    let above : All (λ j. (next ≤ j) × (j < b)) (roots rest) = roots_between next next b rest turn.1 (omega arith) in
+    AllPairs-cons (λ i j. i ≢ j) (root_of part) (roots rest)
+    (λ k d low same. let le : next ≤ _ = (above k d low).0 in absurd (omega arith))
+    (roots_distinct next b rest turn.1)
+
+-- the schemes at the same numbers are the same
+pub one_each : (done : Finished) (is : List ℕ) (ss ts : List Scheme) → HasEach done is ss → HasEach done is ts → ss ≡ ts
+one_each done [] [] [] a b = refl
+one_each done [] [] (t ∷ ts) a b = absurd b
+one_each done [] (s ∷ ss) ts a b = absurd a
+one_each done (i ∷ is) [] ts a b = absurd a
+one_each done (i ∷ is) (s ∷ ss) [] a b = absurd b
+one_each done (i ∷ is) (s ∷ ss) (t ∷ ts) a b =
+    let both : Some (Some s) ≡ Some (Some t) = sym a.0 ∙ b.0 in
+    let same : s ≡ t = cc in
+    let others : ss ≡ ts = one_each done is ss ts a.1 b.1 in
+    λ k. same k ∷ others k
+
+module _ (known : Known) (done : Finished) where
+  abbrev pub inferred_all : (parts : List (ℕ × TermTree)) → AllDone known parts done → AllInferred known parts
+  inferred_all [] all = tt
+  inferred_all (part ∷ parts) all = (all.0.part, inferred_all parts all.1)
+
+  has_each : (parts : List (ℕ × TermTree)) (all : AllDone known parts done) → HasEach done (roots parts) (automata_of known parts (inferred_all parts all))
+  has_each [] all = tt
+  has_each (part ∷ parts) all = (all.0.there, has_each parts all.1)
+
+  all_schemes : (parts : List (ℕ × TermTree)) (all : AllDone known parts done) → All IsScheme (automata_of known parts (inferred_all parts all))
+  all_schemes [] all = λ i d low. absurd (omega arith)
+  all_schemes (part ∷ parts) all = All-cons IsScheme all.0.part.automaton (automata_of known parts (inferred_all parts all.1)) all.0.is (all_schemes parts all.1)
+
+module _ (scope : Scope) (Fails : ℕ → SiteKind → Type 0) (Ends : Finished → Type 0) where
+  -- what fails at a part, fails
+  abbrev pub Failing : Known → ℕ → TermTree → Type 0
+  Failing known n t = (i : ℕ) (m : SiteKind) → IsKindAt i m → Infers known n t (none i) → Fails i m
+
+  -- from the end of a part on, the loop goes on with the nodes that are left
+  abbrev pub Going : Known → ℕ → TermTree → List TermNode → Finished → Type 0
+  Going known n t rest done =
+      (new : Finished) → Agree n done new → length new ≡ n + suc (before t) → Done known n t new → GoesOn scope Fails Ends rest new
+
+  -- the node of an expression over its finished parts
+  module _ (known : Known) (n : ℕ) (t : TermTree) (plain : is_let t ≡ false) (done : Finished) (all : AllDone known (early_parts n t) done) (node : TermNode) (rest : List TermNode) (size : length done ≡ n + before t)
+      (children_are : children node.form ≡ roots (early_parts n t)) (built : IsBuilt node.form)
+      (posed : (ss : List Scheme) (c : Constraint) → IsPosed node.form ss c → IsConstraintOf known t ss c)
+      (can : HasParts node.form done → CanStep scope node.form done)
+      (failing : Failing known n t) (going : Going known n t rest done) where
+    abbrev parts : AllInferred known (early_parts n t)
+    parts = inferred_all known done (early_parts n t) all
+
+    abbrev schemes : List Scheme
+    schemes = automata_of known (early_parts n t) parts
+
+    there : HasEach done (children node.form) schemes
+    there = let P : List ℕ → Type 0 = λ is. HasEach done is schemes in subst P (sym children_are) (has_each known done (early_parts n t) all)
+
+    has_parts : HasParts node.form done
+    has_parts = record {
+      schemes = schemes;
+      each = there;
+      are = all_schemes known done (early_parts n t) all;
+      distinct = let P : List ℕ → Type 0 = AllPairs (λ i j. i ≢ j) in subst P (sym children_are) (roots_distinct n (n + before t) (early_parts n t) (parts_in_turn n t plain));
+      built = built;
+    }
+
+    of_parts : (c : Constraint) → HasConstraint node.form done c → IsConstraintOf known t schemes c
+    of_parts c has =
+        let P : List Scheme → Type 0 = λ ss. IsConstraintOf known t ss c in
+        subst P (one_each done (children node.form) has.schemes schemes has.each there) (posed has.schemes c has.is)
+
+    -- no node below the first of the expression is a part of it
+    no_child : (j : ℕ) → j < n → Contains (children node.form) j → ⊥
+    no_child j low inside =
+        let P : List ℕ → Type 0 = λ is. Contains is j in
+        let it : Contains (roots (early_parts n t)) j = subst P children_are inside in
+        let Q : ℕ → Type 0 = λ j. (n ≤ j) × (j < n + before t) in
+        let bounds : (n ≤ j) × (j < n + before t) = subst Q it.2 (roots_between n n (n + before t) (early_parts n t) (parts_in_turn n t plain) (omega arith) it.0 j it.1) in
+        let le : n ≤ j = bounds.0 in
+        absurd (omega arith)
+
+    stops : (m : SiteKind) → IsStop node.form done m → Fails (length done) m
+    stops m stop =
+        let is : IsConstraintOf known t schemes stop.constraint = of_parts stop.constraint stop.is in
+        let P : ℕ → Type 0 = λ i. Fails i m in
+        subst P (sym size)
+        (failing (n + before t) m (record { known = known; n = n; t = t; number_is = refl; all = parts; constraint = stop.constraint; is = is; first = stop.first })
+        (inferred_none known n t plain parts stop.constraint is stop.none))
+
+    not_inner : (k : ℕ) → node.form ≡ form.Inner k → ⊥
+    not_inner k same = let B : TermForm → Type 0 = IsBuilt in subst B same built
+
+    not_global : (g : ℕ) → node.form ≡ form.Global g → ⊥
+    not_global g same = let B : TermForm → Type 0 = IsBuilt in subst B same built
+
+    solution_of : (s : Scheme) → IsAnswer scope node.form done s → (c : Constraint) × HasConstraint node.form done c × IsSolution c s
+    solution_of s (is_named (is_copied k i same first is_there)) = absurd (not_inner k same)
+    solution_of s (is_named (is_read g u same known_is is)) = absurd (not_global g same)
+    solution_of s (is_solved c has solution) = (c, has, solution)
+
+    goes : (new : Finished) (s : Scheme) → IsStep scope node.form done new s → GoesOn scope Fails Ends rest new
+    goes new s step =
+        let it = solution_of s step.answer in
+        let it_read = read_scheme s step.is step.rise in
+        let agree : Agree n done new = λ j low. step.kept j (omega arith) (no_child j low) in
+        let P : ℕ → Type 0 = λ i. Has new i s in
+        going new agree (let longer : length new ≡ suc (length done) = step.longer in omega arith)
+        (record { part = inferred_step known n t plain parts it.0 (of_parts it.0 it.1) s it_read.0 it.2 it_read.1; is = step.is; there = subst P size step.added })
+
+    pub node_goes : GoesOn scope Fails Ends (node ∷ rest) done
+    node_goes = (can has_parts, stops, goes)

@@ -1,0 +1,92 @@
+-- The schemes of the environment, as automata.
+--     read_means             the automaton of a scheme that was read is read as this scheme
+--     named_read, named_copy      a known name has its scheme
+--     names_are              what names mean are schemes that need nothing of any binder
+use Rattle.std.proofs.Common.{◌≡◌, ℕ, zero, suc, ◌<◌, List, [], ◌∷◌, map, length, get_or, All, refl, sym, ap, ◌∙◌, subst, arith, Some, slice_get}
+use Rattle.std.specs.Prelude.{Option, None, option_map}
+use Rattle.std.specs.BTreeMap.{BTreeMap}
+use Rattle.std.specs.FinMap as finmap
+use Rattle.std.specs.FinMap.{get-empty}
+use Rattle.std.specs.Ordering.{nat_cmp}
+use Rattle.std.proofs.lemmas.Option.{slice_get-map, slice_get_within, get_or_from_slice_get}
+use Rattle.mls_book.specs.Schemes as book
+use Rattle.mls_automaton.specs.declared.scheme.Scheme.{Scheme}
+use Rattle.mls_automaton.specs.Environments.{BindersRise}
+use Rattle.mls_automaton.specs.Schemes.{IsScheme}
+use Rattle.mls_term.specs.declared.term.TermForm.TheVariants as form
+use Rattle.mls_automaton.proofs.BooksExist.{scheme_exists}
+use Rattle.mls_scheme.specs.ReadTypes.{IsPolarisedRead, IsEquivalentToRead}
+use Rattle.mls_typetext.specs.declared.scheme.Names.{Names}
+use Rattle.mls_typetext.specs.declared.scheme.ReadScheme.{ReadScheme}
+use Rattle.mls_typetext.specs.Laws.{IsReadScheme}
+use Rattle.mls_typetext.specs.Schemes.{scheme_of}
+use Rattle.mls_typing.proofs.Instances.{Allows-equivalent}
+use Rattle.mls_typing.proofs.Lists.{nothing_in}
+use Rattle.mls_typing.proofs.Rows.{both_ways}
+use Rattle.mls_infer.specs.Finished.{Finished, Has}
+use Rattle.mls_infer.specs.Finishing.{Scope, CanStep, IsNamedBy, is_copied, is_read, scope_of}
+use Rattle.mls_infer.specs.Inference.{AreNames}
+use Rattle.mls_infer.specs.Steps.{IsReadAs}
+use Rattle.mls_infer.proofs.FinishedParts.{one_scheme}
+use Rattle.mls_infer.proofs.Models.{EachFound}
+use Rattle.mls_infer.proofs.Reading.{read_as}
+
+scheme_of_is : (read : ReadScheme) → IsReadScheme read → book.IsScheme (scheme_of read)
+scheme_of_is read is = record {
+  book = is.book;
+  root = is.root;
+  env = λ x i e. let nothing : finmap.get (finmap.empty {X = ℕ} {R = nat_cmp}) x ≡ None = get-empty nat_cmp x in absurd (cc);
+}
+
+pub read_means : (read : ReadScheme) (s : Scheme) → IsReadScheme read → IsScheme s → s.env ≡ [] → IsEquivalentToRead read s → IsReadAs s (scheme_of read)
+read_means read s read_is is no_env equivalent =
+    let it = scheme_exists s is in
+    let found : EachFound s.env = subst EachFound (sym no_env) (λ entry inside. absurd (nothing_in entry inside)) in
+    let own : IsReadAs s it.0 = read_as s is found it.0 it.1 in
+    let of_read : book.IsScheme (scheme_of read) = scheme_of_is read read_is in
+    record { is = of_read; just = λ types f. both_ways (own.just types f) (Allows-equivalent it.0 (scheme_of read) own.is of_read (equivalent it.0 it.1) types f) }
+
+-- what a name means is a scheme that was read
+module _ (reads : List ReadScheme) (are : All (λ read. IsReadScheme read × IsPolarisedRead read) reads) where
+  from_read : (g : ℕ) (u : book.Scheme) (o : Option ReadScheme) → slice_get reads g ≡ o → option_map scheme_of o ≡ Some u → book.IsScheme u × (u.env ≡ finmap.empty)
+  from_read g u None at is = absurd (cc)
+  from_read g u (Some read) at is =
+      let same : scheme_of read ≡ u = cc in
+      let P : book.Scheme → Type 0 = λ u. book.IsScheme u × (u.env ≡ finmap.empty) in
+      let R : ReadScheme → Type 0 = IsReadScheme in
+      let read_is : IsReadScheme read = subst R (get_or_from_slice_get reads g read read at) (are g read (slice_get_within reads g read at)).0 in
+      subst P same (scheme_of_is read read_is, refl)
+
+  pub names_are : (g : ℕ) (u : book.Scheme) → slice_get (map scheme_of reads) g ≡ Some u → book.IsScheme u × (u.env ≡ finmap.empty)
+  names_are g u e = from_read g u (slice_get reads g) refl (sym (slice_get-map scheme_of reads g) ∙ e)
+
+at_place : {X : Type 0} (xs : List X) (g : ℕ) (d : X) → g < length xs → slice_get xs g ≡ Some (get_or xs g d)
+at_place [] g d low = absurd (omega arith)
+at_place (x ∷ xs) zero d low = refl
+at_place (x ∷ xs) (suc g) d low = at_place xs g d (omega arith)
+
+-- the scheme of a name of the environment
+pub named_read : (names : Names) (firsts : BTreeMap ℕ ℕ) (done : Finished) (g : ℕ) (read : ReadScheme) (s : Scheme) → AreNames names → g < length names.schemes → get_or names.schemes g read ≡ read → IsScheme s → s.env ≡ [] → IsEquivalentToRead read s
+    → IsNamedBy (scope_of names firsts) (form.Global g) done s
+named_read names firsts done g read s are low at is no_env equivalent =
+    let read_is : IsReadScheme read = subst IsReadScheme at (are g read low).0 in
+    let there : slice_get (map scheme_of names.schemes) g ≡ Some (scheme_of read) = slice_get-map scheme_of names.schemes g ∙ ap (option_map scheme_of) (at_place names.schemes g read low ∙ ap Some at) in
+    record {
+      named = is_read g (scheme_of read) refl there (read_means read s read_is is no_env equivalent);
+      is = is;
+      rise = subst BindersRise (sym no_env) (λ i j d less low. absurd (omega arith));
+    }
+
+-- and a copy of that of a let-bound name
+pub named_copy : (scope : Scope) (k : ℕ) (done : Finished) → CanStep scope (form.Inner k) done → (root : ℕ) (s copy : Scheme) → scope.first_of k ≡ Some root → Has done root s → copy ≡ s → BindersRise s.env → IsNamedBy scope (form.Inner k) done copy
+named_copy scope k done can root s copy first there same rise =
+    let both : Some can.0 ≡ Some root = sym can.2 ∙ first in
+    let same_root : can.0 ≡ root = cc in
+    let H : ℕ → Type 0 = λ i. Has done i can.1 in
+    let same_scheme : can.1 ≡ s = one_scheme done root can.1 s (subst H same_root can.3) there in
+    let to_copy : s ≡ copy = sym same in
+    record {
+      named = is_copied k root refl first (let C : Scheme → Type 0 = λ s. Has done root s in subst C to_copy there);
+      is = subst IsScheme to_copy (subst IsScheme same_scheme can.4);
+      rise = let R : Scheme → Type 0 = λ (s : Scheme). BindersRise s.env in subst R to_copy rise;
+    }

@@ -1,0 +1,114 @@
+-- One turn of the loop over the nodes, as the program does it.
+--     each_tree              the nodes are those of one tree
+--     can_step, stops_here, goes_further
+--     infers_whole           what is left at the end
+use Rattle.std.proofs.Common.{◌≡◌, ℕ, zero, suc, ◌+◌, ◌<◌, ◌≤◌, List, [], ◌∷◌, ◌++◌, length, drop, get_or, refl, sym, ap, ◌∙◌, subst, arith, length-append, Some, slice_get}
+use Rattle.std.specs.BTreeMap.{BTreeMap, get}
+use Rattle.std.specs.Ordering.{nat_cmp}
+use Rattle.std.proofs.Math.Seq.{drop-cons}
+use Rattle.std.proofs.lemmas.List.{length-map}
+use Rattle.mls_automaton.specs.declared.scheme.Scheme.{Scheme}
+use Rattle.mls_automaton.specs.Schemes.{IsScheme, IsSchemeOf}
+use Rattle.mls_book.specs.Schemes as book
+use Rattle.mls_term.specs.declared.term.TermNode.{TermNode}
+use Rattle.mls_term.specs.Terms.{TermTree, before, postorder}
+use Rattle.mls_term.specs.Derivations.{IsBest}
+use Rattle.mls_term.specs.WellFormed.{IsScoped, IsTerm, IsFirstNone}
+use Rattle.mls_term.proofs.TreesOfTerms.{one_term_tree}
+use Rattle.mls_typing.specs.InferenceLaws.{at_start}
+use Rattle.mls_typing.proofs.PartNodes.{length-postorder}
+use Rattle.mls_typetext.specs.declared.scheme.Names.{Names}
+use Rattle.mls_typetext.specs.Schemes.{scheme_of}
+use Rattle.mls_infer.specs.declared.fault.SiteKind.{SiteKind}
+use Rattle.mls_infer.specs.Finished.{Finished, Has}
+use Rattle.mls_infer.specs.Finishing.{Scope, CanStep, GoesOnIn, IsAnswerBy, IsInferred, IsStop, KeepsOthers, first_in, scope_of, without_env}
+use Rattle.mls_infer.specs.Inference.{AreNames}
+use Rattle.mls_infer.proofs.FinishedParts.{one_scheme}
+use Rattle.mls_infer.proofs.FirstParts.{firsts_are}
+use Rattle.mls_infer.proofs.KnownSchemes.{names_are}
+use Rattle.mls_infer.proofs.WholeTerms.{starts, without_env_is}
+
+-- at the end of a list, and before it
+get_end : {X : Type 0} (xs : List X) (x : X) → slice_get (xs ++ x ∷ []) (length xs) ≡ Some x
+get_end [] x = refl
+get_end (y ∷ xs) x = get_end xs x
+
+get_before : {X : Type 0} (xs : List X) (x : X) (k : ℕ) → k < length xs → slice_get (xs ++ x ∷ []) k ≡ slice_get xs k
+get_before [] x k low = absurd (omega arith)
+get_before (y ∷ xs) x zero low = refl
+get_before (y ∷ xs) x (suc k) low = get_before xs x k (omega arith)
+
+-- the loop goes on at the nodes from this number on, whatever tree they are of
+abbrev pub GoesFrom : Scope → List TermNode → ℕ → Finished → Type 0
+GoesFrom scope nodes i done = (t : TermTree) → nodes ≡ postorder 0 t → GoesOnIn scope t (drop i nodes) done
+
+pub each_tree : (scope : Scope) (nodes : List TermNode) → (t : TermTree) × (nodes ≡ postorder 0 t) × GoesOnIn scope t nodes [] → GoesFrom scope nodes 0 []
+each_tree scope nodes one t is =
+    let same : one.0 ≡ t = one_term_tree one.0 t (sym one.1 ∙ is) in
+    let P : TermTree → Type 0 = λ t. GoesOnIn scope t nodes [] in
+    subst P same one.2
+
+module _ (scope : Scope) (nodes : List TermNode) (i : ℕ) (done : Finished) (goes : GoesFrom scope nodes i done) where
+  module _ (low : i < length nodes) (node : TermNode) (is : get_or nodes i node ≡ node) where
+    at_node : (t : TermTree) → nodes ≡ postorder 0 t → GoesOnIn scope t (node ∷ drop (suc i) nodes) done
+    at_node t nodes_are =
+        let split : drop i nodes ≡ node ∷ drop (suc i) nodes = drop-cons nodes i node low ∙ ap (λ x. x ∷ drop (suc i) nodes) is in
+        let P : List TermNode → Type 0 = λ xs. GoesOnIn scope t xs done in
+        subst P split (goes t nodes_are)
+
+    pub can_step : (t : TermTree) × (nodes ≡ postorder 0 t) → CanStep scope node.form done
+    can_step one = (at_node one.0 one.1).0
+
+    pub stops_here : (m : SiteKind) → IsStop node.form done m → (t : TermTree) → nodes ≡ postorder 0 t → IsFirstNone scope.globals t (length done)
+    stops_here m stop t nodes_are = (at_node t nodes_are).1 m stop
+
+    pub goes_further : (mid : Finished) (s : Scheme) → IsAnswerBy scope node.form done s → KeepsOthers node.form done mid → GoesFrom scope nodes (suc i) (mid ++ Some s ∷ [])
+    goes_further mid s answer keeps t nodes_are =
+        let size : length mid ≡ length done = keeps.size in
+        let P : ℕ → Type 0 = λ k. Has (mid ++ Some s ∷ []) k s in
+        (at_node t nodes_are).2 (mid ++ Some s ∷ []) s
+        (record {
+          answer = answer.answer;
+          is = answer.is;
+          rise = answer.rise;
+          longer = let both : length (mid ++ Some s ∷ []) ≡ length mid + 1 = length-append mid (Some s ∷ []) in omega arith;
+          added = subst P size (get_end mid (Some s));
+          kept = λ j low' out. get_before mid (Some s) j (omega arith) ∙ keeps.kept j out;
+        })
+
+  -- behind the last node
+  pub infers_whole : length nodes ≤ i → (t : TermTree) → nodes ≡ postorder 0 t → IsInferred scope.globals t done
+  infers_whole past t nodes_are =
+      let P : List TermNode → Type 0 = λ xs. GoesOnIn scope t xs done in
+      subst P (drop_past nodes i past) (goes t nodes_are)
+    where
+      drop_past : (xs : List TermNode) (i : ℕ) → length xs ≤ i → drop i xs ≡ []
+      drop_past [] zero past = refl
+      drop_past [] (suc i) past = refl
+      drop_past (x ∷ xs) zero past = absurd (omega arith)
+      drop_past (x ∷ xs) (suc i) past = drop_past xs i (omega arith)
+
+-- the loop over a whole term
+module _ (names : Names) (firsts : BTreeMap ℕ ℕ) (nodes : List TermNode) (binders lets : ℕ) (are : AreNames names) (it : IsTerm (length names.schemes) nodes binders lets) where
+  pub begins : ((k : ℕ) → get nat_cmp firsts k ≡ first_in nodes k) → (t : TermTree) × (nodes ≡ postorder 0 t) × GoesOnIn (scope_of names firsts) t nodes []
+  begins tells =
+      let scope : Scope = scope_of names firsts in
+      let P : List TermNode → Type 0 = λ xs. GoesOnIn scope it.tree xs [] in
+      let N : ℕ → Type 0 = λ n. IsScoped [] [] n it.tree in (
+        it.tree,
+        it.nodes_are,
+        subst P (sym it.nodes_are)
+            (starts scope it.tree (λ g u e. (names_are names.schemes are g u e).0) (λ g u e. (names_are names.schemes are g u e).1)
+            (subst N (sym (length-map names.schemes scheme_of)) it.scoped)
+            (firsts_are it.tree lets (get nat_cmp firsts) it.let_numbers (λ k. tells k ∙ ap (λ xs. first_in xs k) it.nodes_are))),
+      )
+
+-- the last node of a term is that of the root
+pub last_node : (nodes : List TermNode) (t : TermTree) → nodes ≡ postorder 0 t → length nodes ≡ suc (before t)
+last_node nodes t nodes_are = ap length nodes_are ∙ length-postorder t 0
+
+-- the scheme that is taken there, without its environment
+pub whole_answer : (globals : List book.Scheme) (t : TermTree) (done : Finished) → IsInferred globals t done → (s : Scheme) → Has done (before t) s → IsScheme (without_env s) × ((u : book.Scheme) → IsSchemeOf (without_env s) u → IsBest (at_start globals) t u)
+whole_answer globals t done it s there =
+    let P : Scheme → Type 0 = λ s. IsScheme (without_env s) × ((u : book.Scheme) → IsSchemeOf (without_env s) u → IsBest (at_start globals) t u) in
+    subst P (one_scheme done (before t) it.scheme s it.there there) (without_env_is it.scheme it.is, it.best)

@@ -1,0 +1,168 @@
+//! Inference of a whole expression.
+ghost use Rattle.std.specs.Prelude.{◌≡◌, [], All, IfErr, IfOk, OnOk, length};
+ghost use Rattle.std.specs.BTreeMap.{get};
+ghost use Rattle.std.specs.Ordering.{nat_cmp};
+ghost use Rattle.mls_automaton.specs.declared.scheme.Scheme.{Scheme};
+ghost use Rattle.mls_automaton.specs.Environments.{BindersRise};
+ghost use Rattle.mls_automaton.specs.Schemes.{IsScheme};
+ghost use Rattle.mls_infer.specs.Constraints.{HasStates};
+ghost use Rattle.mls_infer.specs.Posed.{IsGoalOf, constraint_of};
+ghost use Rattle.mls_infer.specs.Solved.{IsClashWithout, TellsFirstClash};
+ghost use Rattle.mls_infer.specs.Steps.{IsSolution};
+ghost use Rattle.mls_shape.specs.Simplified.{IsSimplified};
+ghost use Rattle.mls_term.specs.WellFormed.{IsTerm};
+ghost use Rattle.mls_term.specs.Terms.{postorder};
+ghost use Rattle.mls_infer.specs.Finishing.{CanStep, FailsIn, GoesOnIn, IsAnswerBy, IsInferred, KeepsOthers, StopsAt, first_in, scope_of};
+ghost use Rattle.mls_infer.specs.Inference.{AreNames, IsBestFor, IsFirstWithout, schemes_in};
+
+use crate::constraints::Constraints;
+use crate::fault::{InferFault, Site};
+use crate::finished::Finished;
+use crate::firsts::firsts_of;
+use crate::node::{Source, posed};
+use crate::solve::{NoSolution, solve};
+use mls_automaton::scheme::{Env, Scheme};
+use mls_base::memory::Memory;
+use mls_biunify::room::Room;
+use mls_shape::simplify::simplify;
+use mls_term::term::{Term, TermForm, TermNode};
+pub use mls_typetext::scheme::Names;
+use std::alloc::Global;
+use std::collections::{BTreeMap, BTreeSet};
+
+/// The most general scheme of an expression, over an environment of schemes that names mean.
+///
+/// # Errors
+///
+/// `NoScheme` exactly where the expression has none: with the first node in postorder that has none, each let-bound name
+/// around it having its most general scheme. `Memory` where memory is wanting.
+pub fn infer(alloc: Global, names: &Names, term: &Term) -> Result<Scheme, InferFault>
+    requires names { AreNames names.now }
+    requires term { IsTerm (length names.now.schemes) term.now.nodes term.now.binders term.now.lets }
+    ensures scheme { IfOk result IsScheme }
+    ensures env { IfOk result (λ (s : Scheme). s.env ≡ []) }
+    ensures simplified { IfOk result IsSimplified }
+    ensures best { IfOk result (IsBestFor names.now term.now) }
+    ensures first { IfErr result (IsFirstWithout names.now term.now) }
+{
+    let whole = infer_whole(alloc, names, term)?;
+    let simple = simplify(alloc, &whole)?;
+    Ok(simple)
+}
+
+// The same, not simplified.
+fn infer_whole(alloc: Global, names: &Names, term: &Term) -> Result<Scheme, InferFault>
+    requires names { AreNames names.now }
+    requires term { IsTerm (length names.now.schemes) term.now.nodes term.now.binders term.now.lets }
+    ensures scheme { IfOk result IsScheme }
+    ensures env { IfOk result (λ (s : Scheme). s.env ≡ []) }
+    ensures best { IfOk result (IsBestFor names.now term.now) }
+    ensures first { IfErr result (IsFirstWithout names.now term.now) }
+{
+    let nodes = term.nodes.as_slice();
+    let firsts = firsts_of(alloc, nodes)?;
+    let mut done = infer_nodes(alloc, names, &firsts, nodes)?;
+    let whole = done.take(nodes.len() - 1);
+    Ok(Scheme {
+        automaton: whole.automaton,
+        env: Env::new(alloc),
+        root: whole.root,
+    })
+}
+
+// Infers one node after another. At last the scheme of the root is there.
+fn infer_nodes(
+    alloc: Global,
+    names: &Names,
+    firsts: &BTreeMap<usize, usize>,
+    nodes: &[TermNode],
+) -> Result<Finished, InferFault>
+    requires names { AreNames names.now }
+    requires goes { (t : _) × (nodes.now ≡ postorder 0 t) × GoesOnIn (scope_of names.now firsts.now) t nodes.now [] }
+    ensures ok { IfOk result (λ done. (t : _) → nodes.now ≡ postorder 0 t → IsInferred (schemes_in names.now) t done) }
+    ensures err { IfErr result (λ fault. (t : _) → nodes.now ≡ postorder 0 t → FailsIn (schemes_in names.now) t fault) }
+{
+    let mut done = Finished::new(alloc);
+    let mut room = Room::new(alloc, 0, 0)?;
+    let named = named_parts(alloc, nodes)?;
+    for i in 0..nodes.len() {
+        let simplifies = is_among(&named, i);
+        match scheme_of(
+            alloc,
+            names,
+            firsts,
+            &mut room,
+            &mut done,
+            &nodes[i].form,
+            simplifies,
+        ) {
+            Ok(scheme) => done.push(scheme)?,
+            Err(NoSolution::Clash(kind)) => {
+                return Err(InferFault::NoScheme(Site { node: i, kind }));
+            }
+            Err(NoSolution::Memory) => return Err(InferFault::Memory),
+        }
+    }
+    Ok(done)
+}
+
+// The scheme of a node. That of a let's first part is simplified, as each use of the let's name copies it.
+fn scheme_of(
+    alloc: Global,
+    names: &Names,
+    firsts: &BTreeMap<usize, usize>,
+    room: &mut Room,
+    done: &mut Finished,
+    node: &TermForm,
+    simplifies: bool,
+) -> Result<Scheme, NoSolution>
+    requires names { AreNames names.now }
+    requires can { CanStep (scope_of names.now firsts.now) node.now done.old }
+    ensures answer { IfOk result (IsAnswerBy (scope_of names.now firsts.now) node.now done.old) }
+    ensures others { OnOk result (KeepsOthers node.now done.old done.new) }
+    ensures stops { IfErr result (StopsAt node.now done.old) }
+{
+    match posed(alloc, names, firsts, done, node)? {
+        Source::Named(scheme) => Ok(scheme),
+        Source::Built(c) => solved(alloc, room, c, simplifies),
+    }
+}
+
+// The scheme with just the types of the constraints, simplified or not.
+fn solved(
+    alloc: Global,
+    room: &mut Room,
+    c: Constraints,
+    simplifies: bool,
+) -> Result<Scheme, NoSolution>
+    requires states { HasStates (constraint_of c).scheme }
+    requires goals { All (IsGoalOf c.automaton) c.goals }
+    ensures solution { IfOk result (IsSolution (constraint_of c)) }
+    ensures scheme { IfOk result IsScheme }
+    ensures rise { IfOk result (λ (s : Scheme). BindersRise s.env) }
+    ensures none { IfErr result (IsClashWithout (constraint_of c)) }
+    ensures first { IfErr result (TellsFirstClash (constraint_of c)) }
+{
+    let scheme = solve(alloc, room, c)?;
+    if !simplifies {
+        return Ok(scheme);
+    }
+    let simple = simplify(alloc, &scheme)?;
+    simple.env.as_slice();
+    Ok(simple)
+}
+
+fn is_among(named: &BTreeSet<usize>, i: usize) -> bool {
+    named.contains(&i)
+}
+
+// The roots of the first parts of lets.
+fn named_parts(alloc: Global, nodes: &[TermNode]) -> Result<BTreeSet<usize>, Memory> {
+    let mut named = BTreeSet::new(alloc);
+    for node in nodes {
+        if let TermForm::Let(_, first, _) = &node.form {
+            named.insert(*first)?;
+        }
+    }
+    Ok(named)
+}
