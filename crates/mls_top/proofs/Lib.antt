@@ -1,10 +1,4 @@
 pub mod AnswersExist
-pub mod ChainBest
-pub mod ChainBooks
-pub mod ChainDerived
-pub mod ChainLeast
-pub mod ChainTexts
-pub mod ChainTypes
 pub mod Entries
 pub mod HeldFiles
 pub mod Inferring
@@ -13,3 +7,5 @@ pub mod OneLines
 pub mod Operators
 pub mod Running
 pub mod Written
+pub mod SameEntries
+pub mod KnownTypes

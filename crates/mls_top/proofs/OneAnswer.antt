@@ -1,36 +1,53 @@
 -- Two answers of the same words over the same files agree.
-use Rattle.std.proofs.Common.{◌≡◌, ◌≢◌, ℕ, ◌≤◌, List, refl, sym, ap, ◌∙◌, subst, arith, All}
-use Rattle.std.specs.Prelude.{Some, Result, Ok, Err, Contains}
-use Rattle.std.proofs.lemmas.List.Elements.{All-contains}
+use Rattle.std.proofs.Common.{◌≡◌, ◌⊎◌, inl, inr, ℕ, ◌+◌, ◌<◌, List, [], length, refl, sym, ap, ◌∙◌, subst, arith}
+use Rattle.std.specs.Prelude.{Some, slice_get, Result, Ok, Err}
 use Rattle.mls_base.specs.Files.{Files}
-use Rattle.mls_grammar.specs.declared.fault.Fault.TheVariants.{NotBuilt}
+use Rattle.mls_book.proofs.LongerBooks.{below_or_more}
+use Rattle.mls_lexer.specs.Tokens.{line_of, column_of}
 use Rattle.mls_grammar.specs.declared.module.Module.{Module}
 use Rattle.mls_grammar.specs.declared.module.Import.{Import}
 use Rattle.mls_grammar.proofs.ModuleLaws.{one_module, no_fault_beside_a_module}
 use Rattle.mls_grammar.proofs.FirstStops.{one_fault_before_names}
 use Rattle.mls_term.specs.declared.term.Resolved.{Resolved}
-use Rattle.mls_names.specs.Unbuilt.{IsLeastUnbuilt, unbuilt_of}
+use Rattle.mls_term.specs.declared.term.ResolvedBinding.{ResolvedBinding}
 use Rattle.mls_names.proofs.OneResolution.{one_resolution, one_unknown_name, no_unknown_name_beside_a_resolution}
-use Rattle.mls_names.proofs.LeastPlaces.{none_unbuilt}
+use Rattle.mls_infer.specs.declared.fault.SiteKind.{SiteKind}
 use Rattle.mls_top.specs.declared.command.Command.{Command}
 use Rattle.mls_top.specs.declared.status.Status.{Status}
-use Rattle.mls_top.specs.declared.status.Status.TheVariants.{Done}
-use Rattle.mls_top.specs.Lines.{module_file}
-use Rattle.mls_top.specs.Refusals.{Refusal, for_fault}
-use Rattle.mls_top.specs.Entries.{Declared, declared_names}
-use Rattle.mls_top.specs.Outcomes.{ReadsModule, is_module, is_faulty, ReadsImports, no_import, unbuilt_import, InfersBindings, unknown_name, unbuilt, all_inferred, Outcome, refused, outcome_status, outcome_text, InfersText, bad_module, bad_import, has_imports, Infers, no_text, has_text}
+use Rattle.mls_top.specs.Lines.{module_file, no_scheme_line}
+use Rattle.mls_top.specs.Refusals.{Refusal, no_file, too_long, bad_text, no_scheme, for_fault}
+use Rattle.mls_top.specs.Entries.{Declared, Entry, AreEntriesOf, HasFirstNone}
+use Rattle.mls_top.specs.Outcomes.{ReadsModule, is_module, is_faulty, ReadsImports, no_import, unbuilt_import, InfersBindings, unknown_name, one_has_none, all_inferred, Outcome, refused, outcome_status, outcome_text, InfersText, bad_module, bad_import, has_imports, Infers, no_text, has_text}
 use Rattle.mls_top.specs.Answers.{no_command, of_command, IsAnswerOf, infer}
-use Rattle.mls_top.specs.Laws.{OneAnswer}
+use Rattle.mls_top.specs.Laws.{AreAlike, OneAnswer}
+use Rattle.mls_top.proofs.SameEntries.{below_length, no_entry, one_place}
 
--- two outcomes have one status, and where it is not Done one text
+-- two outcomes are told alike
 abbrev Agree : Outcome → Outcome → Type 0
-Agree o p = (outcome_status o ≡ outcome_status p) × (outcome_status o ≢ Done → outcome_text o ≡ outcome_text p)
+Agree o p = AreAlike (outcome_status o) (outcome_status p) (outcome_text o) (outcome_text p)
 
-equal_agree : (o p : Outcome) → o ≡ p → Agree o p
-equal_agree o p e = (ap outcome_status e, λ _. ap outcome_text e)
+-- a refusal is told as itself
+refusal_agrees : (r : Refusal) → Agree (refused r) (refused r)
+refusal_agrees (no_file file) = record { one_status = refl; one_text = λ _ _. refl; one_binding = λ is. absurd (cc) }
+refusal_agrees (too_long file limit) = record { one_status = refl; one_text = λ _ _. refl; one_binding = λ is. absurd (cc) }
+refusal_agrees (bad_text file text place number words) = record { one_status = refl; one_text = λ _ _. refl; one_binding = λ is. absurd (cc) }
+refusal_agrees (no_scheme file text place x kind) = record {
+  one_status = refl;
+  one_text = λ _ other. absurd (other refl);
+  one_binding = λ _. record {
+    file = file;
+    line = line_of text place;
+    column = column_of text place;
+    x = x;
+    kind = kind;
+    other = kind;
+    text_is = refl;
+    said_is = refl;
+  };
+}
 
 refusals_agree : (r s : Refusal) → r ≡ s → Agree (refused r) (refused s)
-refusals_agree r s e = equal_agree (refused r) (refused s) (ap refused e)
+refusals_agree r s e = subst (λ (s : Refusal). Agree (refused r) (refused s)) e (refusal_agrees r)
 
 one_reading : (file text : List ℕ) (r s : Result Module Refusal) → ReadsModule file text r → ReadsModule file text s → r ≡ s
 one_reading file text _ _ (is_module {m} h) (is_module {m = n} k) = ap Ok (one_module text m n h k)
@@ -42,35 +59,71 @@ one_declared : (files : Files) (file text : List ℕ) (is : List Import) (r s : 
 one_declared files file text _ _ _ no_import no_import = refl
 one_declared files file text _ _ _ unbuilt_import unbuilt_import = refl
 
--- there is one least place
-one_least : (r : Resolved) (at other : ℕ) → IsLeastUnbuilt r at → IsLeastUnbuilt r other → at ≡ other
-one_least r at other h k =
-    let low = least_of (unbuilt_of r.bindings) at other h.least k.there in
-    let low' = least_of (unbuilt_of r.bindings) other at k.least h.there in
-    omega arith
-  where
-    least_of : (places : List ℕ) (at other : ℕ) → All (λ place. at ≤ place) places → Contains places other → at ≤ other
-    least_of places at other all there = All-contains (λ place. at ≤ place) places other all there
+module _ (file text : List ℕ) (m : Module) where
+  -- a module with entries for all bindings has no binding without a scheme
+  not_all : (bs : List ResolvedBinding) (es fs : List Entry) (b : ResolvedBinding) (place : ℕ) → AreEntriesOf [] bs es → slice_get bs (length es) ≡ Some b → HasFirstNone [] es b place
+      → length fs ≡ length bs → AreEntriesOf [] bs fs → ⊥
+  not_all bs es fs b place are there first count are' =
+      let low = below_length bs (length es) b there in
+      no_entry bs es fs are are' b place there first (omega arith)
 
-module _ (file text : List ℕ) (m : Module) (declared : Declared) where
-  one_found : (o p : Outcome) → InfersBindings file text m declared o → InfersBindings file text m declared p → Agree o p
-  one_found _ _ (unknown_name {fault} h) (unknown_name {fault = other} k) =
-      refusals_agree _ _ (ap (for_fault file text) (one_unknown_name m (declared_names declared) fault other h k))
-  one_found _ _ (unknown_name {fault} h) (unbuilt {r} k least) = absurd (no_unknown_name_beside_a_resolution m (declared_names declared) r fault k h)
-  one_found _ _ (unknown_name {fault} h) (all_inferred {r} k built count entries) = absurd (no_unknown_name_beside_a_resolution m (declared_names declared) r fault k h)
-  one_found _ _ (unbuilt {r} h least) (unknown_name {fault} k) = absurd (no_unknown_name_beside_a_resolution m (declared_names declared) r fault h k)
-  one_found _ _ (unbuilt {r} {at} h least) (unbuilt {r = s} {at = other} k least') =
-      let same = one_resolution m (declared_names declared) r s h k in
-      let place = one_least s at other (subst (λ (t : Resolved). IsLeastUnbuilt t at) same least) least' in
-      refusals_agree _ _ (ap (λ at. for_fault file text (NotBuilt at)) place)
-  one_found _ _ (unbuilt {r} {at} h least) (all_inferred {r = s} k built count entries) =
-      let same = one_resolution m (declared_names declared) r s h k in
-      absurd (none_unbuilt s at built (subst (λ (t : Resolved). IsLeastUnbuilt t at) same least))
-  one_found _ _ (all_inferred {r} h built count entries) (unknown_name {fault} k) = absurd (no_unknown_name_beside_a_resolution m (declared_names declared) r fault h k)
-  one_found _ _ (all_inferred {r = s} h built count entries) (unbuilt {r} {at} k least) =
-      let same = one_resolution m (declared_names declared) r s k h in
-      absurd (none_unbuilt s at built (subst (λ (t : Resolved). IsLeastUnbuilt t at) same least))
-  one_found _ _ (all_inferred h built count entries) (all_inferred k built' count' entries') = (refl, λ other. absurd (other refl))
+  one_none : (bs : List ResolvedBinding) (es fs : List Entry) (b c : ResolvedBinding) (place place' : ℕ) (kind kind' : SiteKind)
+      → AreEntriesOf [] bs es → slice_get bs (length es) ≡ Some b → HasFirstNone [] es b place
+      → AreEntriesOf [] bs fs → slice_get bs (length fs) ≡ Some c → HasFirstNone [] fs c place'
+      → Agree (refused (no_scheme file text place b.name kind)) (refused (no_scheme file text place' c.name kind'))
+  one_none bs es fs b c place place' kind kind' are there first are' there' first' = by_length (below_or_more (length es) (length fs)) (below_or_more (length fs) (length es))
+    where
+      by_length : (length es < length fs) ⊎ ((k : ℕ) × (length es ≡ length fs + k)) → (length fs < length es) ⊎ ((k : ℕ) × (length fs ≡ length es + k))
+          → Agree (refused (no_scheme file text place b.name kind)) (refused (no_scheme file text place' c.name kind'))
+      by_length (inl low) other = absurd (no_entry bs es fs are are' b place there first low)
+      by_length (inr more) (inl low) = absurd (no_entry bs fs es are' are c place' there' first' low)
+      by_length (inr (k, at)) (inr (l, at')) =
+          let a : length es ≡ length fs + k = at in
+          let b' : length fs ≡ length es + l = at' in
+          let same : length es ≡ length fs = omega arith in
+          let both : Some b ≡ Some c = sym there ∙ (ap (slice_get bs) same ∙ there') in
+          let one : b ≡ c = cc in
+          let C : ResolvedBinding → Type 0 = λ c. HasFirstNone [] fs c place' in
+          let at_one : place ≡ place' = one_place bs es fs are are' b place place' same there first (subst C (sym one) first') in
+          record {
+            one_status = refl;
+            one_text = λ done none. absurd (none refl);
+            one_binding = λ _. record {
+              file = file;
+              line = line_of text place;
+              column = column_of text place;
+              x = b.name;
+              kind = kind;
+              other = kind';
+              text_is = refl;
+              said_is = λ i. no_scheme_line file (line_of text (sym at_one i)) (column_of text (sym at_one i)) ((sym one i).name) kind';
+            };
+          }
+
+  one_found : (o p : Outcome) → InfersBindings file text m [] o → InfersBindings file text m [] p → Agree o p
+  one_found _ _ (unknown_name {fault} h) (unknown_name {fault = other} k) = refusals_agree _ _ (ap (for_fault file text) (one_unknown_name m [] fault other h k))
+  one_found _ _ (unknown_name {fault} h) (one_has_none {r} k are there first) = absurd (no_unknown_name_beside_a_resolution m [] r fault k h)
+  one_found _ _ (unknown_name {fault} h) (all_inferred {r} k count are) = absurd (no_unknown_name_beside_a_resolution m [] r fault k h)
+  one_found _ _ (one_has_none {r} h are there first) (unknown_name {fault} k) = absurd (no_unknown_name_beside_a_resolution m [] r fault h k)
+  one_found _ _ (one_has_none {r} {entries = es} {b} {place} {kind} h are there first) (one_has_none {r = s} {entries = fs} {b = c} {place = place'} {kind = kind'} k are' there' first') =
+      let same : s.bindings ≡ r.bindings = ap (λ (r : Resolved). r.bindings) (one_resolution m [] s r k h) in
+      let A : List ResolvedBinding → Type 0 = λ bs. AreEntriesOf [] bs fs in
+      let T : List ResolvedBinding → Type 0 = λ bs. slice_get bs (length fs) ≡ Some c in
+      one_none r.bindings es fs b c place place' kind kind' are there first (subst A same are') (subst T same there') first'
+  one_found _ _ (one_has_none {r} {entries = es} {b} {place} h are there first) (all_inferred {r = s} {entries = fs} k count are') =
+      let same : s.bindings ≡ r.bindings = ap (λ (r : Resolved). r.bindings) (one_resolution m [] s r k h) in
+      let A : List ResolvedBinding → Type 0 = λ bs. AreEntriesOf [] bs fs in
+      absurd (not_all r.bindings es fs b place are there first (count ∙ ap (length {A = ResolvedBinding}) same) (subst A same are'))
+  one_found _ _ (all_inferred {r} h count are) (unknown_name {fault} k) = absurd (no_unknown_name_beside_a_resolution m [] r fault h k)
+  one_found _ _ (all_inferred {r = s} {entries = fs} k count are') (one_has_none {r} {entries = es} {b} {place} h are there first) =
+      let same : s.bindings ≡ r.bindings = ap (λ (r : Resolved). r.bindings) (one_resolution m [] s r k h) in
+      let A : List ResolvedBinding → Type 0 = λ bs. AreEntriesOf [] bs fs in
+      absurd (not_all r.bindings es fs b place are there first (count ∙ ap (length {A = ResolvedBinding}) same) (subst A same are'))
+  one_found _ _ (all_inferred h count are) (all_inferred k count' are') = record { one_status = refl; one_text = λ other none. absurd (other refl); one_binding = λ none. absurd (cc) }
+
+-- so far imports declare nothing
+nothing_declared : (files : Files) (file text : List ℕ) (is : List Import) (declared : Declared) → ReadsImports files file text is (Ok declared) → declared ≡ []
+nothing_declared files file text _ _ no_import = refl
 
 module _ (files : Files) (x : List ℕ) where
   one_text : (text : List ℕ) (o p : Outcome) → InfersText files x text o → InfersText files x text p → Agree o p
@@ -104,9 +157,10 @@ module _ (files : Files) (x : List ℕ) where
       let same : m ≡ n = cc in
       let also = one_declared files (module_file x) text n.imports (Ok declared) (Ok others) (subst (λ (l : Module). ReadsImports files (module_file x) text l.imports (Ok declared)) same is) is' in
       let both : declared ≡ others = cc in
-      one_found (module_file x) text n others o p
-      (subst (λ (d : Declared). InfersBindings (module_file x) text n d o) both (subst (λ (l : Module). InfersBindings (module_file x) text l declared o) same found))
-      found'
+      let none : others ≡ [] = nothing_declared files (module_file x) text n.imports others is' in
+      one_found (module_file x) text n o p
+      (subst (λ (d : Declared). InfersBindings (module_file x) text n d o) (both ∙ none) (subst (λ (l : Module). InfersBindings (module_file x) text l declared o) same found))
+      (subst (λ (d : Declared). InfersBindings (module_file x) text n d p) none found')
 
   one_outcome : (o p : Outcome) → Infers files x o → Infers files x p → Agree o p
   one_outcome _ _ (no_text {r} h) (no_text {r = s} k) = let both : Err r ≡ Err s = sym h ∙ k in refusals_agree r s (cc)
@@ -117,14 +171,13 @@ module _ (files : Files) (x : List ℕ) where
       let same : text ≡ other = cc in
       one_text other o p (subst (λ t. InfersText files x t o) same found) found'
 
--- the status and the text of two answers
-abbrev AreAlike : (status other : Status) (text said : List ℕ) → Type 0
-AreAlike status other text said = (status ≡ other) × (status ≢ Done → text ≡ said)
-
 told_alike : (o p : Outcome) (status other : Status) (text said : List ℕ) → Agree o p → status ≡ outcome_status o → text ≡ outcome_text o
     → other ≡ outcome_status p → said ≡ outcome_text p → AreAlike status other text said
 told_alike o p status other text said agree s t s' t' =
-    (s ∙ agree.0 ∙ sym s', λ h. t ∙ agree.1 (λ e. h (s ∙ e)) ∙ sym t')
+    subst (λ (s : Status). AreAlike s other text said) (sym s)
+    (subst (λ (s : Status). AreAlike (outcome_status o) s text said) (sym s')
+    (subst (λ t. AreAlike (outcome_status o) (outcome_status p) t said) (sym t)
+    (subst (λ t. AreAlike (outcome_status o) (outcome_status p) (outcome_text o) t) (sym t') agree)))
 
 one_command : (files : Files) (command : Command) (status other : Status) (text said : List ℕ) → IsAnswerOf files command status text → IsAnswerOf files command other said
     → AreAlike status other text said
@@ -132,7 +185,7 @@ one_command files _ status other text said (infer x o found s t) (infer _ p foun
     told_alike o p status other text said (one_outcome files x o p found found') s t s' t'
 
 pub one_answer : OneAnswer
-one_answer files words _ _ _ _ (no_command h) (no_command k) = (refl, λ _. refl)
+one_answer files words _ _ _ _ (no_command h) (no_command k) = record { one_status = refl; one_text = λ _ _. refl; one_binding = λ is. absurd (cc) }
 one_answer files words _ other _ said (no_command h) (of_command command k answer) = absurd (cc)
 one_answer files words status _ text _ (of_command command h answer) (no_command k) = absurd (cc)
 one_answer files words status other text said (of_command command h answer) (of_command command' k answer') =

@@ -4,12 +4,12 @@ use Rattle.std.specs.Prelude.{Option, Some, None}
 use Rattle.mls_base.specs.Files.{Files}
 use Rattle.mls_io.specs.Sinks.{Written, TakesNone}
 use Rattle.mls_top.specs.declared.status.Status.{Status}
-use Rattle.mls_top.specs.declared.status.Status.TheVariants.{Done, BadText, NoFile, ReadFault, WriteFault, Memory, Usage, TooLong}
+use Rattle.mls_top.specs.declared.status.Status.TheVariants.{Done, NoScheme, BadText, NoFile, ReadFault, WriteFault, Memory, Usage, TooLong}
 use Rattle.mls_top.specs.declared.command.Command.{Command}
 use Rattle.mls_top.specs.Statuses.{is_cut, is_answer}
 use Rattle.mls_top.specs.Commands.{command_of}
 use Rattle.mls_top.specs.Lines.{usage_line}
-use Rattle.mls_top.specs.Refusals.{no_file, too_long, bad_text}
+use Rattle.mls_top.specs.Refusals.{no_file, too_long, bad_text, no_scheme}
 use Rattle.mls_top.specs.Outcomes.{Outcome, refused, signed, outcome_status, IsInferred}
 use Rattle.mls_top.specs.Answers.{IsAnswer, no_command, of_command, IsAnswerOf, IsAnswerFor}
 use Rattle.mls_top.specs.Runs.{IsAnswered, IsCutOff, IsRunOver, IsRun}
@@ -21,6 +21,7 @@ outcome_is_answer : (o : Outcome) → is_answer (outcome_status o) ≡ true
 outcome_is_answer (refused (no_file file)) = refl
 outcome_is_answer (refused (too_long file limit)) = refl
 outcome_is_answer (refused (bad_text file text place number words)) = refl
+outcome_is_answer (refused (no_scheme file text place x kind)) = refl
 outcome_is_answer (signed entries) = refl
 
 pub inferred_is_answer : (x text said : List ℕ) (status : Status) → IsInferred x text status said → is_answer status ≡ true
@@ -29,6 +30,7 @@ inferred_is_answer x text said status i = ap is_answer i.status_is ∙ outcome_i
 -- it is not cut off
 pub answer_not_cut : (s : Status) → is_answer s ≡ true → is_cut s ≡ false
 answer_not_cut Done h = refl
+answer_not_cut NoScheme h = refl
 answer_not_cut BadText h = refl
 answer_not_cut NoFile h = refl
 answer_not_cut ReadFault h = absurd (cc)
@@ -41,6 +43,7 @@ module _ (words : List (List ℕ)) (old new : Written) where
   -- a run that was not cut off has written an answer
   whole_run : (files : Files) (status : Status) → is_cut status ≡ false → IsAnswered files words old new status → IsRunOver files words old new status
   whole_run files Done h a = a
+  whole_run files NoScheme h a = a
   whole_run files BadText h a = a
   whole_run files NoFile h a = a
   whole_run files ReadFault h a = absurd (cc)

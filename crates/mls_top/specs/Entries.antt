@@ -4,12 +4,20 @@ use Rattle.std.specs.Prelude.{Some, IsTrue}
 use Rattle.std.specs.List.{list_all, flat_map}
 use Rattle.std.specs.FinMap as env
 use Rattle.mls_base.specs.Spelling.{IsName}
+use Rattle.mls_book.specs.Schemes as book
+use Rattle.mls_book.specs.Schemes.{AreEquivalent}
 use Rattle.mls_term.specs.declared.term.ResolvedBinding.{ResolvedBinding}
+use Rattle.mls_term.specs.declared.term.TermNode.{TermNode}
 use Rattle.mls_term.specs.Terms.{TermTree, postorder}
 use Rattle.mls_term.specs.Derivations.{Known, IsBest}
+use Rattle.mls_term.specs.WellFormed.{IsFirstNone}
 use Rattle.mls_typetext.specs.declared.scheme.ReadScheme.{ReadScheme}
 use Rattle.mls_typetext.specs.Schemes.{scheme_of, environment}
 use Rattle.mls_typetext.specs.Texts.{IsTypeText}
+use Rattle.mls_automaton.specs.declared.scheme.Scheme.{Scheme}
+use Rattle.mls_automaton.specs.Schemes.{IsScheme, IsSchemeOf}
+use Rattle.mls_shape.specs.Simplified.{IsSimplified}
+use Rattle.mls_print.specs.Printed.{IsPrinted}
 
 -- a declaration of an interface: a name, and what its type is read as
 pub record Declaration : Type 0 where
@@ -48,8 +56,16 @@ is_plain byte = not (byte == 10) && not (byte == 35)
 abbrev pub IsPlain : List ℕ → Type 0
 IsPlain text = IsTrue (list_all is_plain text)
 
+-- the text is printed of a simplified scheme, which is equivalent to what the text is read as
+pub record IsSimplyPrinted (text : List ℕ) (read : ReadScheme) : Type 0 where
+  pub scheme : Scheme
+  pub is : IsScheme scheme
+  pub simplified : IsSimplified scheme
+  pub printed : IsPrinted scheme text
+  pub equivalent : (t : book.Scheme) → IsSchemeOf scheme t → AreEquivalent (scheme_of read) t
+
 -- the entry is one for the binding behind earlier entries: its text is a type, which is read as the most general scheme
--- of the binding's term
+-- of the binding's term, and it is printed of a simplified one
 pub record IsEntryOf (declared : Declared) (earlier : List Entry) (b : ResolvedBinding) (e : Entry) : Type 0 where
   pub name : e.x ≡ b.name
   pub is_name : IsName e.x
@@ -58,6 +74,18 @@ pub record IsEntryOf (declared : Declared) (earlier : List Entry) (b : ResolvedB
   pub term_tree : TermTree
   pub nodes : b.term.nodes ≡ postorder 0 term_tree
   pub best : IsBest (known_after declared earlier) term_tree (scheme_of e.read)
+  pub printed : IsSimplyPrinted e.text e.read
+
+-- The first node in postorder of the binding's term that has no scheme behind earlier entries has this place; each name
+-- that a let binds around it has a most general scheme there.
+pub record HasFirstNone (declared : Declared) (earlier : List Entry) (b : ResolvedBinding) (place : ℕ) : Type 0 where
+  pub term_tree : TermTree
+  pub nodes : b.term.nodes ≡ postorder 0 term_tree
+  pub number : ℕ
+  pub first : IsFirstNone (known_after declared earlier).globals term_tree number
+  pub node : TermNode
+  pub stands : slice_get b.term.nodes number ≡ Some node
+  pub place_is : place ≡ node.at
 
 -- entry k is one for binding k behind the first k entries
 abbrev pub AreEntriesOf : Declared → List ResolvedBinding → List Entry → Type 0

@@ -5,6 +5,10 @@ use Rattle.mls_grammar.specs.declared.fault.Fault.{Fault}
 use Rattle.mls_grammar.specs.declared.fault.Fault.TheVariants.{BadByte, BigNumber, Unexpected, Ended, TooDeep}
 use Rattle.mls_grammar.specs.declared.fault.Fault.TheVariants.{DuplicateBinding, DuplicateLabel, DuplicateImport}
 use Rattle.mls_grammar.specs.declared.fault.Fault.TheVariants.{UnknownName, NotBuilt, Memory}
+use Rattle.mls_automaton.specs.declared.automaton.HeadKind.{HeadKind}
+use Rattle.mls_automaton.specs.declared.automaton.HeadKind.TheVariants as head
+use Rattle.mls_infer.specs.declared.fault.SiteKind.{SiteKind}
+use Rattle.mls_infer.specs.declared.fault.SiteKind.TheVariants.{Unlike, Lacks}
 
 abbrev pub usage_line : List ℕ
 usage_line = codes "usage: mlsub COMMAND OPERANDS\n"
@@ -47,8 +51,28 @@ fault_text (DuplicateImport at) = codes "module imported twice"
 fault_text (NotBuilt at) = codes "not built yet"
 fault_text Memory = []
 
+-- FILE:LINE:COLUMN
+abbrev pub place_text : List ℕ → (line column : ℕ) → List ℕ
+place_text file line column = file ++ codes ":" ++ decimal line ++ codes ":" ++ decimal column
+
 -- FILE:LINE:COLUMN: fault NUMBER: TEXT
 abbrev pub fault_line : List ℕ → (line column number : ℕ) → List ℕ → List ℕ
 fault_line file line column number text =
-    file ++ codes ":" ++ decimal line ++ codes ":" ++ decimal column ++ codes ": fault " ++ decimal number ++ codes ": "
-    ++ text ++ codes "\n"
+    place_text file line column ++ codes ": fault " ++ decimal number ++ codes ": " ++ text ++ codes "\n"
+
+-- what is said of a part of a type
+abbrev pub head_text : HeadKind → List ℕ
+head_text head.Bool = codes "bool"
+head_text head.Int = codes "int"
+head_text head.Function = codes "a function"
+head_text head.Rcd = codes "a record"
+
+-- why an expression has no scheme: `X where Y is expected`, or `a record without the field LABEL`
+abbrev pub kind_text : SiteKind → List ℕ
+kind_text (Unlike there wanted) = head_text there ++ codes " where " ++ head_text wanted ++ codes " is expected"
+kind_text (Lacks label) = codes "a record without the field " ++ label
+
+-- FILE:LINE:COLUMN: no scheme for BINDING: KIND
+abbrev pub no_scheme_line : List ℕ → (line column : ℕ) → List ℕ → SiteKind → List ℕ
+no_scheme_line file line column x kind =
+    place_text file line column ++ codes ": no scheme for " ++ x ++ codes ": " ++ kind_text kind ++ codes "\n"

@@ -1,20 +1,21 @@
 -- What is found when a module's signature is asked for: stage by stage, up to the first that refuses.
-use Rattle.std.specs.Prelude.{◌≡◌, ℕ, List, [], ◌∷◌, length, Result, Ok, Err}
+use Rattle.std.specs.Prelude.{◌≡◌, ℕ, List, [], ◌∷◌, length, slice_get, Some, Result, Ok, Err}
 use Rattle.mls_base.specs.Files.{Files}
 use Rattle.mls_grammar.specs.declared.module.Module.{Module}
 use Rattle.mls_grammar.specs.declared.module.Import.{Import}
 use Rattle.mls_term.specs.declared.term.Resolved.{Resolved}
+use Rattle.mls_term.specs.declared.term.ResolvedBinding.{ResolvedBinding}
 use Rattle.mls_grammar.specs.declared.fault.Fault.{Fault}
 use Rattle.mls_grammar.specs.declared.fault.Fault.TheVariants.{NotBuilt}
 use Rattle.mls_grammar.specs.Modules.{IsModuleText}
 use Rattle.mls_grammar.specs.FirstFaults.{HasFirstFault}
 use Rattle.mls_names.specs.Resolution.{Resolves, HasUnknownName}
-use Rattle.mls_names.specs.Unbuilt.{IsBuilt, IsLeastUnbuilt}
+use Rattle.mls_infer.specs.declared.fault.SiteKind.{SiteKind}
 use Rattle.mls_top.specs.declared.status.Status.{Status}
 use Rattle.mls_top.specs.declared.status.Status.TheVariants.{Done}
 use Rattle.mls_top.specs.Lines.{module_file}
-use Rattle.mls_top.specs.Refusals.{Refusal, for_fault, text_at, refusal_status, refusal_text}
-use Rattle.mls_top.specs.Entries.{Declared, declared_names, Entry, AreEntriesOf, signature_text}
+use Rattle.mls_top.specs.Refusals.{Refusal, no_scheme, for_fault, text_at, refusal_status, refusal_text}
+use Rattle.mls_top.specs.Entries.{Declared, declared_names, Entry, AreEntriesOf, HasFirstNone, signature_text}
 
 -- the most bytes that the text of a module may have
 abbrev pub module_limit : ℕ
@@ -44,10 +45,13 @@ pub data InfersBindings (file text : List ℕ) (m : Module) (declared : Declared
   -- a name has no meaning
   unknown_name : {fault : Fault} → HasUnknownName m (declared_names declared) fault
       → InfersBindings file text m declared (refused (for_fault file text fault))
-  -- a node has a form for which nothing is inferred so far
-  unbuilt : {r : Resolved} {at : ℕ} → Resolves m (declared_names declared) r → IsLeastUnbuilt r at
-      → InfersBindings file text m declared (refused (for_fault file text (NotBuilt at)))
-  all_inferred : {r : Resolved} {entries : List Entry} → Resolves m (declared_names declared) r → IsBuilt r
+  -- Some bindings have entries, and the one behind them has no scheme. Which kind is told of it is left open: what a
+  -- kind says of an expression is not defined yet.
+  one_has_none : {r : Resolved} {entries : List Entry} {b : ResolvedBinding} {place : ℕ} {kind : SiteKind}
+      → Resolves m (declared_names declared) r → AreEntriesOf declared r.bindings entries
+      → slice_get r.bindings (length entries) ≡ Some b → HasFirstNone declared entries b place
+      → InfersBindings file text m declared (refused (no_scheme file text place b.name kind))
+  all_inferred : {r : Resolved} {entries : List Entry} → Resolves m (declared_names declared) r
       → length entries ≡ length r.bindings → AreEntriesOf declared r.bindings entries
       → InfersBindings file text m declared (signed entries)
 

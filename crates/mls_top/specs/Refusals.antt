@@ -4,8 +4,10 @@ use Rattle.mls_base.specs.Files.{Files, bytes_at}
 use Rattle.mls_lexer.specs.Tokens.{line_of, column_of}
 use Rattle.mls_grammar.specs.declared.fault.Fault.{Fault}
 use Rattle.mls_top.specs.declared.status.Status.{Status}
-use Rattle.mls_top.specs.declared.status.Status.TheVariants.{BadText, NoFile, TooLong}
+use Rattle.mls_top.specs.declared.status.Status.TheVariants.{NoScheme, BadText, NoFile, TooLong}
+use Rattle.mls_infer.specs.declared.fault.SiteKind.{SiteKind}
 use Rattle.mls_top.specs.Lines.{not_found_line, too_long_line, fault_line, fault_number, fault_text, fault_place}
+use Rattle.mls_top.specs.Lines.{no_scheme_line}
 
 pub data Refusal : Type 0 where
   -- there is no such file
@@ -14,6 +16,8 @@ pub data Refusal : Type 0 where
   too_long : (file : List ℕ) (limit : ℕ) → Refusal
   -- the text of the file has a fault at this place, which has a number and words
   bad_text : (file text : List ℕ) (place number : ℕ) (words : List ℕ) → Refusal
+  -- the binding of this name in the text of the file has no scheme, by the expression at this place, for this reason
+  no_scheme : (file text : List ℕ) (place : ℕ) (x : List ℕ) (kind : SiteKind) → Refusal
 
 -- the refusal of a text for a fault of modules
 abbrev pub for_fault : (file text : List ℕ) → Fault → Refusal
@@ -35,9 +39,12 @@ abbrev pub refusal_status : Refusal → Status
 refusal_status (no_file file) = NoFile
 refusal_status (too_long file limit) = TooLong
 refusal_status (bad_text file text place number words) = BadText
+refusal_status (no_scheme file text place x kind) = NoScheme
 
 abbrev pub refusal_text : Refusal → List ℕ
 refusal_text (no_file file) = not_found_line file
 refusal_text (too_long file limit) = too_long_line file limit
 refusal_text (bad_text file text place number words) =
     fault_line file (line_of text place) (column_of text place) number words
+refusal_text (no_scheme file text place x kind) =
+    no_scheme_line file (line_of text place) (column_of text place) x kind

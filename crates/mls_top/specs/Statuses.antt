@@ -1,12 +1,13 @@
 -- The exit codes.
 use Rattle.std.specs.Prelude.{ℕ, Bool, true, false}
 use Rattle.mls_top.specs.declared.status.Status.{Status}
-use Rattle.mls_top.specs.declared.status.Status.TheVariants.{Done, BadText, NoFile, ReadFault, WriteFault, Memory}
-use Rattle.mls_top.specs.declared.status.Status.TheVariants.{Usage, TooLong}
+use Rattle.mls_top.specs.declared.status.Status.TheVariants.{Done, NoScheme, BadText, NoFile, ReadFault, WriteFault}
+use Rattle.mls_top.specs.declared.status.Status.TheVariants.{Memory, Usage, TooLong}
 
 -- the exit code of each status
 abbrev pub code_of : Status → ℕ
 code_of Done = 0
+code_of NoScheme = 1
 code_of BadText = 3
 code_of NoFile = 4
 code_of ReadFault = 5
@@ -25,6 +26,7 @@ is_cut _ = false
 -- a status of an answer of a command
 abbrev pub is_answer : Status → Bool
 is_answer Done = true
+is_answer NoScheme = true
 is_answer BadText = true
 is_answer NoFile = true
 is_answer TooLong = true

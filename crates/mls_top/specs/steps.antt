@@ -1,4 +1,3 @@
 -- What the functions of the crate do one step at a time. No public clause cites it.
 pub mod Answering
-pub mod Chains
 pub mod Fetching

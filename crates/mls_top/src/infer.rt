@@ -1,27 +1,28 @@
 //! The signature of a module, as a function of the module's text. No store and no sink is in scope here.
-ghost use Rattle.std.specs.Prelude.{◌≡◌, ◌≢◌, ◌≤◌, length, IfOk};
+ghost use Rattle.std.specs.Prelude.{◌≡◌, ◌≢◌, ◌≤◌, ℕ, length, IfOk};
 ghost use Rattle.mls_top.specs.Lines.{module_file, fault_place};
 ghost use Rattle.mls_base.specs.Files.{Files};
 ghost use Rattle.mls_top.specs.Outcomes.{IsInferred, InfersText, refused};
-ghost use Rattle.mls_top.specs.Refusals.{for_fault};
+ghost use Rattle.mls_top.specs.Refusals.{for_fault, no_scheme};
 
 use crate::answer::Answer;
-use crate::lines::{fault_line, fault_number, fault_place, fault_text, module_file};
-use crate::signature::signature;
+use crate::lines::{
+    fault_line, fault_number, fault_place, fault_text, module_file, no_scheme_line,
+};
+use crate::signature::{NoSignature, signature};
 use crate::status::Status;
 use mls_base::memory::Memory;
 use mls_book::name::Name;
+use mls_infer::fault::SiteKind;
 use mls_lexer::place::locate;
 use mls_syntax::parse::{Fault, parse_module};
 use mls_syntax::resolve::resolve;
-use mls_syntax::unbuilt::first_unbuilt;
 use std::alloc::Global;
 
-/// The answer of `infer` for the module of this name with this text: its signature, or the fault for which it has none.
+/// The answer of `infer` for the module of this name with this text: its signature, the first binding that has no
+/// scheme, or the first fault of the text.
 ///
-/// So far types are inferred for modules without imports, of functions, names that they bind, numbers and truth values.
-/// Every other module is refused by `NotBuilt` at its first import or, once its names are looked up, at the first
-/// expression of another form.
+/// So far no interface is read: a module with an import is refused by `NotBuilt` at its first import.
 pub fn infer(alloc: Global, name: &Name, text: &[u8]) -> Result<Answer, Memory>
     ensures { IfOk result (λ answer. IsInferred name.now text.now answer.status answer.text.items) }
 {
@@ -36,12 +37,43 @@ pub fn infer(alloc: Global, name: &Name, text: &[u8]) -> Result<Answer, Memory>
         Ok(resolved) => resolved,
         Err(fault) => return bad_text(alloc, name, text, fault),
     };
-    if let Some(at) = first_unbuilt(&resolved) {
-        return bad_text(alloc, name, text, Fault::NotBuilt(at));
+    match signature(alloc, resolved.bindings.as_slice()) {
+        Ok(text) => Ok(Answer {
+            status: Status::Done,
+            text,
+        }),
+        Err(NoSignature::NoScheme(number, site)) => {
+            let Some(binding) = resolved.bindings.as_slice().get(number) else {
+                unreachable!()
+            };
+            let Some(node) = binding.term.nodes.as_slice().get(site.node) else {
+                unreachable!()
+            };
+            without_scheme(alloc, name, text, node.at, &binding.name, &site.kind)
+        }
+        Err(NoSignature::Memory) => Err(Memory),
     }
+}
+
+// The answer for a text whose binding of this name has no scheme, by the expression at this place, for this reason.
+fn without_scheme(
+    alloc: Global,
+    name: &Name,
+    text: &[u8],
+    at: usize,
+    binding: &Name,
+    kind: &SiteKind,
+) -> Result<Answer, Memory>
+    requires found { (files : Files) → InfersText files name.now text.now
+        (refused (no_scheme (module_file name.now) text.now at binding.now kind.now)) }
+    requires within { at ≤ length text.now }
+    ensures { IfOk result (λ answer. IsInferred name.now text.now answer.status answer.text.items) }
+{
+    let file = module_file(alloc, name)?;
+    let line = no_scheme_line(alloc, file.as_str(), locate(text, at), binding, kind)?;
     Ok(Answer {
-        status: Status::Done,
-        text: signature(alloc, &resolved)?,
+        status: Status::NoScheme,
+        text: line,
     })
 }
 

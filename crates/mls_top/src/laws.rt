@@ -1,12 +1,13 @@
 //! Laws of answers, each the contract of a function that does nothing.
 ghost use Rattle.mls_top.specs.Laws.{OneAnswer, AnswerExists, EachIsOneLine, OperatorsStandFirst};
 
-/// Two answers of the same words over the same files have one status, and where it is not Done one text.
+/// Two answers of the same words over the same files have one status. Where it is NoScheme they tell of one binding at
+/// one place, and where it is neither that nor Done they have one text.
 pub fn one_answer()
     ensures { OneAnswer }
 {}
 
-/// All words have an answer over all files.
+/// All words have an answer over all files, or ask for types of a module without imports whose names have meanings.
 pub fn answer_exists()
     ensures { AnswerExists }
 {}

@@ -10,4 +10,5 @@ mod lines;
 pub mod run;
 mod signature;
 pub mod status;
+mod types;
 mod writing;

@@ -1,10 +1,11 @@
 //! The lines of refusals.
-ghost use Rattle.std.specs.Prelude.{◌≡◌, string_bytes, IfOk};
+ghost use Rattle.std.specs.Prelude.{◌≡◌, ◌++◌, string_bytes, IfOk, OnOk};
 ghost use Rattle.mls_top.specs.Lines.{module_file, not_found_line, too_long_line, fault_line, fault_number, fault_text};
-ghost use Rattle.mls_top.specs.Lines.{fault_place};
+ghost use Rattle.mls_top.specs.Lines.{fault_place, head_text, kind_text, no_scheme_line, place_text};
 
 use mls_base::memory::Memory;
 use mls_book::name::Name;
+use mls_infer::fault::{HeadKind, SiteKind};
 use mls_syntax::parse::Fault;
 use std::alloc::Global;
 
@@ -109,15 +110,80 @@ pub fn fault_line(
     ensures { IfOk result (λ text. text.items ≡ fault_line file.now place.0 place.1 number said.now) }
 {
     let mut text = Vec::new(alloc);
-    text.extend_from_slice(file.as_bytes())?;
-    text.extend_from_slice(b":")?;
-    text.extend_from_slice(place.0.to_string(alloc)?.as_bytes())?;
-    text.extend_from_slice(b":")?;
-    text.extend_from_slice(place.1.to_string(alloc)?.as_bytes())?;
+    add_place(alloc, &mut text, file, place)?;
     text.extend_from_slice(b": fault ")?;
     text.extend_from_slice(number.to_string(alloc)?.as_bytes())?;
     text.extend_from_slice(b": ")?;
     text.extend_from_slice(said.as_bytes())?;
     text.extend_from_slice(b"\n")?;
     Ok(text)
+}
+
+/// The line of a binding of a file's text that has no scheme, with the line and column of its first expression that has
+/// none, and why it has none.
+pub fn no_scheme_line(
+    alloc: Global,
+    file: &str,
+    place: (usize, usize),
+    binding: &Name,
+    kind: &SiteKind,
+) -> Result<Vec<u8>, Memory>
+    ensures { IfOk result (λ text. text.items ≡ no_scheme_line file.now place.0 place.1 binding.now kind.now) }
+{
+    let mut text = Vec::new(alloc);
+    add_place(alloc, &mut text, file, place)?;
+    text.extend_from_slice(b": no scheme for ")?;
+    text.extend_from_slice(binding.bytes())?;
+    text.extend_from_slice(b": ")?;
+    add_kind(&mut text, kind)?;
+    text.extend_from_slice(b"\n")?;
+    Ok(text)
+}
+
+// Adds why an expression has no scheme.
+fn add_kind(text: &mut Vec<u8>, kind: &SiteKind) -> Result<(), Memory>
+    ensures { OnOk result (text.new.items ≡ text.old.items ++ kind_text kind.now) }
+{
+    match kind {
+        SiteKind::Unlike(there, wanted) => {
+            text.extend_from_slice(head_text(there))?;
+            text.extend_from_slice(b" where ")?;
+            text.extend_from_slice(head_text(wanted))?;
+            text.extend_from_slice(b" is expected")?;
+        }
+        SiteKind::Lacks(label) => {
+            text.extend_from_slice(b"a record without the field ")?;
+            text.extend_from_slice(label.bytes())?;
+        }
+    }
+    Ok(())
+}
+
+// What is said of a part of a type.
+fn head_text(head: &HeadKind) -> &'static [u8]
+    ensures { result.now ≡ head_text head.now }
+{
+    match head {
+        HeadKind::Bool => b"bool",
+        HeadKind::Int => b"int",
+        HeadKind::Function => b"a function",
+        HeadKind::Rcd => b"a record",
+    }
+}
+
+// Adds a place of a file: its line and its column.
+fn add_place(
+    alloc: Global,
+    text: &mut Vec<u8>,
+    file: &str,
+    place: (usize, usize),
+) -> Result<(), Memory>
+    ensures { OnOk result (text.new.items ≡ text.old.items ++ place_text file.now place.0 place.1) }
+{
+    text.extend_from_slice(file.as_bytes())?;
+    text.extend_from_slice(b":")?;
+    text.extend_from_slice(place.0.to_string(alloc)?.as_bytes())?;
+    text.extend_from_slice(b":")?;
+    text.extend_from_slice(place.1.to_string(alloc)?.as_bytes())?;
+    Ok(())
 }

@@ -25,7 +25,8 @@ const USAGE: &[u8] = b"usage: mlsub COMMAND OPERANDS\n";
 /// without the program's own name.
 ///
 /// The whole answer is computed first, and then written with one put for each line; no fetch comes after the first
-/// put. The command is `infer NAME`: it reads `NAME.ml` and prints the signature of the module.
+/// put. The command is `infer NAME`: it reads `NAME.ml` and prints the signature of the module, or its first binding
+/// that has no scheme, or its first fault.
 pub fn run<S: Store, K: Sink>(
     alloc: Global,
     words: &Vec<String>,
@@ -91,6 +92,7 @@ mod tests {
     use mls_base::memory::Memory;
     use mls_io::memory::{FileEntry, SureSink, SureStore};
     use mls_io::store::Fetch;
+    use std::process::Abort;
     use std::test::Fail;
 
     // A sink that takes so many pieces, and then fails.
@@ -182,6 +184,7 @@ mod tests {
         for (text, printed, code) in [
             ("let id = fun x -> x", "val id : a -> a\n", 0),
             ("", "", 0),
+            ("let e = {}", "val e : {}\n", 0),
             ("# nothing", "", 0),
             ("let n = 9223372036854775807", "val n : int\n", 0),
             ("let k = fun x -> fun y -> x", "val k : a -> top -> a\n", 0),
@@ -244,29 +247,356 @@ mod tests {
                 "import k\nimport k",
                 "main.ml:2:8: fault 9: module imported twice\n",
             ),
-            ("let a = 1 2", "main.ml:1:9: fault 20: not built yet\n"),
             ("import k", "main.ml:1:8: fault 20: not built yet\n"),
             (
                 "import k let a = b",
                 "main.ml:1:8: fault 20: not built yet\n",
             ),
             (
-                "let a = 1\nlet b = a",
-                "main.ml:2:9: fault 20: not built yet\n",
+                "import k let a = 1 2",
+                "main.ml:1:8: fault 20: not built yet\n",
             ),
             (
-                "let f = fun x -> x 1\nlet g = y",
+                "let f = 1 2\nlet g = y",
                 "main.ml:2:9: fault 6: unknown name\n",
-            ),
-            (
-                "let f = fun x -> (x + 1) (x x)",
-                "main.ml:1:18: fault 20: not built yet\n",
             ),
         ] {
             let (said, code) = inferred(rt.alloc(), text.as_bytes())?;
             assert_eq!(rt; said.as_slice(), printed.as_bytes(), "{text}");
             assert_eq!(rt; code, 3, "{text}");
         }
+        Ok(())
+    }
+
+    // Expressions, one of each form.
+    const FORMS: [&str; 9] = [
+        "fun x -> x",
+        "(fun x -> x) 1",
+        "{a = 1, b = true}",
+        "{a = 1}.a",
+        "if true then 1 else false",
+        "let k = fun x -> x in k k",
+        "rec f -> fun x -> f x",
+        "1 + 2",
+        "{}",
+    ];
+
+    // What may stand around an expression, by the forms.
+    const AROUND: [(&str, &str); 10] = [
+        ("fun x -> (", ")"),
+        ("(fun y -> y) (", ")"),
+        ("{l = (", ")}"),
+        ("{l = (", ")}.l"),
+        ("if true then (", ") else 1"),
+        ("if false then 1 else (", ")"),
+        ("let z = (", ") in z"),
+        ("let z = 1 in (", ")"),
+        ("let u = (", ") in 1"),
+        ("rec g -> (", ")"),
+    ];
+
+    // The text of one binding, with these parts one after another.
+    fn binding_of(alloc: Global, parts: &[&str]) -> Result<String, Memory> {
+        let mut text = String::new(alloc);
+        text.push_str("let a = ")?;
+        for part in parts {
+            text.push_str(part)?;
+        }
+        Ok(text)
+    }
+
+    #[test]
+    fn infers_each_form_alone_and_inside_each(rt: HostRuntime) -> Result<(), Fail> {
+        let alloc = rt.alloc();
+        for form in FORMS {
+            let alone = binding_of(alloc, &[form])?;
+            let (_, code) = inferred(alloc, alone.as_bytes())?;
+            assert_eq!(rt; code, 0, "{form}");
+            for (front, back) in AROUND {
+                let text = binding_of(alloc, &[front, form, back])?;
+                let (_, code) = inferred(alloc, text.as_bytes())?;
+                assert_eq!(rt; code, 0, "{front}{form}{back}");
+            }
+        }
+        Ok(())
+    }
+
+    #[test]
+    fn tells_the_first_expression_without_a_scheme_inside_each_form(
+        rt: HostRuntime,
+    ) -> Result<(), Fail> {
+        let alloc = rt.alloc();
+        for (front, back) in AROUND {
+            let text = binding_of(alloc, &[front, "(1 2) (3 4)", back])?;
+            let column = front.len().saturating_add(10);
+            let mut want = String::new(alloc);
+            write!(
+                want,
+                "main.ml:1:{column}: no scheme for a: int where a function is expected\n"
+            )?;
+            let (said, code) = inferred(alloc, text.as_bytes())?;
+            assert_eq!(rt; said.as_slice(), want.as_bytes(), "{front}{back}");
+            assert_eq!(rt; code, 1, "{front}{back}");
+        }
+        Ok(())
+    }
+
+    // Tests the signatures of modules.
+    fn are_signed(rt: &impl Abort, alloc: Global, rows: &[(&str, &str)]) -> Result<(), Memory> {
+        for (text, printed) in rows {
+            let (said, code) = inferred(alloc, text.as_bytes())?;
+            assert_eq!(rt; said.as_slice(), printed.as_bytes(), "{text}");
+            assert_eq!(rt; code, 0, "{text}");
+        }
+        Ok(())
+    }
+
+    #[test]
+    fn infers_modules(rt: HostRuntime) -> Result<(), Fail> {
+        let rows = [
+            (
+                "let twice = fun f -> fun x -> f (f x)",
+                "val twice : (a | b -> a) -> b -> a\n",
+            ),
+            ("let self = fun x -> x x", "val self : a & (a -> b) -> b\n"),
+            (
+                "let pick = fun b -> if b then 1 else true",
+                "val pick : bool -> bool | int\n",
+            ),
+            ("let rec f = fun x -> f", "val f : rec a. top -> a\n"),
+            (
+                "let get = fun r -> {a = r, b = r.a}",
+                "val get : a & {a: b} -> {a: a, b: b}\n",
+            ),
+            (
+                "let p = let i = fun x -> x in {a = i 1, b = i true}",
+                "val p : {a: int, b: bool}\n",
+            ),
+            (
+                "let q = fun x -> let y = x in y + 1",
+                "val q : int -> int\n",
+            ),
+            (
+                "let s = fun x -> let f = fun y -> x in fun x -> f x",
+                "val s : a -> top -> a\n",
+            ),
+            ("let w = (fun x -> x x) (fun x -> x x)", "val w : bot\n"),
+            (
+                "let fix = fun f -> (fun x -> f (x x)) (fun x -> f (x x))",
+                "val fix : (a -> a) -> a\n",
+            ),
+            (
+                "let n = fun b -> if b then b else false",
+                "val n : bool -> bool\n",
+            ),
+            (
+                "let comp = fun f -> fun g -> fun x -> f (g x)",
+                "val comp : (a -> b) -> (c -> a) -> c -> b\n",
+            ),
+            // A let whose scheme has an environment, used twice.
+            (
+                "let s = fun x -> let f = fun y -> {a = x, b = y} in {p = f 1, q = f true}",
+                "val s : a -> {p: {a: a, b: int}, q: {a: a, b: bool}}\n",
+            ),
+            (
+                "let t = fun x -> let f = fun y -> x in {p = f 1 + 1, q = if f 1 then 1 else 2}",
+                "val t : bool & int -> {p: int, q: int}\n",
+            ),
+            // A recursion that does not use itself, and one that is nothing else.
+            ("let r = rec f -> 1", "val r : int\n"),
+            ("let r = rec f -> f", "val r : bot\n"),
+        ];
+        are_signed(&rt, rt.alloc(), rows.as_slice())?;
+        Ok(())
+    }
+
+    #[test]
+    fn infers_bindings_behind_others(rt: HostRuntime) -> Result<(), Fail> {
+        let rows = [
+            (
+                "let id = fun x -> x let p = {a = id 1, b = id true} let n = p.a + 1",
+                "val id : a -> a\nval p : {a: int, b: bool}\nval n : int\n",
+            ),
+            (
+                "let x = 1 let y = fun x -> x let z = x + 1",
+                "val x : int\nval y : a -> a\nval z : int\n",
+            ),
+            (
+                "let a = let x = 1 in let x = true in if x then 1 else 2",
+                "val a : int\n",
+            ),
+            (
+                "let f = fun x -> fun x -> x + 1 let g = f true 1",
+                "val f : top -> int -> int\nval g : int\n",
+            ),
+            (
+                "let rec count = fun n -> if n < 1 then 0 else count (n - 1) let c = count 3 == 0",
+                "val count : int -> int\nval c : bool\n",
+            ),
+            (
+                "let pair = fun x -> fun y -> {fst = x, snd = y} let p = pair 1 true let b = if p.snd then p.fst else 0",
+                "val pair : a -> b -> {fst: a, snd: b}\nval p : {fst: int, snd: bool}\nval b : int\n",
+            ),
+        ];
+        are_signed(&rt, rt.alloc(), rows.as_slice())?;
+        Ok(())
+    }
+
+    // Tests the lines of modules that have a binding without a scheme.
+    fn are_refused(rt: &impl Abort, alloc: Global, rows: &[(&str, &str)]) -> Result<(), Memory> {
+        for (text, printed) in rows {
+            let (said, code) = inferred(alloc, text.as_bytes())?;
+            assert_eq!(rt; said.as_slice(), printed.as_bytes(), "{text}");
+            assert_eq!(rt; code, 1, "{text}");
+        }
+        Ok(())
+    }
+
+    #[test]
+    fn tells_each_kind_of_a_clash(rt: HostRuntime) -> Result<(), Fail> {
+        let rows = [
+            (
+                "let bad = {a = 1}.b",
+                "main.ml:1:19: no scheme for bad: a record without the field b\n",
+            ),
+            (
+                "let bad = 1 2",
+                "main.ml:1:11: no scheme for bad: int where a function is expected\n",
+            ),
+            (
+                "let bad = true + 1",
+                "main.ml:1:16: no scheme for bad: bool where int is expected\n",
+            ),
+            (
+                "let a = true 1",
+                "main.ml:1:9: no scheme for a: bool where a function is expected\n",
+            ),
+            (
+                "let a = {} 1",
+                "main.ml:1:9: no scheme for a: a record where a function is expected\n",
+            ),
+            (
+                "let a = 1.l",
+                "main.ml:1:11: no scheme for a: int where a record is expected\n",
+            ),
+            (
+                "let a = true.l",
+                "main.ml:1:14: no scheme for a: bool where a record is expected\n",
+            ),
+            (
+                "let a = (fun x -> x).l",
+                "main.ml:1:22: no scheme for a: a function where a record is expected\n",
+            ),
+            (
+                "let a = if 1 then 2 else 3",
+                "main.ml:1:9: no scheme for a: int where bool is expected\n",
+            ),
+            (
+                "let a = if {} then 2 else 3",
+                "main.ml:1:9: no scheme for a: a record where bool is expected\n",
+            ),
+            (
+                "let a = if fun x -> x then 2 else 3",
+                "main.ml:1:9: no scheme for a: a function where bool is expected\n",
+            ),
+            (
+                "let a = 1 < {}",
+                "main.ml:1:11: no scheme for a: a record where int is expected\n",
+            ),
+            (
+                "let a = 1 == (fun x -> x)",
+                "main.ml:1:11: no scheme for a: a function where int is expected\n",
+            ),
+        ];
+        are_refused(&rt, rt.alloc(), rows.as_slice())?;
+        Ok(())
+    }
+
+    #[test]
+    fn tells_clashes_of_uses(rt: HostRuntime) -> Result<(), Fail> {
+        let rows = [
+            (
+                "let a = (fun x -> x + 1) true",
+                "main.ml:1:9: no scheme for a: bool where int is expected\n",
+            ),
+            (
+                "let a = (fun f -> f 1) 2",
+                "main.ml:1:9: no scheme for a: int where a function is expected\n",
+            ),
+            (
+                "let a = (fun r -> r.l) {k = 1}",
+                "main.ml:1:9: no scheme for a: a record without the field l\n",
+            ),
+            (
+                "let a = (fun b -> if b then 1 else 2) 3",
+                "main.ml:1:9: no scheme for a: int where bool is expected\n",
+            ),
+            (
+                "let a = (if true then 1 else false) + 1",
+                "main.ml:1:37: no scheme for a: bool where int is expected\n",
+            ),
+            (
+                "let a = (if true then {l = 1} else {}).l",
+                "main.ml:1:40: no scheme for a: a record without the field l\n",
+            ),
+            (
+                "let rec f = fun x -> f + 1",
+                "main.ml:1:5: no scheme for f: a function where int is expected\n",
+            ),
+            (
+                "let a = {l = rec f -> fun x -> f.k}",
+                "main.ml:1:14: no scheme for a: a function where a record is expected\n",
+            ),
+            (
+                "let a = let f = fun x -> x + 1 in f true",
+                "main.ml:1:35: no scheme for a: bool where int is expected\n",
+            ),
+            (
+                "let a = let u = 1 2 in 3",
+                "main.ml:1:17: no scheme for a: int where a function is expected\n",
+            ),
+            (
+                "let a = fun x -> let f = fun y -> x + y in {p = f 1, q = f true}",
+                "main.ml:1:58: no scheme for a: bool where int is expected\n",
+            ),
+            (
+                "let a = let k = let j = {} 1 in 2 in 3 4",
+                "main.ml:1:25: no scheme for a: a record where a function is expected\n",
+            ),
+        ];
+        are_refused(&rt, rt.alloc(), rows.as_slice())?;
+        Ok(())
+    }
+
+    #[test]
+    fn tells_the_first_binding_without_a_scheme(rt: HostRuntime) -> Result<(), Fail> {
+        let rows = [
+            (
+                "let ok = 1\nlet bad = ok ok",
+                "main.ml:2:11: no scheme for bad: int where a function is expected\n",
+            ),
+            (
+                "let one = 1 2\nlet two = {} 1",
+                "main.ml:1:11: no scheme for one: int where a function is expected\n",
+            ),
+            (
+                "let x = true let f = fun x -> x + 1 let z = x + 1",
+                "main.ml:1:47: no scheme for z: bool where int is expected\n",
+            ),
+            (
+                "let id = fun x -> x\nlet n = id 1\n\nlet b = n.l",
+                "main.ml:4:11: no scheme for b: int where a record is expected\n",
+            ),
+            (
+                "let f = fun x -> x + 1 let g = fun b -> f b let h = g true",
+                "main.ml:1:53: no scheme for h: bool where int is expected\n",
+            ),
+            (
+                "let get = fun r -> r.l let no = get {k = 1}",
+                "main.ml:1:33: no scheme for no: a record without the field l\n",
+            ),
+        ];
+        are_refused(&rt, rt.alloc(), rows.as_slice())?;
         Ok(())
     }
 

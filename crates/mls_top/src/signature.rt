@@ -1,89 +1,93 @@
-//! The signature of resolved bindings.
-ghost use Rattle.std.specs.Prelude.{◌≡◌, ◌++◌, All, IfOk, OnOk, reverse};
-ghost use Rattle.mls_names.specs.Resolution.{HasChain};
-ghost use Rattle.mls_top.specs.steps.Answering.{IsSignature, AddsEntry};
-ghost use Rattle.mls_top.specs.steps.Chains.{used_by, is_used, domain_text, piece_text, type_text, leaf_use};
+//! The signature of resolved bindings. Each binding's type is inferred where the names of those before it mean what
+//! their printed types are read as.
+ghost use Rattle.std.specs.Prelude.{◌≡◌, ◌++◌, length, IfOk, IfErr, OnOk};
+ghost use Rattle.mls_term.specs.WellFormed.{IsTerm};
+ghost use Rattle.mls_names.specs.ResolutionLaws.{AreTerms};
+ghost use Rattle.mls_infer.specs.Inference.{AreNames, IsFirstWithout};
+ghost use Rattle.mls_top.specs.steps.Answering.{IsSignatureText, HasNoSignature, at_binding, AddsEntry, line_of};
 
+use crate::types::{operators, type_of};
 use mls_base::memory::Memory;
-use mls_syntax::term::{Resolved, ResolvedBinding, TermForm, TermNode};
+use mls_infer::fault::{InferFault, Site};
+use mls_infer::infer::{Names, infer};
+use mls_print::print::print_scheme;
+use mls_syntax::term::ResolvedBinding;
 use std::alloc::Global;
 
-/// The text of the signature of bindings that are chains of functions.
-pub fn signature(alloc: Global, resolved: &Resolved) -> Result<Vec<u8>, Memory>
-    requires { All HasChain resolved.now.bindings }
-    ensures { IfOk result (λ text. IsSignature resolved.now.bindings text.items) }
+/// Why bindings have no signature.
+#[derive(Drop)]
+pub enum NoSignature {
+    /// The binding of this number has no scheme, and those before it have entries.
+    NoScheme(usize, Site),
+    /// Memory was wanting.
+    Memory,
+}
+
+impl From<Memory> for NoSignature {
+    ghost use Rattle.mls_top.specs.declared.signature.NoSignature.TheVariants.{Memory as WantOfMemory};
+
+    ghost from_gives = { λ _ e. e ≡ WantOfMemory };
+
+    fn from(_e: Memory) -> NoSignature {
+        NoSignature::Memory
+    }
+}
+
+/// The text of the signature of bindings, or the first of them that has no scheme.
+pub fn signature(alloc: Global, bindings: &[ResolvedBinding]) -> Result<Vec<u8>, NoSignature>
+    requires { AreTerms 5 bindings.now }
+    ensures text { IfOk result (λ text. IsSignatureText bindings.now text.items) }
+    ensures fault { IfErr result (HasNoSignature bindings.now) }
 {
+    let mut names = operators(alloc)?;
     let mut text = Vec::new(alloc);
-    for binding in resolved.bindings.as_slice() {
-        add_entry(&mut text, binding)?;
+    for (number, binding) in bindings.iter().enumerate() {
+        if let Err(fault) = add_entry(alloc, &mut names, &mut text, binding) {
+            return Err(at_binding(number, fault));
+        }
     }
     Ok(text)
 }
 
-// Adds the line of a binding's entry.
-fn add_entry(text: &mut Vec<u8>, binding: &ResolvedBinding) -> Result<(), Memory>
-    requires { HasChain binding.now }
-    ensures { OnOk result (AddsEntry text.old.items text.new.items binding.now) }
+// Why bindings have no signature, where inference of the binding of this number ended so.
+fn at_binding(number: usize, fault: InferFault) -> NoSignature
+    ensures { result ≡ at_binding number fault }
+{
+    match fault {
+        InferFault::NoScheme(site) => NoSignature::NoScheme(number, site),
+        InferFault::Memory => NoSignature::Memory,
+    }
+}
+
+// Adds the line of a binding's entry, and to the names what its type is read as.
+fn add_entry(
+    alloc: Global,
+    names: &mut Names,
+    text: &mut Vec<u8>,
+    binding: &ResolvedBinding,
+) -> Result<(), InferFault>
+    requires names { AreNames names.now }
+    requires term { IsTerm (length names.now.schemes) binding.now.term.nodes binding.now.term.binders
+        binding.now.term.lets }
+    ensures added { OnOk result (AddsEntry names.old names.new text.old.items text.new.items binding.now) }
+    ensures fault { IfErr result (IsFirstWithout names.old binding.now.term) }
+{
+    let scheme = infer(alloc, names, &binding.term)?;
+    let printed = print_scheme(alloc, &scheme)?;
+    let read = type_of(alloc, printed.as_slice())?;
+    add_line(text, binding.name.bytes(), printed.as_slice())?;
+    names.schemes.push(read)?;
+    Ok(())
+}
+
+// Adds the line of an entry.
+fn add_line(text: &mut Vec<u8>, name: &[u8], printed: &[u8]) -> Result<(), Memory>
+    ensures { OnOk result (text.new.items ≡ text.old.items ++ line_of name.now printed.now) }
 {
     text.extend_from_slice(b"val ")?;
-    text.extend_from_slice(binding.name.bytes())?;
+    text.extend_from_slice(name)?;
     text.extend_from_slice(b" : ")?;
-    add_type(text, binding.term.nodes.as_slice())?;
+    text.extend_from_slice(printed)?;
     text.extend_from_slice(b"\n")?;
     Ok(())
-}
-
-// Adds the text of the type of a chain.
-fn add_type(text: &mut Vec<u8>, nodes: &[TermNode]) -> Result<(), Memory>
-    ensures { OnOk result (text.new.items ≡ text.old.items ++ type_text (leaf_use nodes.now) (reverse nodes.now)) }
-{
-    let used = leaf_use(nodes);
-    for node in nodes.iter().rev() {
-        add_piece(text, used, &node.form)?;
-    }
-    Ok(())
-}
-
-// The binder that the leaf of a chain uses.
-fn leaf_use(nodes: &[TermNode]) -> Option<usize>
-    ensures { result ≡ leaf_use nodes.now }
-{
-    match nodes.first() {
-        None => None,
-        Some(leaf) => used_by(&leaf.form),
-    }
-}
-
-// The binder that a leaf uses.
-fn used_by(form: &TermForm) -> Option<usize>
-    ensures { result ≡ used_by form.now }
-{
-    match form {
-        TermForm::Bound(binder) => Some(*binder),
-        _ => None,
-    }
-}
-
-// Adds what a node adds to the text of a type, where this binder is used.
-fn add_piece(text: &mut Vec<u8>, used: Option<usize>, form: &TermForm) -> Result<(), Memory>
-    ensures { OnOk result (text.new.items ≡ text.old.items ++ piece_text used form.now) }
-{
-    match form {
-        TermForm::Fun(binder, _) => {
-            text.extend_from_slice(domain(used, *binder))?;
-            text.extend_from_slice(b" -> ")?;
-        }
-        TermForm::Bound(_) => text.extend_from_slice(b"a")?,
-        TermForm::Number(_) => text.extend_from_slice(b"int")?,
-        TermForm::Truth(_) => text.extend_from_slice(b"bool")?,
-        _ => {}
-    }
-    Ok(())
-}
-
-// The text of the domain of a function that binds this number.
-fn domain(used: Option<usize>, binder: usize) -> &'static [u8]
-    ensures { result.now ≡ domain_text (is_used used binder) }
-{
-    if used == Some(binder) { b"a" } else { b"top" }
 }

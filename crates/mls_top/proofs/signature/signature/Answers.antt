@@ -1,18 +1,22 @@
-use Rattle.std.proofs.Common.{◌≡◌, ℕ, ◌+◌, ◌<◌, List, ◌++◌, ◌∷◌, [], length, take, get_or, sym, ap, ◌∙◌, subst}
-use Rattle.std.proofs.lemmas.List.{take_more}
-use Rattle.mls_term.specs.declared.term.ResolvedBinding.{ResolvedBinding}
-use Rattle.mls_top.specs.steps.Answering.{IsSignature, AddsEntry}
-use Rattle.mls_top.proofs.Entries.{signature-append}
+use Rattle.std.proofs.Common.{sym, subst}
+use Rattle.mls_top.specs.steps.Answering.{HasNoSignature}
+use Rattle.mls_top.proofs.Entries.{binding_at, term_at, failed_at, one_more}
 use Rattle.mls_top.proofs.signature.signature.Goals as goal
 
--- the signature of the bindings up to this one
-one_more : (bs : List ResolvedBinding) (i : ℕ) (b : ResolvedBinding) (text more : List ℕ) → i < length bs → b ≡ get_or bs i b
-    → IsSignature (take i bs) text → AddsEntry text more b → IsSignature (take (i + 1) bs) more
-one_more bs i b text more below is s a =
-    let P : List ResolvedBinding → Type 0 = λ front. IsSignature front more in
-    subst P (ap (λ x. take i bs ++ x ∷ []) is ∙ sym (take_more bs i b below)) (signature-append (take i bs) text more b s a)
+pub add_entry-requires-clause-term : goal.add_entry-requires-clause-term
+add_entry-requires-clause-term c =
+    let there = binding_at c.args.bindings.now c.loop-number.number c.index-bindings-number.result c.loop-number-test.true c.index-bindings-number.is in
+    term_at c.args.bindings.now c.loop-number.number c.index-bindings-number.result c.loop-number.names c.loop-number.text.items c.requires there c.loop-number.invariant
 
-pub loop-binding-preserved : goal.loop-binding-preserved
-loop-binding-preserved c =
-    one_more c.as_slice-binding-items.result.now c.loop-binding.binding-index c.binding-item.result c.loop-binding.text.items c.add_entry.new.text.items
-    c.loop-binding-test.true c.binding-item.is c.loop-binding.invariant c.in_ok-add_entry.ensures
+pub returns-in-Err-clause-fault : goal.returns-in-Err-clause-fault
+returns-in-Err-clause-fault c =
+    let there = binding_at c.args.bindings.now c.loop-number.number c.index-bindings-number.result c.loop-number-test.true c.index-bindings-number.is in
+    subst (HasNoSignature c.args.bindings.now) (sym c.at_binding.ensures)
+    (failed_at c.args.bindings.now c.loop-number.number c.index-bindings-number.result c.loop-number.names c.loop-number.text.items c.in-Err.fault c.requires there c.loop-number.invariant
+    c.in-Err.ensures.fault)
+
+pub loop-number-preserved : goal.loop-number-preserved
+loop-number-preserved c =
+    let there = binding_at c.args.bindings.now c.loop-number.number c.index-bindings-number.result c.loop-number-test.true c.index-bindings-number.is in
+    one_more c.args.bindings.now c.loop-number.number c.index-bindings-number.result c.loop-number.names c.add_entry.new.names c.loop-number.text.items c.add_entry.new.text.items there
+    c.loop-number.invariant c.in_default.ensures.added
