@@ -1,0 +1,15 @@
+pub mod Countering
+pub mod Refuting
+pub mod Walking
+pub mod Completing
+pub mod Searching
+pub mod Worked
+pub mod Queues
+pub mod Visits
+pub mod Targeting
+pub mod Exploring
+pub mod Following
+pub mod HeadReasons
+pub mod FirstFailures
+pub mod AskedFlows
+pub mod SplitWalks

@@ -1,0 +1,15 @@
+//! Which scheme over an automaton subsumes which.
+//!
+//! Pairs of a general and a special state are searched from the roots on, breadth first, so the first pair that fails
+//! is at the end of the first path.
+#![tactic(auto)]
+
+mod explore;
+mod flows;
+mod labels;
+mod queue;
+mod reasons;
+pub mod subsume;
+#[cfg(test)]
+mod tests;
+pub mod verdict;
