@@ -1,0 +1,9 @@
+pub mod Yields
+pub mod TokenTerminals
+pub mod Fronts
+pub mod GrammarSteps
+pub mod PassedOn
+pub mod InterfaceLaws
+pub mod DeclarationsRead
+pub mod NamesNoted
+pub mod Widths

@@ -1,0 +1,5 @@
+pub mod Declarations
+pub mod Faults
+pub mod Interfaces
+pub mod Laws
+pub mod steps
