@@ -1,112 +1,33 @@
-//! Small automata for the tests.
-use crate::goal::{Goal, is_state};
-use mls_automaton::automaton::{Arms, Automaton, FieldSet, FieldSets, Head, Polarity, State};
-use mls_automaton::state_set::{StateId, StateSet};
+//! Automata and goals from short texts, for the tests.
+ghost use Rattle.std.specs.Prelude.{IfOk};
+ghost use Rattle.mls_automaton.specs.Models.{IsClosed};
+
+use crate::goal::Goal;
+use mls_automaton::automaton::Automaton;
+use mls_automaton::sample::automaton_of;
+use mls_automaton::state_set::StateId;
 use mls_base::memory::Memory;
-use mls_base::spelling::is_name;
-use mls_book::name::Name;
 use std::alloc::Global;
 use std::process::Abort;
 
-// A set of states.
-pub fn set(alloc: Global, members: &[usize]) -> Result<StateSet, Memory> {
-    let mut set = StateSet::new(alloc);
-    for member in members {
-        set.insert(StateId(*member))?;
+// The automaton of a text, which is one.
+pub fn sample(rt: &impl Abort, alloc: Global, text: &str) -> Result<Automaton, Memory>
+    ensures { IfOk result IsClosed }
+{
+    match automaton_of(alloc, text)? {
+        Some(a) => Ok(a),
+        None => panic!(rt; "no automaton: {text}"),
     }
-    Ok(set)
 }
 
-// A head with a function.
-pub fn function(alloc: Global, domain: &[usize], codomain: &[usize]) -> Result<Head, Memory> {
-    let mut head = Head::empty();
-    head.function = Some(Arms {
-        domain: set(alloc, domain)?,
-        codomain: set(alloc, codomain)?,
-    });
-    Ok(head)
-}
-
-// A head with a record.
-pub fn record(rt: &impl Abort, alloc: Global, fields: &[(&str, &[usize])]) -> Result<Head, Memory> {
-    let mut all = FieldSets::new(alloc);
-    for (label, members) in fields {
-        assert!(rt; is_name(label.as_bytes()));
-        all.push(FieldSet {
-            label: Name::new(alloc, label.as_bytes())?,
-            set: set(alloc, members)?,
-        })?;
-    }
-    let mut head = Head::empty();
-    head.fields = Some(all);
-    Ok(head)
-}
-
-// A head with `int`.
-pub fn int() -> Head {
-    let mut head = Head::empty();
-    head.integer = true;
-    head
-}
-
-// A head with `bool`.
-pub fn boolean() -> Head {
-    let mut head = Head::empty();
-    head.boolean = true;
-    head
-}
-
-// An automaton whose first states have these heads, the positive ones first, with edges from negative to positive ones.
-pub fn automaton<const P: usize, const N: usize>(
-    rt: &impl Abort,
-    alloc: Global,
-    positives: [Head; P],
-    negatives: [Head; N],
-    edges: &[(usize, usize)],
-) -> Result<Automaton, Memory> {
-    let mut a = Automaton::new(alloc);
-    for head in Vec::from_array(alloc, positives)? {
-        a.state(Polarity::Positive, head)?;
-    }
-    for head in Vec::from_array(alloc, negatives)? {
-        a.state(Polarity::Negative, head)?;
-    }
-    add_edges(rt, &mut a, edges)?;
-    Ok(a)
-}
-
-// An automaton of these states and edges.
-pub fn in_order<const N: usize>(
-    rt: &impl Abort,
-    alloc: Global,
-    states: [State; N],
-    edges: &[(usize, usize)],
-) -> Result<Automaton, Memory> {
-    let mut a = Automaton::new(alloc);
-    for state in Vec::from_array(alloc, states)? {
-        a.state(state.polarity, state.head)?;
-    }
-    add_edges(rt, &mut a, edges)?;
-    Ok(a)
-}
-
-fn add_edges(rt: &impl Abort, a: &mut Automaton, edges: &[(usize, usize)]) -> Result<(), Memory> {
-    for (negative, positive) in edges {
-        let (negative, positive) = (StateId(*negative), StateId(*positive));
-        assert!(rt; is_state(a, negative, Polarity::Negative));
-        assert!(rt; is_state(a, positive, Polarity::Positive));
-        a.add_flow(negative, positive)?;
-    }
-    Ok(())
-}
-
-// The goals between these states.
-pub fn goals_of(alloc: Global, pairs: &[(usize, usize)]) -> Result<Vec<Goal>, Memory> {
+// The goals of a text: `0<2` is one from the positive state 0 to the negative state 2.
+pub fn goals_of(alloc: Global, text: &str) -> Result<Vec<Goal>, Memory> {
     let mut goals = Vec::new(alloc);
-    for (positive, negative) in pairs {
+    for word in text.split_whitespace() {
+        let (positive, negative) = word.split_once('<').unwrap_or(("", ""));
         goals.push(Goal {
-            positive: StateId(*positive),
-            negative: StateId(*negative),
+            positive: StateId(positive.parse::<usize>().unwrap_or(0)),
+            negative: StateId(negative.parse::<usize>().unwrap_or(0)),
         })?;
     }
     Ok(goals)

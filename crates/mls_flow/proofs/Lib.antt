@@ -14,7 +14,6 @@ pub mod Using
 pub mod Worked
 pub mod Matching
 pub mod Needed
-pub mod Labels
 pub mod Numbers
 pub mod Claimed
 pub mod Tabled

@@ -1,14 +1,13 @@
 //! What pairs of states need.
-ghost use Rattle.std.specs.Prelude.{◌≡◌, option_map, ◌↔◌, ◌∷◌, [], true, false, IfOk, IfSome, IsTrue, Some, None};
-ghost use Rattle.mls_automaton.specs.Heads.{AreRising, set_at};
+ghost use Rattle.std.specs.Prelude.{◌≡◌, ◌↔◌, ◌∷◌, [], true, false, IfOk, IfSome, IsTrue, Some, None};
+ghost use Rattle.mls_automaton.specs.Heads.{AreRising};
 ghost use Rattle.mls_automaton.specs.Models.{HasRisingLabels, HasSingleArms, HasSingleFields, IsSingle};
 ghost use Rattle.mls_flow.specs.Needs.{HasCommonBase, field_need, function_needs, has_all, record_needs};
 
 use mls_automaton::automaton::{Arms, FieldSet, FieldSets, Flow, Head};
-use mls_automaton::state_set::StateSet;
+use mls_automaton::lookup::set_of;
 use mls_base::list::List;
 use mls_base::memory::Memory;
-use mls_book::name::Name;
 use std::alloc::Global;
 
 /// Whether the two heads have a common base type.
@@ -117,16 +116,5 @@ fn field_need(fields: &[FieldSet], other: &FieldSet) -> Option<Flow>
             negative: set.get(0),
             positive: other.set.get(0),
         }),
-    }
-}
-
-// The set of the field with this label, by a search among labels that rise.
-fn set_of<'a>(fields: &'a [FieldSet], label: &Name) -> Option<&'a StateSet>
-    requires { AreRising fields.now }
-    ensures { option_map (λ set. set.now) result ≡ set_at fields.now label.now }
-{
-    match fields.binary_search_by(|field| field.label.cmp(label)) {
-        Ok(at) => Some(&fields[at].set),
-        Err(_) => None,
     }
 }

@@ -1,263 +1,122 @@
 use super::saturate;
-use crate::goal::{Clash, ClashKind, Goal, HeadKind, are_goals};
+use crate::goal::{Clash, are_goals};
 use crate::room::Room;
-use crate::samples::{automaton, boolean, function, goals_of, int, record};
-use mls_automaton::automaton::{Automaton, Head, Polarity};
+use crate::samples::{goals_of, sample};
 use mls_automaton::state_set::StateId;
 use mls_base::memory::Memory;
 use std::alloc::Global;
 use std::process::Abort;
 use std::test::Fail;
 
-// Saturates, and finds this answer and these pairs.
-fn check(
-    rt: &impl Abort,
-    alloc: Global,
-    a: &Automaton,
-    pairs: &[(usize, usize)],
-    answer: Result<(), Clash>,
-    related: &[(usize, usize)],
-) -> Result<(), Memory> {
-    let goals = goals_of(alloc, pairs)?;
-    let mut room = Room::new(alloc, a.len(), a.len())?;
-    assert!(rt; a.is_closed());
-    assert!(rt; room.fits(a));
-    assert!(rt; are_goals(a, goals.as_slice()));
-    let found = saturate(&mut room, a, goals.as_slice());
-    assert!(rt; found == answer);
-    let mut held = Vec::new(alloc);
-    for positive in 0..a.len() {
-        for negative in 0..a.len() {
-            if room.holds(StateId(positive), StateId(negative)) {
-                held.push((positive, negative))?;
+// Writes the pairs of states below this number that the room holds.
+fn show_pairs(line: &mut String, room: &Room, states: usize) -> Result<(), Memory> {
+    for p in 0..states {
+        for n in 0..states {
+            if room.holds(StateId(p), StateId(n)) {
+                write!(line, " {p}<{n}")?;
             }
         }
     }
-    assert!(rt; held.as_slice() == related);
     Ok(())
 }
 
-fn clash(positive: usize, negative: usize, kind: ClashKind) -> Result<(), Clash> {
-    Err(Clash {
-        positive: StateId(positive),
-        negative: StateId(negative),
-        kind,
-    })
-}
-
-// Each rule alone, by one goal.
-#[test]
-fn rules(rt: HostRuntime) -> Result<(), Fail> {
-    let alloc = rt.alloc();
-    let none = || Head::empty();
-    // No goal; a goal between states without heads; the same goal twice.
-    let a = automaton(&rt, alloc, [none()], [none()], &[])?;
-    check(&rt, alloc, &a, &[], Ok(()), &[])?;
-    check(&rt, alloc, &a, &[(0, 1)], Ok(()), &[(0, 1)])?;
-    check(&rt, alloc, &a, &[(0, 1), (0, 1)], Ok(()), &[(0, 1)])?;
-    // Domains are related the other way round.
-    let upper = function(alloc, &[3], &[])?;
-    let lower = function(alloc, &[1], &[])?;
-    let a = automaton(&rt, alloc, [upper, none()], [lower, none()], &[])?;
-    check(&rt, alloc, &a, &[(0, 2)], Ok(()), &[(0, 2), (1, 3)])?;
-    // Codomains are related as the functions are, and empty sets give nothing.
-    let upper = function(alloc, &[], &[1])?;
-    let lower = function(alloc, &[1], &[3])?;
-    let a = automaton(&rt, alloc, [upper, none()], [lower, none()], &[])?;
-    check(&rt, alloc, &a, &[(0, 2)], Ok(()), &[(0, 2), (1, 3)])?;
-    // Fields of a label that both have; the positive record may have more.
-    let upper = record(&rt, alloc, &[("a", &[1]), ("b", &[1])])?;
-    let lower = record(&rt, alloc, &[("b", &[3])])?;
-    let a = automaton(&rt, alloc, [upper, none()], [lower, none()], &[])?;
-    check(&rt, alloc, &a, &[(0, 2)], Ok(()), &[(0, 2), (1, 3)])?;
-    // A record without fields.
-    let upper = record(&rt, alloc, &[("a", &[1])])?;
-    let lower = record(&rt, alloc, &[])?;
-    let a = automaton(&rt, alloc, [upper, none()], [lower, none()], &[])?;
-    check(&rt, alloc, &a, &[(0, 2)], Ok(()), &[(0, 2)])?;
+fn show_clash(line: &mut String, clash: &Clash) -> Result<(), Memory> {
+    let (p, n) = (clash.positive.0, clash.negative.0);
+    write!(line, " | {p}<{n} {:?}", clash.kind)?;
     Ok(())
 }
 
-// Edges: one, two in a row, a cycle that meets itself, a pair that two ways give.
+// The pairs that the room holds, and behind them the first clash, if there is one.
+fn saturated(rt: &impl Abort, alloc: Global, text: &str, goals: &str) -> Result<String, Memory> {
+    let a = sample(rt, alloc, text)?;
+    let goals = goals_of(alloc, goals)?;
+    let mut room = Room::new(alloc, a.len(), a.len())?;
+    assert!(rt; room.fits(&a) && are_goals(&a, goals.as_slice()));
+    let answer = saturate(&mut room, &a, goals.as_slice());
+    let mut line = String::new(alloc);
+    show_pairs(&mut line, &room, a.len())?;
+    if let Err(clash) = answer {
+        show_clash(&mut line, &clash)?;
+    }
+    Ok(line)
+}
+
 #[test]
-fn edges(rt: HostRuntime) -> Result<(), Fail> {
-    let alloc = rt.alloc();
-    let none = || Head::empty();
-    // Positive 0 and 1, negative 2 and 3, an edge from 2 to 1.
-    let a = automaton(&rt, alloc, [none(), none()], [none(), none()], &[(2, 1)])?;
-    check(&rt, alloc, &a, &[(0, 2)], Ok(()), &[(0, 2)])?;
-    let all: [(usize, usize); 3] = [(0, 2), (0, 3), (1, 3)];
-    check(&rt, alloc, &a, &[(0, 2), (1, 3)], Ok(()), &all)?;
-    check(&rt, alloc, &a, &[(1, 3), (0, 2)], Ok(()), &all)?;
-    // Two edges in a row: 3 to 1, 4 to 2.
-    let a = automaton(
-        &rt,
-        alloc,
-        [none(), none(), none()],
-        [none(), none(), none()],
-        &[(3, 1), (4, 2)],
-    )?;
-    let all = [(0, 3), (0, 4), (0, 5), (1, 4), (1, 5), (2, 5)];
-    check(&rt, alloc, &a, &[(2, 5), (0, 3), (1, 4)], Ok(()), &all)?;
-    // An edge from the negative state of a pair to its positive one.
-    let a = automaton(&rt, alloc, [none()], [none()], &[(1, 0)])?;
-    check(&rt, alloc, &a, &[(0, 1)], Ok(()), &[(0, 1)])?;
-    // The pair of 0 and 3 by an edge and by a goal.
-    let a = automaton(&rt, alloc, [none(), none()], [none(), none()], &[(2, 1)])?;
-    let all = [(0, 2), (0, 3), (1, 3)];
-    check(&rt, alloc, &a, &[(0, 2), (0, 3), (1, 3)], Ok(()), &all)?;
+fn relates_by_heads_and_edges(rt: HostRuntime) -> Result<(), Fail> {
+    for (text, goals, found) in [
+        // No goal; a goal between states without heads; the same goal twice.
+        ("+ -", "", ""),
+        ("+ -", "0<1", " 0<1"),
+        ("+ -", "0<1 0<1", " 0<1"),
+        // Domains are related the other way round.
+        ("+f3> + -f1> -", "0<2", " 0<2 1<3"),
+        // Codomains are related as the functions are, and empty sets give nothing.
+        ("+f>1 + -f1>3 -", "0<2", " 0<2 1<3"),
+        // Fields of a label that both have; the positive record may have more.
+        ("+{a:1;b:1} + -{b:3} -", "0<2", " 0<2 1<3"),
+        // A record without fields.
+        ("+{a:1} + -{} -", "0<2", " 0<2"),
+        // An edge; the pair of 0 and 3 by an edge and by a goal.
+        ("+ + - - 2~1", "0<2", " 0<2"),
+        ("+ + - - 2~1", "0<2 1<3", " 0<2 0<3 1<3"),
+        ("+ + - - 2~1", "1<3 0<2", " 0<2 0<3 1<3"),
+        ("+ + - - 2~1", "0<2 0<3 1<3", " 0<2 0<3 1<3"),
+        // Two edges in a row.
+        (
+            "+ + + - - - 3~1 4~2",
+            "2<5 0<3 1<4",
+            " 0<3 0<4 0<5 1<4 1<5 2<5",
+        ),
+        // An edge from the negative state of a pair to its positive one.
+        ("+ - 1~0", "0<1", " 0<1"),
+        // Rows of two and of three states meet in all pairs.
+        (
+            "+f>1 +f>0 -f>3 -f>4 -f>2",
+            "0<2",
+            " 0<2 0<3 0<4 1<2 1<3 1<4",
+        ),
+        // The states 4 and 5 have an edge: what the head of state 0 names comes back to state 1.
+        ("+f3>0 +i + - -f1>5 - 5~2", "0<4", " 0<4 0<5 1<3"),
+    ] {
+        let line = saturated(&rt, rt.alloc(), text, goals)?;
+        assert_eq!(rt; line.as_str(), found, "{text}");
+    }
     Ok(())
 }
 
-// Heads that lead back to themselves.
 #[test]
-fn cycles(rt: HostRuntime) -> Result<(), Fail> {
-    let alloc = rt.alloc();
-    // Rows of two and of three states meet in all pairs.
-    let a = automaton(
-        &rt,
-        alloc,
-        [function(alloc, &[], &[1])?, function(alloc, &[], &[0])?],
-        [
-            function(alloc, &[], &[3])?,
-            function(alloc, &[], &[4])?,
-            function(alloc, &[], &[2])?,
-        ],
-        &[],
-    )?;
-    let all = [(0, 2), (0, 3), (0, 4), (1, 2), (1, 3), (1, 4)];
-    check(&rt, alloc, &a, &[(0, 2)], Ok(()), &all)?;
-    // The states 4 and 5 have an edge: what the head of state 0 names comes back to state 1.
-    let a = automaton(
-        &rt,
-        alloc,
-        [function(alloc, &[3], &[0])?, int(), Head::empty()],
-        [Head::empty(), function(alloc, &[1], &[5])?, Head::empty()],
-        &[(5, 2)],
-    )?;
-    check(&rt, alloc, &a, &[(0, 4)], Ok(()), &[(0, 4), (0, 5), (1, 3)])?;
-    Ok(())
-}
-
-// Each kind of clash, and which comes first.
-#[test]
-fn clashes(rt: HostRuntime) -> Result<(), Fail> {
-    let alloc = rt.alloc();
-    let (b, i) = (HeadKind::Bool, HeadKind::Int);
-    let (f, r) = (HeadKind::Function, HeadKind::Rcd);
-    let a = automaton(&rt, alloc, [int()], [function(alloc, &[], &[])?], &[])?;
-    check(
-        &rt,
-        alloc,
-        &a,
-        &[(0, 1)],
-        clash(0, 1, ClashKind::Unlike(i, f)),
-        &[(0, 1)],
-    )?;
-    check(&rt, alloc, &a, &[], Ok(()), &[])?;
-    // Like heads do not clash, nor does a head with none.
-    let a = automaton(&rt, alloc, [int(), boolean()], [int(), Head::empty()], &[])?;
-    check(&rt, alloc, &a, &[(0, 2), (1, 3)], Ok(()), &[(0, 2), (1, 3)])?;
-    let a = automaton(&rt, alloc, [boolean()], [record(&rt, alloc, &[])?], &[])?;
-    check(
-        &rt,
-        alloc,
-        &a,
-        &[(0, 1)],
-        clash(0, 1, ClashKind::Unlike(b, r)),
-        &[(0, 1)],
-    )?;
-    // Of several parts the first of the positive state, and then the first of the negative one.
-    let mut both = int();
-    both.boolean = true;
-    let mut others = function(alloc, &[], &[])?;
-    others.boolean = true;
-    let a = automaton(&rt, alloc, [both], [others], &[])?;
-    check(
-        &rt,
-        alloc,
-        &a,
-        &[(0, 1)],
-        clash(0, 1, ClashKind::Unlike(b, f)),
-        &[(0, 1)],
-    )?;
-    // A label that is lacking: the first in byte order, whose number is told.
-    let upper = record(&rt, alloc, &[("b", &[])])?;
-    let lower = record(&rt, alloc, &[("b", &[]), ("c", &[]), ("d", &[])])?;
-    let a = automaton(&rt, alloc, [upper], [lower], &[])?;
-    check(
-        &rt,
-        alloc,
-        &a,
-        &[(0, 1)],
-        clash(0, 1, ClashKind::Lacks(1)),
-        &[(0, 1)],
-    )?;
-    // Unlike parts come before labels, at whatever states.
-    let a = automaton(
-        &rt,
-        alloc,
-        [record(&rt, alloc, &[])?, record(&rt, alloc, &[])?],
-        [record(&rt, alloc, &[("a", &[])])?, int()],
-        &[],
-    )?;
-    let all = [(0, 2), (1, 3)];
-    check(
-        &rt,
-        alloc,
-        &a,
-        &all,
-        clash(1, 3, ClashKind::Unlike(r, i)),
-        &all,
-    )?;
-    Ok(())
-}
-
-// Of clashes of one kind the one with the least states.
-#[test]
-fn ties(rt: HostRuntime) -> Result<(), Fail> {
-    let alloc = rt.alloc();
-    let kind = ClashKind::Unlike(HeadKind::Int, HeadKind::Bool);
-    let a = automaton(&rt, alloc, [int(), int()], [boolean(), boolean()], &[])?;
-    check(
-        &rt,
-        alloc,
-        &a,
-        &[(1, 2), (0, 3)],
-        clash(0, 3, kind),
-        &[(0, 3), (1, 2)],
-    )?;
-    check(
-        &rt,
-        alloc,
-        &a,
-        &[(1, 3), (1, 2)],
-        clash(1, 2, kind),
-        &[(1, 2), (1, 3)],
-    )?;
-    // Of labels the first in byte order, not the one with the least number.
-    let a = automaton(
-        &rt,
-        alloc,
-        [record(&rt, alloc, &[("a", &[])])?],
-        [
-            record(&rt, alloc, &[("c", &[])])?,
-            record(&rt, alloc, &[("a", &[]), ("b", &[])])?,
-        ],
-        &[],
-    )?;
-    let all = [(0, 1), (0, 2)];
-    check(&rt, alloc, &a, &all, clash(0, 2, ClashKind::Lacks(1)), &all)?;
-    // A clash that an edge brings.
-    let a = automaton(
-        &rt,
-        alloc,
-        [int(), Head::empty()],
-        [Head::empty(), boolean()],
-        &[(2, 1)],
-    )?;
-    let all = [(0, 2), (0, 3), (1, 3)];
-    check(&rt, alloc, &a, &[(0, 2), (1, 3)], clash(0, 3, kind), &all)?;
+fn tells_the_first_clash(rt: HostRuntime) -> Result<(), Fail> {
+    for (text, goals, found) in [
+        ("+i -f>", "0<1", " 0<1 | 0<1 Unlike(Int, Function)"),
+        ("+i -f>", "", ""),
+        // Like heads do not clash, nor does a head with none.
+        ("+i +b -i -", "0<2 1<3", " 0<2 1<3"),
+        ("+b -{}", "0<1", " 0<1 | 0<1 Unlike(Bool, Rcd)"),
+        // Of several parts the first of the positive state, and then the first of the negative one.
+        ("+bi -bf>", "0<1", " 0<1 | 0<1 Unlike(Bool, Function)"),
+        // A label that is lacking: the first in byte order, whose number is told.
+        ("+{b:} -{b:;c:;d:}", "0<1", " 0<1 | 0<1 Lacks(1)"),
+        // Unlike parts come before labels, at whatever states.
+        (
+            "+{} +{} -{a:} -i",
+            "0<2 1<3",
+            " 0<2 1<3 | 1<3 Unlike(Rcd, Int)",
+        ),
+        // Of clashes of one kind the one with the least states.
+        ("+i +i -b -b", "1<2 0<3", " 0<3 1<2 | 0<3 Unlike(Int, Bool)"),
+        ("+i +i -b -b", "1<3 1<2", " 1<2 1<3 | 1<2 Unlike(Int, Bool)"),
+        // Of labels the first in byte order, not the one with the least number.
+        ("+{a:} -{c:} -{a:;b:}", "0<1 0<2", " 0<1 0<2 | 0<2 Lacks(1)"),
+        // A clash that an edge brings.
+        (
+            "+i + - -b 2~1",
+            "0<2 1<3",
+            " 0<2 0<3 1<3 | 0<3 Unlike(Int, Bool)",
+        ),
+    ] {
+        let line = saturated(&rt, rt.alloc(), text, goals)?;
+        assert_eq!(rt; line.as_str(), found, "{text}");
+    }
     Ok(())
 }
 
@@ -265,16 +124,11 @@ fn ties(rt: HostRuntime) -> Result<(), Fail> {
 #[test]
 fn again(rt: HostRuntime) -> Result<(), Fail> {
     let alloc = rt.alloc();
-    let a = automaton(&rt, alloc, [Head::empty()], [Head::empty()], &[])?;
-    let goals = [Goal {
-        positive: StateId(0),
-        negative: StateId(1),
-    }];
+    let a = sample(&rt, alloc, "+ -")?;
+    let goals = goals_of(alloc, "0<1")?;
     let mut room = Room::new(alloc, 1, 1)?;
-    assert!(rt; a.is_closed());
-    assert!(rt; room.fits(&a));
-    assert!(rt; are_goals(&a, &goals));
-    assert!(rt; saturate(&mut room, &a, &goals).is_ok());
+    assert!(rt; room.fits(&a) && are_goals(&a, goals.as_slice()));
+    assert!(rt; saturate(&mut room, &a, goals.as_slice()).is_ok());
     assert!(rt; room.holds(StateId(0), StateId(1)));
     assert!(rt; !room.holds(StateId(1), StateId(0)));
     assert!(rt; !room.holds(StateId(0), StateId(7)));
@@ -283,18 +137,17 @@ fn again(rt: HostRuntime) -> Result<(), Fail> {
     Ok(())
 }
 
-// Appends as many states with a function to the next one, in a ring, or to the one before.
-fn add_ring(
-    a: &mut Automaton,
-    alloc: Global,
-    polarity: Polarity,
+// Writes as many states from this number on, with a function to the next one, in a ring, or to the one before.
+fn write_ring(
+    text: &mut String,
+    sign: char,
+    first: usize,
     count: usize,
     step: usize,
 ) -> Result<(), Memory> {
-    let first = a.len();
     for i in 0..count {
         let next = first.saturating_add(i.saturating_add(step) % count);
-        a.state(polarity, function(alloc, &[], &[next])?)?;
+        write!(text, " {sign}f>{next}")?;
     }
     Ok(())
 }
@@ -304,16 +157,15 @@ fn add_ring(
 #[test]
 fn rings(rt: HostRuntime) -> Result<(), Fail> {
     let alloc = rt.alloc();
-    let mut a = Automaton::new(alloc);
-    add_ring(&mut a, alloc, Polarity::Positive, 500, 1)?;
-    add_ring(&mut a, alloc, Polarity::Positive, 500, 499)?;
-    add_ring(&mut a, alloc, Polarity::Negative, 501, 1)?;
-    add_ring(&mut a, alloc, Polarity::Negative, 501, 500)?;
-    let goals = goals_of(alloc, &[(0, 1000), (500, 1501)])?;
+    let mut text = String::new(alloc);
+    write_ring(&mut text, '+', 0, 500, 1)?;
+    write_ring(&mut text, '+', 500, 500, 499)?;
+    write_ring(&mut text, '-', 1000, 501, 1)?;
+    write_ring(&mut text, '-', 1501, 501, 500)?;
+    let a = sample(&rt, alloc, text.as_str().trim_start())?;
+    let goals = goals_of(alloc, "0<1000 500<1501")?;
     let mut room = Room::new(alloc, 1000, 1002)?;
-    assert!(rt; a.is_closed());
-    assert!(rt; room.fits(&a));
-    assert!(rt; are_goals(&a, goals.as_slice()));
+    assert!(rt; room.fits(&a) && are_goals(&a, goals.as_slice()));
     assert!(rt; saturate(&mut room, &a, goals.as_slice()).is_ok());
     assert!(rt; room.len() == 501000);
     assert!(rt; is_full(&room, (0, 500), (1000, 1501)));

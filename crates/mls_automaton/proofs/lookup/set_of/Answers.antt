@@ -1,8 +1,8 @@
 use Rattle.std.proofs.Common.{◌<◌, sym, length, get_or, rules, of_calls}
 use Rattle.std.proofs.lemmas.Fn.{always_returns_same}
 use Rattle.std.proofs.lemmas.List.{get_or_default}
-use Rattle.mls_flow.proofs.Labels.{label-found, label-lacking, labels-rise, place_of}
-use Rattle.mls_flow.proofs.needs.set_of.Goals as goal
+use Rattle.mls_automaton.proofs.Labels.{label-found, label-lacking, labels-rise, place_of}
+use Rattle.mls_automaton.proofs.lookup.set_of.Goals as goal
 
 pub returns-in-Ok : goal.returns-in-Ok
 returns-in-Ok c =

@@ -2,8 +2,8 @@
 --     labels-rise          the answers of the search rise
 --     label-found          a field that was found is the one at the label
 --     label-lacking        where none was found, there is none
-use Rattle.std.proofs.Common.{◌≡◌, ◌⊎◌, inl, inr, ℕ, ◌<◌, ◌≤◌, List, refl, sym, ap, subst, arith, length, get_or, Some, None}
-use Rattle.std.specs.Prelude.{Option}
+use Rattle.std.proofs.Common.{◌≡◌, ◌⊎◌, inl, inr, ℕ, ◌<◌, ◌≤◌, Bool, true, false, List, [], ◌∷◌, refl, sym, ap, subst, arith, length, get_or, Contains, Some, None}
+use Rattle.std.specs.Prelude.{bytes_eq, cond, find, option_map, Option}
 use Rattle.std.specs.Ordering.{nat_cmp, ordering_index, ordering_reverse}
 use Rattle.std.specs.declared.cmp.Ordering.{Ordering}
 use Rattle.std.specs.declared.cmp.Ordering.TheVariants.{Less, Equal, Greater}
@@ -11,11 +11,12 @@ use Rattle.std.specs.Cmp.Lexicographic.{slice_cmp}
 use Rattle.std.specs.List.Sorted.{IsNonDecreasingBy, IsPartitionPoint}
 use Rattle.std.proofs.lemmas.Bool.{cases_eq, cases_lt}
 use Rattle.std.proofs.lemmas.Cmp.{nat_list_cmp_total}
+use Rattle.std.proofs.lemmas.Slice.Eq.{bytes_eq-Decides}
 use Rattle.mls_automaton.specs.declared.automaton.FieldSet.{FieldSet}
 use Rattle.mls_automaton.specs.Heads.{AreRising, set_at}
 use Rattle.mls_automaton.proofs.CombinedStates.{found_at}
 use Rattle.mls_automaton.proofs.JoinedFields.{equal-labels, rising-less}
-use Rattle.mls_flow.proofs.Fields.{set_at-field}
+use Rattle.mls_automaton.proofs.Lists.{Contains-here, Contains-later}
 
 abbrev compare : List ℕ → List ℕ → Ordering
 compare = slice_cmp nat_cmp
@@ -39,6 +40,15 @@ self-place Greater e = absurd (cc)
 
 at-itself : (field : FieldSet) (label : List ℕ) → field.label ≡ label → place_of label field ≡ Equal
 at-itself field label is = subst (λ l. compare field.label l ≡ Equal) is (self-place (compare field.label field.label) (nat_list_cmp_total.antisymm field.label field.label))
+
+-- where there is a set at the label, there is a field
+set_at-field : (fields : List FieldSet) (label set : List ℕ) → set_at fields label ≡ Some set → (field : FieldSet) × Contains fields field × (field.label ≡ label)
+set_at-field [] label set e = absurd (cc)
+set_at-field (first ∷ rest) label set e = go (bytes_eq first.label label) refl e (set_at-field rest label set)
+  where
+    go : (b : Bool) → bytes_eq first.label label ≡ b → option_map (λ (f : FieldSet). f.set) (cond b (Some first) (find (λ (f : FieldSet). bytes_eq f.label label) rest)) ≡ Some set → (set_at rest label ≡ Some set → (field : FieldSet) × Contains rest field × (field.label ≡ label)) → (field : FieldSet) × Contains (first ∷ rest) field × (field.label ≡ label)
+    go true is e later = (first, Contains-here first rest, (bytes_eq-Decides first.label label).0 is)
+    go false is e later = let it = later e in (it.0, Contains-later first rest it.0 it.1, it.2)
 
 module _ (fields : List FieldSet) (rising : AreRising fields) (label : List ℕ) where
   pub labels-rise : IsNonDecreasingBy (λ field. ordering_index (place_of label field)) fields
