@@ -16,16 +16,16 @@ use Rattle.mls_automaton.proofs.Lists.{All-one}
 use Rattle.mls_scheme.proofs.MetStates.{combined-none}
 use Rattle.mls_scheme.specs.steps.Heads.{HasOneHead}
 
-abbrev SameArms : Arms → Arms → Type 0
+abbrev pub SameArms : Arms → Arms → Type 0
 SameArms f g = IsSameSet f.domain g.domain × IsSameSet f.codomain g.codomain
 
-abbrev Sets : Type 0
+abbrev pub Sets : Type 0
 Sets = List ℕ → Option (List ℕ)
 
-abbrev SameSets : Sets → Sets → Type 0
+abbrev pub SameSets : Sets → Sets → Type 0
 SameSets f g = (label : List ℕ) → IsSameOption IsSameSet (f label) (g label)
 
-set-refl : (xs : List ℕ) → IsSameSet xs xs
+pub set-refl : (xs : List ℕ) → IsSameSet xs xs
 set-refl xs = (λ s it. it, λ s it. it)
 
 set-trans : (xs ys zs : List ℕ) → IsSameSet xs ys → IsSameSet ys zs → IsSameSet xs zs
@@ -40,7 +40,7 @@ set-append xs ys xs' ys' first second = (go xs ys xs' ys' first.0 second.0, go x
       | inr h ↦ Contains-append_right cs ds s (other s h)
     ]
 
-option-refl : {X : Type 0} (Same : X → X → Type 0) → ((x : X) → Same x x) → (o : Option X) → IsSameOption Same o o
+pub option-refl : {X : Type 0} (Same : X → X → Type 0) → ((x : X) → Same x x) → (o : Option X) → IsSameOption Same o o
 option-refl Same each None = tt
 option-refl Same each (Some x) = each x
 
@@ -149,7 +149,7 @@ records-assoc p (Some f) None n = refl
 records-assoc p (Some f) (Some g) None = refl
 records-assoc p (Some f) (Some g) (Some k) = λ i. Some (λ label. sets-assoc p (f label) (g label) (k label) i)
 
-two-assoc : (p : Polarity) (h k l : Parts) → combined_two p h (combined_two p k l) ≡ combined_two p (combined_two p h k) l
+pub two-assoc : (p : Polarity) (h k l : Parts) → combined_two p h (combined_two p k l) ≡ combined_two p (combined_two p h k) l
 two-assoc p h k l = λ i. record {
   boolean = or-assoc h.boolean k.boolean l.boolean i;
   integer = or-assoc h.integer k.integer l.integer i;

@@ -1,7 +1,7 @@
 -- The tops of layers are found one after another.
 --     signing-first, signing-seen, signing-new     the search
 --     signed                                       in the end
-use Rattle.std.proofs.Common.{◌≡◌, ◌⊎◌, inl, inr, ℕ, zero, suc, ◌+◌, ◌<◌, Bool, true, false, List, [], ◌∷◌, ◌++◌, take, refl, sym, ap, ◌∙◌, subst, arith, length, get_or, All, Contains, Some, None, cond}
+use Rattle.std.proofs.Common.{◌≡◌, ◌⊎◌, inl, inr, ℕ, zero, suc, ◌+◌, ◌<◌, ◌≤◌, Bool, true, false, List, [], ◌∷◌, ◌++◌, take, refl, sym, ap, ◌∙◌, subst, arith, length, get_or, All, Contains, Some, None, cond}
 use Rattle.std.specs.Prelude.{Option, is_some, set}
 use Rattle.std.proofs.lemmas.Bool.{cases_eq}
 use Rattle.std.proofs.lemmas.List.{length-append, length-set, get_or-set_same, get_or-set_other}
@@ -17,8 +17,10 @@ use Rattle.mls_automaton.proofs.Lists.{All-contained, All-one, Contains-cases, C
 use Rattle.mls_automaton.proofs.Searches.{next-is}
 use Rattle.mls_scheme.specs.declared.signs.Task.{Task}
 use Rattle.mls_scheme.specs.ReadAutomata.{atoms, IsPolarised, IsPolarisedNode}
-use Rattle.mls_scheme.specs.steps.Signs.{child_tasks, field_tasks, layer_tasks, left_over, load, sign_at, size_of, task, with_sign, AreSigned, IsSigning}
+use Rattle.mls_scheme.specs.steps.Layers.{AreAtoms, AreDifferent}
+use Rattle.mls_scheme.specs.steps.Signs.{child_tasks, field_tasks, layer_tasks, left_over, load, sign_at, size_of, task, with_sign, AddsLayer, AreSigned, IsSigning}
 use Rattle.mls_scheme.proofs.Atoms.{atoms-are}
+use Rattle.mls_scheme.proofs.Layers.{found-low}
 
 tasks-assoc : (xs ys zs : List Task) → (xs ++ ys) ++ zs ≡ xs ++ (ys ++ zs)
 tasks-assoc [] ys zs = refl
@@ -51,6 +53,52 @@ layer-of nodes p (j ∷ rest) t it = elim (Contains-append_cases (child_tasks p 
   | inl here ↦ (j, Contains-here j rest, here)
   | inr there ↦ let found = layer-of nodes p rest t there in (found.0, Contains-later j rest found.0 found.1, found.2)
 ]
+
+pub layer-in : (nodes : List Node) (p : Polarity) (xs : List ℕ) (j : ℕ) (t : Task) → Contains xs j → Contains (child_tasks p (node_at nodes j)) t → Contains (layer_tasks nodes p xs) t
+layer-in nodes p [] j t it child = let none : it.0 < 0 = it.1 in absurd (omega arith)
+layer-in nodes p (k ∷ rest) j t it child = elim (Contains-cases k rest j it) [
+  | inl same ↦ Contains-append_left (child_tasks p (node_at nodes k)) (layer_tasks nodes p rest) t (subst (λ l. Contains (child_tasks p (node_at nodes l)) t) (sym same) child)
+  | inr later ↦ Contains-append_right (child_tasks p (node_at nodes k)) (layer_tasks nodes p rest) t (layer-in nodes p rest j t later child)
+]
+
+-- of more atoms
+layer-within : (nodes : List Node) (p : Polarity) (xs ys : List ℕ) → ((j : ℕ) → Contains xs j → Contains ys j) → (t : Task) → Contains (layer_tasks nodes p xs) t → Contains (layer_tasks nodes p ys) t
+layer-within nodes p xs ys within t it =
+    let found = layer-of nodes p xs t it in
+    layer-in nodes p ys found.0 t (within found.0 found.1) found.2
+
+-- where a number stands
+split : (xs : List ℕ) (x : ℕ) → Contains xs x → (front : List ℕ) × (back : List ℕ) × (xs ≡ front ++ x ∷ back)
+split [] x it = let none : it.0 < 0 = it.1 in absurd (omega arith)
+split (y ∷ rest) x it = elim (Contains-cases y rest x it) [
+  | inl same ↦ ([], rest, (λ i. same i ∷ rest))
+  | inr later ↦ let found = split rest x later in (y ∷ found.0, found.1, ap (λ zs. y ∷ zs) found.2)
+]
+
+-- different atoms among others have no more children
+different-few : (nodes : List Node) (p : Polarity) (xs ys : List ℕ) → AreDifferent xs → ((j : ℕ) → Contains xs j → Contains ys j) → length (layer_tasks nodes p xs) ≤ length (layer_tasks nodes p ys)
+different-few nodes p [] ys different within = omega arith
+different-few nodes p (x ∷ rest) ys different within = go (split ys x (within x (Contains-here x rest))) (λ zs. different-few nodes p rest zs different.1)
+  where
+    go : ((front : List ℕ) × (back : List ℕ) × (ys ≡ front ++ x ∷ back)) → ((zs : List ℕ) → ((j : ℕ) → Contains rest j → Contains zs j) → length (layer_tasks nodes p rest) ≤ length (layer_tasks nodes p zs))
+        → length (layer_tasks nodes p (x ∷ rest)) ≤ length (layer_tasks nodes p ys)
+    go (front, back, is) few =
+        let others : length (layer_tasks nodes p rest) ≤ length (layer_tasks nodes p (front ++ back)) = few (front ++ back) other in
+        let whole : length (layer_tasks nodes p ys) ≡ length (layer_tasks nodes p front ++ layer_tasks nodes p (x ∷ back)) = ap length (ap (layer_tasks nodes p) is ∙ layer-append nodes p front (x ∷ back)) in
+        let a : length (layer_tasks nodes p front ++ layer_tasks nodes p (x ∷ back)) ≡ length (layer_tasks nodes p front) + length (layer_tasks nodes p (x ∷ back)) = length-append (layer_tasks nodes p front) (layer_tasks nodes p (x ∷ back)) in
+        let b : length (layer_tasks nodes p (x ∷ back)) ≡ length (child_tasks p (node_at nodes x)) + length (layer_tasks nodes p back) = length-append (child_tasks p (node_at nodes x)) (layer_tasks nodes p back) in
+        let c : length (layer_tasks nodes p (front ++ back)) ≡ length (layer_tasks nodes p front) + length (layer_tasks nodes p back) = ap length (layer-append nodes p front back) ∙ length-append (layer_tasks nodes p front) (layer_tasks nodes p back) in
+        let e : length (layer_tasks nodes p (x ∷ rest)) ≡ length (child_tasks p (node_at nodes x)) + length (layer_tasks nodes p rest) = length-append (child_tasks p (node_at nodes x)) (layer_tasks nodes p rest) in
+        omega arith
+      where
+        other : (j : ℕ) → Contains rest j → Contains (front ++ back) j
+        other j it = elim (Contains-append_cases front (x ∷ back) j (subst (λ zs. Contains zs j) is (within j (Contains-later x rest j it)))) [
+          | inl before ↦ Contains-append_left front back j before
+          | inr there ↦ elim (Contains-cases x back j there) [
+            | inl same ↦ absurd (different.0 (subst (Contains rest) (sym same) it))
+            | inr behind ↦ Contains-append_right front back j behind
+          ]
+        ]
 
 -- their number
 children-length : (p : Polarity) (x : Node) → length (child_tasks p x) ≡ length (child_tasks Positive x)
@@ -222,10 +270,10 @@ module _ (nodes : List Node) (closed : IsClosedBook nodes) (root : ℕ) where
       | inr other ↦ ap is_some (get_or-set_other signs t.node i (Some t.sign) None other) ∙ e
     ]
 
-    signing-new : is_some (sign_at signs t.node) ≡ false → All (λ j. j < length nodes) (atoms nodes t.node) → IsSigning nodes root new (rest ++ layer_tasks nodes t.sign (atoms nodes t.node))
-    signing-new none atoms-low = record {
+    signing-new : (found : List ℕ) → AreAtoms nodes t.node found → is_some (sign_at signs t.node) ≡ false → All (λ j. j < length nodes) found → IsSigning nodes root new (rest ++ layer_tasks nodes t.sign found)
+    signing-new found are none atoms-low = record {
       size = length-set signs t.node (Some t.sign) ∙ is.size;
-      low = All-append (λ (u : Task). u.node < length nodes) rest more rest-low (layer-low t.sign (atoms nodes t.node) atoms-low);
+      low = All-append (λ (u : Task). u.node < length nodes) rest more rest-low (layer-low t.sign found atoms-low);
       has_root = elim is.has_root [
         | inl it ↦ inl (still root it)
         | inr it ↦ elim (work-cases (task root Positive) it) [
@@ -252,41 +300,43 @@ module _ (nodes : List Node) (closed : IsClosedBook nodes) (root : ℕ) where
       ];
       work_true = λ sign polarised r i p it. elim (Contains-append_cases rest more (task i p) it) [
         | inl before ↦ is.work_true sign polarised r i p (in-work (task i p) before)
-        | inr child ↦ layer-true sign t.sign t.node (task i p) polarised task-low (is.work_true sign polarised r t.node t.sign last-in) child
+        | inr child ↦ layer-true sign t.sign t.node (task i p) polarised task-low (is.work_true sign polarised r t.node t.sign last-in) (layer-within nodes t.sign found (atoms nodes t.node) are.same.0 (task i p) child)
       ];
     }
       where
         more : List Task
-        more = layer_tasks nodes t.sign (atoms nodes t.node)
+        more = layer_tasks nodes t.sign found
 
-        here : (i : ℕ) (p : Polarity) → i ≡ t.node → sign_at new i ≡ Some p → (u : Task) → Contains (layer_tasks nodes p (atoms nodes i)) u → Contains (layer_tasks nodes t.sign (atoms nodes t.node)) u
+        here : (i : ℕ) (p : Polarity) → i ≡ t.node → sign_at new i ≡ Some p → (u : Task) → Contains (layer_tasks nodes p (atoms nodes i)) u → Contains (layer_tasks nodes t.sign found) u
         here i p same e u it =
             let at : Some t.sign ≡ Some p = sym new-same ∙ (ap (sign_at new) (sym same) ∙ e) in
             let equal : t.sign ≡ p = cc in
-            subst (λ q. Contains (layer_tasks nodes q (atoms nodes t.node)) u) (sym equal) (subst (λ j. Contains (layer_tasks nodes p (atoms nodes j)) u) same it)
+            layer-within nodes t.sign (atoms nodes t.node) found are.same.1 u
+            (subst (λ q. Contains (layer_tasks nodes q (atoms nodes t.node)) u) (sym equal) (subst (λ j. Contains (layer_tasks nodes p (atoms nodes j)) u) same it))
 
     -- one step of the search
-    pub signing-next : (signs' : List (Option Polarity)) (work' : List Task) → All (λ j. j < length nodes) (atoms nodes t.node)
+    pub signing-next : (signs' : List (Option Polarity)) (work' : List Task)
         → (is_some (sign_at signs t.node) ≡ true → signs' ≡ signs) → (is_some (sign_at signs t.node) ≡ true → work' ≡ rest)
-        → (is_some (sign_at signs t.node) ≡ false → signs' ≡ with_sign signs t) → (is_some (sign_at signs t.node) ≡ false → work' ≡ rest ++ layer_tasks nodes t.sign (atoms nodes t.node))
+        → (is_some (sign_at signs t.node) ≡ false → signs' ≡ with_sign signs t) → (is_some (sign_at signs t.node) ≡ false → AddsLayer nodes t rest work')
         → IsSigning nodes root signs' work' × (left_over nodes signs' work' < left_over nodes signs work)
-    signing-next signs' work' atoms-low seen seen-work fresh fresh-work = go (is_some (sign_at signs t.node)) refl
+    signing-next signs' work' seen seen-work fresh fresh-work = go (is_some (sign_at signs t.node)) refl
       where
         size : length work ≡ length rest + 1
         size = ap length popped ∙ length-append rest (t ∷ [])
 
-        more : List Task
-        more = layer_tasks nodes t.sign (atoms nodes t.node)
-
         go : (b : Bool) → is_some (sign_at signs t.node) ≡ b → IsSigning nodes root signs' work' × (left_over nodes signs' work' < left_over nodes signs work)
         go true e = rw (seen e, seen-work e) (signing-seen e, (let s = size in omega arith))
         go false e =
+            let found : List ℕ = (fresh-work e).0 in
+            let are : AreAtoms nodes t.node found = (fresh-work e).1 in
+            let more : List Task = layer_tasks nodes t.sign found in
             let s = size in
             let l : load nodes 0 signs ≡ size_of nodes (0 + t.node) + load nodes 0 (with_sign signs t) = load-set nodes 0 signs t.node t.sign low-signs e in
             let m : length (rest ++ more) ≡ length rest + length more = length-append rest more in
-            let n : length more ≡ length (layer_tasks nodes Positive (atoms nodes t.node)) = layer-length nodes t.sign (atoms nodes t.node) in
+            let few : length more ≤ length (layer_tasks nodes t.sign (atoms nodes t.node)) = different-few nodes t.sign found (atoms nodes t.node) are.once are.same.0 in
+            let n : length (layer_tasks nodes t.sign (atoms nodes t.node)) ≡ length (layer_tasks nodes Positive (atoms nodes t.node)) = layer-length nodes t.sign (atoms nodes t.node) in
             let o : size_of nodes (0 + t.node) ≡ size_of nodes t.node = ap (size_of nodes) (let e : 0 + t.node ≡ t.node = omega arith in e) in
-            rw (fresh e, fresh-work e) (signing-new e atoms-low, (omega arith))
+            rw (fresh e, (fresh-work e).2) (signing-new found are e (found-low nodes closed.book t.node found task-low are), (omega arith))
 
   pub signed : (signs : List (Option Polarity)) (work : List Task) → IsSigning nodes root signs work → work ≡ [] → AreSigned nodes root signs
   signed signs work is none = record {

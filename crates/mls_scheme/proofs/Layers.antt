@@ -1,16 +1,15 @@
 -- The atoms of a node are found one after another.
---     look      the next node
---     looked    in the end
-use Rattle.std.proofs.Common.{◌≡◌, ℕ, zero, suc, ◌+◌, ◌-◌, ◌<◌, ◌≤◌, List, [], ◌∷◌, ◌++◌, refl, sym, ap, ◌∙◌, subst, arith, length, get_or, All}
-use Rattle.std.proofs.lemmas.List.{get_or_append_left, length-append}
-use Rattle.std.proofs.Math.Seq.{get_or-append_seam}
-use Rattle.std.proofs.lemmas.List.Elements.{All-append}
+--     look-seen, look-new     the next node
+--     looked                  in the end
+use Rattle.std.proofs.Common.{◌≡◌, ◌⊎◌, inl, inr, ℕ, zero, suc, ◌+◌, ◌-◌, ◌<◌, ◌≤◌, List, [], ◌∷◌, ◌++◌, refl, sym, ap, ◌∙◌, subst, arith, length, get_or, All, Contains}
+use Rattle.std.proofs.lemmas.List.{length-append}
+use Rattle.std.proofs.lemmas.List.Elements.{All-append, All-contains, Contains-append_cases, Contains-append_left, Contains-append_right}
 use Rattle.mls_book.specs.declared.book.Node.{Node}
 use Rattle.mls_book.specs.declared.book.Node.TheVariants as node
 use Rattle.mls_book.specs.Books.{node_at, IsBook, IsOrdered}
-use Rattle.mls_automaton.proofs.Lists.{All-one}
+use Rattle.mls_automaton.proofs.Lists.{All-contained, All-one, Contains-cases, Contains-here, Contains-later}
 use Rattle.mls_scheme.specs.ReadAutomata.{atoms, atoms_below, atoms_step}
-use Rattle.mls_scheme.specs.steps.Layers.{atom_step, atoms_left, left_step, measure, IsLooking}
+use Rattle.mls_scheme.specs.steps.Layers.{atom_step, atoms_left, left_step, measure, AreAtoms, AreDifferent, IsLooking}
 
 append-assoc : (xs ys zs : List ℕ) → (xs ++ ys) ++ zs ≡ xs ++ (ys ++ zs)
 append-assoc [] ys zs = refl
@@ -19,6 +18,118 @@ append-assoc (x ∷ rest) ys zs = ap (λ ws. x ∷ ws) (append-assoc rest ys zs)
 append-none : (xs : List ℕ) → xs ++ [] ≡ xs
 append-none [] = refl
 append-none (x ∷ rest) = ap (λ ws. x ∷ ws) (append-none rest)
+
+empty : (j : ℕ) → Contains [] j → ⊥
+empty j it = let low : it.0 < 0 = it.1 in omega arith
+
+one-is : (i j : ℕ) → Contains (i ∷ []) j → i ≡ j
+one-is i j it = elim (Contains-cases i [] j it) [ inl same ↦ same | inr none ↦ absurd (empty j none) ]
+
+-- what a node is, and what is behind it
+atom-is : (i : ℕ) (x : Node) (j : ℕ) → Contains (atom_step i x) j → i ≡ j
+atom-is i (node.Join k l) j it = absurd (empty j it)
+atom-is i (node.Meet k l) j it = absurd (empty j it)
+atom-is i node.Bot j it = one-is i j it
+atom-is i node.Top j it = one-is i j it
+atom-is i (node.Var v) j it = one-is i j it
+atom-is i node.Bool j it = one-is i j it
+atom-is i node.Int j it = one-is i j it
+atom-is i (node.Arrow k l) j it = one-is i j it
+atom-is i (node.Rcd fields) j it = one-is i j it
+
+child-below : (i : ℕ) (x : Node) → IsOrdered i x → (j : ℕ) → Contains (left_step x) j → j < i
+child-below i x ordered j it = go x ordered it
+  where
+    two : (k l : ℕ) → k < i → l < i → Contains (l ∷ k ∷ []) j → j < i
+    two k l low_k low_l it = elim (Contains-cases l (k ∷ []) j it) [
+      | inl same ↦ subst (λ m. m < i) same low_l
+      | inr later ↦ subst (λ m. m < i) (one-is k j later) low_k
+    ]
+
+    go : (x : Node) → IsOrdered i x → Contains (left_step x) j → j < i
+    go (node.Join k l) low it = two k.0 l.0 low.0 low.1 it
+    go (node.Meet k l) low it = two k.0 l.0 low.0 low.1 it
+    go node.Bot low it = absurd (empty j it)
+    go node.Top low it = absurd (empty j it)
+    go (node.Var v) low it = absurd (empty j it)
+    go node.Bool low it = absurd (empty j it)
+    go node.Int low it = absurd (empty j it)
+    go (node.Arrow k l) low it = absurd (empty j it)
+    go (node.Rcd fields) low it = absurd (empty j it)
+
+module _ (f : ℕ → List ℕ) (i : ℕ) where
+  step-cases : (x : Node) (j : ℕ) → Contains (atoms_step f i x) j → Contains (atom_step i x) j ⊎ ((k : ℕ) × Contains (left_step x) k × Contains (f k) j)
+  step-cases x j it = go x it
+    where
+      two : (k l : ℕ) → Contains (f k ++ f l) j → Contains [] j ⊎ ((m : ℕ) × Contains (l ∷ k ∷ []) m × Contains (f m) j)
+      two k l it = elim (Contains-append_cases (f k) (f l) j it) [
+        | inl first ↦ inr (k, Contains-later l (k ∷ []) k (Contains-here k []), first)
+        | inr second ↦ inr (l, Contains-here l (k ∷ []), second)
+      ]
+
+      go : (x : Node) → Contains (atoms_step f i x) j → Contains (atom_step i x) j ⊎ ((k : ℕ) × Contains (left_step x) k × Contains (f k) j)
+      go (node.Join k l) it = two k.0 l.0 it
+      go (node.Meet k l) it = two k.0 l.0 it
+      go node.Bot it = inl it
+      go node.Top it = inl it
+      go (node.Var v) it = inl it
+      go node.Bool it = inl it
+      go node.Int it = inl it
+      go (node.Arrow k l) it = inl it
+      go (node.Rcd fields) it = inl it
+
+  step-atom : (x : Node) (j : ℕ) → Contains (atom_step i x) j → Contains (atoms_step f i x) j
+  step-atom (node.Join k l) j it = absurd (empty j it)
+  step-atom (node.Meet k l) j it = absurd (empty j it)
+  step-atom node.Bot j it = it
+  step-atom node.Top j it = it
+  step-atom (node.Var v) j it = it
+  step-atom node.Bool j it = it
+  step-atom node.Int j it = it
+  step-atom (node.Arrow k l) j it = it
+  step-atom (node.Rcd fields) j it = it
+
+  step-child : (x : Node) (k j : ℕ) → Contains (left_step x) k → Contains (f k) j → Contains (atoms_step f i x) j
+  step-child x m j child it = go x child
+    where
+      two : (k l : ℕ) → Contains (l ∷ k ∷ []) m → Contains (f k ++ f l) j
+      two k l child = elim (Contains-cases l (k ∷ []) m child) [
+        | inl same ↦ Contains-append_right (f k) (f l) j (subst (λ n. Contains (f n) j) (sym same) it)
+        | inr later ↦ Contains-append_left (f k) (f l) j (subst (λ n. Contains (f n) j) (sym (one-is k m later)) it)
+      ]
+
+      go : (x : Node) → Contains (left_step x) m → Contains (atoms_step f i x) j
+      go (node.Join k l) child = two k.0 l.0 child
+      go (node.Meet k l) child = two k.0 l.0 child
+      go node.Bot child = absurd (empty m child)
+      go node.Top child = absurd (empty m child)
+      go (node.Var v) child = absurd (empty m child)
+      go node.Bool child = absurd (empty m child)
+      go node.Int child = absurd (empty m child)
+      go (node.Arrow k l) child = absurd (empty m child)
+      go (node.Rcd fields) child = absurd (empty m child)
+
+-- one more that is not there
+different-one : (xs : List ℕ) (i : ℕ) → AreDifferent xs → (Contains xs i → ⊥) → AreDifferent (xs ++ i ∷ [])
+different-one [] i different new = (empty i, tt)
+different-one (x ∷ rest) i different new = (
+  λ it. elim (Contains-append_cases rest (i ∷ []) x it) [
+    | inl before ↦ different.0 before
+    | inr last ↦ new (subst (λ y. Contains (y ∷ rest) i) (one-is i x last) (Contains-here i rest))
+  ],
+  different-one rest i different.1 (λ it. new (Contains-later x rest i it)),
+)
+
+different-step : (xs : List ℕ) (i : ℕ) (x : Node) → AreDifferent xs → (Contains xs i → ⊥) → AreDifferent (xs ++ atom_step i x)
+different-step xs i (node.Join k l) different new = subst AreDifferent (sym (append-none xs)) different
+different-step xs i (node.Meet k l) different new = subst AreDifferent (sym (append-none xs)) different
+different-step xs i node.Bot different new = different-one xs i different new
+different-step xs i node.Top different new = different-one xs i different new
+different-step xs i (node.Var v) different new = different-one xs i different new
+different-step xs i node.Bool different new = different-one xs i different new
+different-step xs i node.Int different new = different-one xs i different new
+different-step xs i (node.Arrow k l) different new = different-one xs i different new
+different-step xs i (node.Rcd fields) different new = different-one xs i different new
 
 module _ (nodes : List Node) (is : IsBook nodes) where
   -- enough steps are enough
@@ -87,65 +198,102 @@ module _ (nodes : List Node) (is : IsBook nodes) where
   left-append [] more = sym (append-none (atoms_left nodes more))
   left-append (i ∷ rest) more = ap (λ xs. xs ++ atoms nodes i) (left-append rest more) ∙ append-assoc (atoms_left nodes more) (atoms_left nodes rest) (atoms nodes i)
 
-  step-atoms : (i : ℕ) (x : Node) → atom_step i x ++ atoms_left nodes (left_step x) ≡ atoms_step (atoms nodes) i x
-  step-atoms i (node.Join j k) = ap (λ xs. xs ++ atoms nodes k.0) refl
-  step-atoms i (node.Meet j k) = ap (λ xs. xs ++ atoms nodes k.0) refl
-  step-atoms i node.Bot = refl
-  step-atoms i node.Top = refl
-  step-atoms i (node.Var x) = refl
-  step-atoms i node.Bool = refl
-  step-atoms i node.Int = refl
-  step-atoms i (node.Arrow j k) = refl
-  step-atoms i (node.Rcd fields) = refl
-
-  pub look : (top : ℕ) (found left rest found' left' : List ℕ) (i : ℕ) → IsLooking nodes top found left → left ≡ rest ++ i ∷ [] → found' ≡ found ++ atom_step i (node_at nodes i) → left' ≡ rest ++ left_step (node_at nodes i) → IsLooking nodes top found' left'
-  look top found left rest found' left' i looking is-left is-found is-left' =
-      rw (is-found, is-left')
-      record {
-        all =
-            append-assoc found (atom_step i x) (atoms_left nodes (rest ++ left_step x))
-            ∙ (ap (λ xs. found ++ xs)
-            (ap (λ xs. atom_step i x ++ xs) (left-append rest (left_step x))
-            ∙ (sym (append-assoc (atom_step i x) (atoms_left nodes (left_step x)) (atoms_left nodes rest))
-            ∙ (ap (λ xs. xs ++ atoms_left nodes rest) (step-atoms i x ∙ sym (atoms-next i))
-            ∙ (sym (left-append rest (i ∷ [])) ∙ ap (atoms_left nodes) (sym is-left)))))
-            ∙ looking.all);
-        low =
-            All-append (λ j. j < length nodes) rest (left_step x) (λ k d lower. front k d lower)
-            (children-low (node_at nodes i) (is i));
-      }
+  pub look-seen : (top : ℕ) (met found left rest : List ℕ) (i : ℕ) → IsLooking nodes top met found left → left ≡ rest ++ i ∷ [] → Contains met i → IsLooking nodes top met found rest
+  look-seen top met found left rest i is_looking is_left seen = record {
+    low = All-contained (λ j. j < length nodes) rest (λ j it. All-contains (λ j. j < length nodes) left j is_looking.low (in-left j it));
+    has_top = elim is_looking.has_top [ inl it ↦ inl it | inr it ↦ went top it ];
+    next = λ k j it child. elim (is_looking.next k j it child) [ inl known ↦ inl known | inr there ↦ went j there ];
+    atom = is_looking.atom;
+    came = is_looking.came;
+    once = is_looking.once;
+    sound = is_looking.sound;
+    below = λ k j it. is_looking.below k j (in-left k it);
+  }
     where
-      x : Node
-      x = node_at nodes i
+      in-left : (j : ℕ) → Contains rest j → Contains left j
+      in-left j it = subst (λ xs. Contains xs j) (sym is_left) (Contains-append_left rest (i ∷ []) j it)
 
-      front : (k d : ℕ) → k < length rest → get_or rest k d < length nodes
-      front k d lower =
-          let size : length (rest ++ i ∷ []) ≡ length rest + 1 = length-append rest (i ∷ []) in
-          let same : get_or left k d ≡ get_or rest k d = ap (λ xs. get_or xs k d) is-left ∙ get_or_append_left rest (i ∷ []) d k lower in
-          let in_left : k < length left = (let e : length left ≡ length (rest ++ i ∷ []) = ap length is-left in omega arith) in
-          subst (λ j. j < length nodes) same (looking.low k d in_left)
+      went : (j : ℕ) → Contains left j → Contains met j ⊎ Contains rest j
+      went j it = elim (Contains-append_cases rest (i ∷ []) j (subst (λ xs. Contains xs j) is_left it)) [
+        | inl before ↦ inr before
+        | inr last ↦ inl (subst (Contains met) (one-is i j last) seen)
+      ]
 
-      last : i < length nodes
-      last =
-          let size : length (rest ++ i ∷ []) ≡ length rest + 1 = length-append rest (i ∷ []) in
-          let in_left : length rest < length left = (let e : length left ≡ length (rest ++ i ∷ []) = ap length is-left in omega arith) in
-          subst (λ j. j < length nodes) (ap (λ xs. get_or xs (length rest) 0) is-left ∙ get_or-append_seam rest i [] 0) (looking.low (length rest) 0 in_left)
+  module _ (top : ℕ) (met found left rest met' found' left' : List ℕ) (i : ℕ) (looking : IsLooking nodes top met found left) (is_left : left ≡ rest ++ i ∷ []) (new : Contains met i → ⊥) (is_met : met' ≡ met ++ i ∷ []) (is_found : found' ≡ found ++ atom_step i (node_at nodes i)) (is_left' : left' ≡ rest ++ left_step (node_at nodes i)) where
+    abbrev x : Node
+    x = node_at nodes i
 
-      two : (j k : ℕ) → j < i → k < i → All (λ j. j < length nodes) (k ∷ j ∷ [])
-      two j k low-j low-k zero d lower = let all = last in omega arith
-      two j k low-j low-k (suc zero) d lower = let all = last in omega arith
-      two j k low-j low-k (suc (suc n)) d lower = absurd (omega arith)
+    in-left : (j : ℕ) → Contains rest j → Contains left j
+    in-left j it = subst (λ xs. Contains xs j) (sym is_left) (Contains-append_left rest (i ∷ []) j it)
 
-      children-low : (x : Node) → IsOrdered i x → All (λ j. j < length nodes) (left_step x)
-      children-low (node.Join j k) ordered = two j.0 k.0 ordered.0 ordered.1
-      children-low (node.Meet j k) ordered = two j.0 k.0 ordered.0 ordered.1
-      children-low node.Bot ordered = λ n d lower. absurd (omega arith)
-      children-low node.Top ordered = λ n d lower. absurd (omega arith)
-      children-low (node.Var v) ordered = λ n d lower. absurd (omega arith)
-      children-low node.Bool ordered = λ n d lower. absurd (omega arith)
-      children-low node.Int ordered = λ n d lower. absurd (omega arith)
-      children-low (node.Arrow j k) ordered = λ n d lower. absurd (omega arith)
-      children-low (node.Rcd fields) ordered = λ n d lower. absurd (omega arith)
+    last-left : Contains left i
+    last-left = subst (λ xs. Contains xs i) (sym is_left) (Contains-append_right rest (i ∷ []) i (Contains-here i []))
+
+    still-met : (j : ℕ) → Contains met j → Contains met' j
+    still-met j it = subst (λ xs. Contains xs j) (sym is_met) (Contains-append_left met (i ∷ []) j it)
+
+    now-met : Contains met' i
+    now-met = subst (λ xs. Contains xs i) (sym is_met) (Contains-append_right met (i ∷ []) i (Contains-here i []))
+
+    met-cases : (j : ℕ) → Contains met' j → Contains met j ⊎ (i ≡ j)
+    met-cases j it = elim (Contains-append_cases met (i ∷ []) j (subst (λ xs. Contains xs j) is_met it)) [ inl before ↦ inl before | inr last ↦ inr (one-is i j last) ]
+
+    still-found : (j : ℕ) → Contains found j → Contains found' j
+    still-found j it = subst (λ xs. Contains xs j) (sym is_found) (Contains-append_left found (atom_step i x) j it)
+
+    found-cases : (j : ℕ) → Contains found' j → Contains found j ⊎ Contains (atom_step i x) j
+    found-cases j it = Contains-append_cases found (atom_step i x) j (subst (λ xs. Contains xs j) is_found it)
+
+    still-left : (j : ℕ) → Contains rest j → Contains left' j
+    still-left j it = subst (λ xs. Contains xs j) (sym is_left') (Contains-append_left rest (left_step x) j it)
+
+    now-left : (j : ℕ) → Contains (left_step x) j → Contains left' j
+    now-left j it = subst (λ xs. Contains xs j) (sym is_left') (Contains-append_right rest (left_step x) j it)
+
+    left-cases : (j : ℕ) → Contains left' j → Contains rest j ⊎ Contains (left_step x) j
+    left-cases j it = Contains-append_cases rest (left_step x) j (subst (λ xs. Contains xs j) is_left' it)
+
+    went : (j : ℕ) → Contains left j → Contains met' j ⊎ Contains left' j
+    went j it = elim (Contains-append_cases rest (i ∷ []) j (subst (λ xs. Contains xs j) is_left it)) [
+      | inl before ↦ inr (still-left j before)
+      | inr last ↦ inl (subst (Contains met') (one-is i j last) now-met)
+    ]
+
+    here-low : i < length nodes
+    here-low = All-contains (λ j. j < length nodes) left i looking.low last-left
+
+    of-here : (ks : List ℕ) → atoms nodes i ≡ ks → (j : ℕ) → Contains ks j → Contains (atoms nodes top) j
+    of-here ks same j it = looking.below i j last-left (subst (λ xs. Contains xs j) (sym same) it)
+
+    pub look-new : IsLooking nodes top met' found' left'
+    look-new = record {
+      low = All-contained (λ j. j < length nodes) left' (λ j it. elim (left-cases j it) [
+        | inl before ↦ All-contains (λ j. j < length nodes) left j looking.low (in-left j before)
+        | inr child ↦ let below : j < i = child-below i x (is i) j child in let low = here-low in omega arith
+      ]);
+      has_top = elim looking.has_top [ inl it ↦ inl (still-met top it) | inr it ↦ went top it ];
+      next = λ k j it child. elim (met-cases k it) [
+        | inl before ↦ elim (looking.next k j before child) [ inl known ↦ inl (still-met j known) | inr there ↦ went j there ]
+        | inr same ↦ inr (now-left j (subst (λ l. Contains (left_step (node_at nodes l)) j) (sym same) child))
+      ];
+      atom = λ k j it atom. elim (met-cases k it) [
+        | inl before ↦ still-found j (looking.atom k j before atom)
+        | inr same ↦ subst (λ xs. Contains xs j) (sym is_found) (Contains-append_right found (atom_step i x) j (subst (λ l. Contains (atom_step l (node_at nodes l)) j) (sym same) atom))
+      ];
+      came = λ j it. elim (found-cases j it) [
+        | inl before ↦ still-met j (looking.came j before)
+        | inr here ↦ subst (Contains met') (atom-is i x j here) now-met
+      ];
+      once = subst AreDifferent (sym is_found) (different-step found i x looking.once (λ it. new (looking.came i it)));
+      sound = λ j it. elim (found-cases j it) [
+        | inl before ↦ looking.sound j before
+        | inr here ↦ of-here (atoms_step (atoms nodes) i x) (atoms-next i) j (step-atom (atoms nodes) i x j here)
+      ];
+      below = λ k j it atom. elim (left-cases k it) [
+        | inl before ↦ looking.below k j (in-left k before) atom
+        | inr child ↦ of-here (atoms_step (atoms nodes) i x) (atoms-next i) j (step-child (atoms nodes) i x k j child atom)
+      ];
+    }
 
   pub look-less : (left rest left' : List ℕ) (i : ℕ) → left ≡ rest ++ i ∷ [] → left' ≡ rest ++ left_step (node_at nodes i) → measure nodes left' < measure nodes left
   look-less left rest left' i is-left is-left' =
@@ -204,11 +352,43 @@ module _ (nodes : List Node) (is : IsBook nodes) where
       go (node.Arrow j k) is-atoms e = one (node.Arrow j k) refl e
       go (node.Rcd fields) is-atoms e = one (node.Rcd fields) refl e
 
-  pub looking-first : (top : ℕ) → top < length nodes → IsLooking nodes top [] (top ∷ [])
-  looking-first top low = record { all = refl; low = All-one (λ i. i < length nodes) top low }
+  pub less-seen : (left rest : List ℕ) (i : ℕ) → left ≡ rest ++ i ∷ [] → measure nodes rest < measure nodes left
+  less-seen left rest i is-left =
+      let before : length left ≡ length rest + 1 = ap length is-left ∙ length-append rest (i ∷ []) in
+      let atoms-before : length (atoms_left nodes left) ≡ length (atoms nodes i) + length (atoms_left nodes rest) =
+      ap (λ xs. length (atoms_left nodes xs)) is-left ∙ (ap length (left-append rest (i ∷ [])) ∙ length-append (atoms nodes i) (atoms_left nodes rest)) in
+      let few : length rest ≤ length (atoms_left nodes rest) = left-few rest in
+      let one : 0 < length (atoms nodes i) = some i in
+      omega arith
 
-  pub looked : (top : ℕ) (found left : List ℕ) → IsLooking nodes top found left → left ≡ [] → found ≡ atoms nodes top
-  looked top found left looking none = sym (append-none found) ∙ (ap (λ xs. found ++ atoms_left nodes xs) (sym none) ∙ looking.all)
+  pub looking-first : (top : ℕ) (met : List ℕ) → top < length nodes → met ≡ [] → IsLooking nodes top met [] (top ∷ [])
+  looking-first top met low none =
+      rw none
+      record {
+        low = All-one (λ i. i < length nodes) top low;
+        has_top = inr (Contains-here top []);
+        next = λ i j it. absurd (empty i it);
+        atom = λ i j it. absurd (empty i it);
+        came = λ j it. absurd (empty j it);
+        once = tt;
+        sound = λ j it. absurd (empty j it);
+        below = λ i j it atom. subst (λ k. Contains (atoms nodes k) j) (sym (one-is top i it)) atom;
+      }
+
+  module _ (top : ℕ) (met found left : List ℕ) (looking : IsLooking nodes top met found left) (none : left ≡ []) where
+    all-met : (j : ℕ) → Contains met j ⊎ Contains left j → Contains met j
+    all-met j (inl it) = it
+    all-met j (inr it) = absurd (empty j (subst (λ xs. Contains xs j) none it))
+
+    all-found : (n i : ℕ) → Contains met i → (j : ℕ) → Contains (atoms_below nodes n i) j → Contains found j
+    all-found zero i here j it = absurd (empty j it)
+    all-found (suc n) i here j it = elim (step-cases (atoms_below nodes n) i (node_at nodes i) j it) [
+      | inl atom ↦ looking.atom i j here atom
+      | inr child ↦ all-found n child.0 (all-met child.0 (looking.next i child.0 here child.1)) j child.2
+    ]
+
+    pub looked : AreAtoms nodes top found
+    looked = record { same = (looking.sound, all-found (suc top) top (all-met top looking.has_top)); once = looking.once }
 
 -- the atoms of a node are there
 module _ (nodes : List Node) (is : IsBook nodes) where
@@ -235,3 +415,7 @@ module _ (nodes : List Node) (is : IsBook nodes) where
 
   pub atoms-low : (i : ℕ) → i < length nodes → All (λ j. j < length nodes) (atoms nodes i)
   atoms-low i low k d in_list = let h : get_or (atoms nodes i) k d ≤ i = atoms-below (suc i) i k d in_list in omega arith
+
+  pub found-low : (i : ℕ) (found : List ℕ) → i < length nodes → AreAtoms nodes i found → All (λ j. j < length nodes) found
+  found-low i found low are =
+      All-contained (λ j. j < length nodes) found (λ j it. All-contains (λ j. j < length nodes) (atoms nodes i) j (atoms-low i low) (are.same.0 j it))

@@ -4,7 +4,6 @@ use Rattle.std.specs.Prelude.{Option, IsTrue, is_some}
 use Rattle.std.specs.FinMap.{get-empty}
 use Rattle.std.specs.Ordering.{nat_cmp}
 use Rattle.std.proofs.lemmas.List.{get_or_past}
-use Rattle.std.proofs.lemmas.List.Elements.{Contains-append_left, Contains-append_right}
 use Rattle.mls_book.specs.declared.book.Field.{Field}
 use Rattle.mls_book.specs.declared.book.Node.{Node}
 use Rattle.mls_book.specs.declared.book.Node.TheVariants as node
@@ -24,23 +23,15 @@ use Rattle.mls_automaton.specs.Heads.{combined, parts_of}
 use Rattle.mls_automaton.specs.Models.{HasRisingLabels, HasStatesIn}
 use Rattle.mls_automaton.specs.Schemes.{state_of, IsScheme}
 use Rattle.mls_automaton.proofs.CombinedStates.{combined_in, head_in, same_in, HasPartsIn}
-use Rattle.mls_automaton.proofs.Lists.{All-contained, All-one, Contains-cases, Contains-here, Contains-later, Contains-map}
+use Rattle.mls_automaton.proofs.Lists.{All-contained, All-one, Contains-here, Contains-later, Contains-map}
 use Rattle.mls_scheme.specs.declared.signs.Task.{Task}
 use Rattle.mls_scheme.specs.ReadAutomata.{atom_parts, atoms, AreChildren, AreTops, IsReadAutomaton}
 use Rattle.mls_scheme.specs.ReadTypes.{IsEquivalentToRead, IsPolarisedRead}
-use Rattle.mls_scheme.specs.steps.Signs.{child_tasks, layer_tasks, sign_at, task, AreSigned}
+use Rattle.mls_scheme.specs.steps.Signs.{child_tasks, sign_at, task, AreSigned}
 use Rattle.mls_scheme.specs.steps.States.{AreNodeStates, IsNodeState, IsTopState}
 use Rattle.mls_scheme.specs.steps.Uses.{IsEdge}
-use Rattle.mls_scheme.proofs.FoundSigns.{layer-true}
+use Rattle.mls_scheme.proofs.FoundSigns.{layer-in, layer-true}
 use Rattle.mls_scheme.proofs.ReadSchemes.{atom_in, read_equivalent}
-
--- a child of an atom is a task of its layer
-layer-in : (nodes : List Node) (p : Polarity) (xs : List ℕ) (j : ℕ) (t : Task) → Contains xs j → Contains (child_tasks p (node_at nodes j)) t → Contains (layer_tasks nodes p xs) t
-layer-in nodes p [] j t it child = let low : it.0 < 0 = it.1 in absurd (omega arith)
-layer-in nodes p (k ∷ rest) j t it child = elim (Contains-cases k rest j it) [
-  | inl same ↦ Contains-append_left (child_tasks p (node_at nodes k)) (layer_tasks nodes p rest) t (subst (λ m. Contains (child_tasks p (node_at nodes m)) t) (sym same) child)
-  | inr later ↦ Contains-append_right (child_tasks p (node_at nodes k)) (layer_tasks nodes p rest) t (layer-in nodes p rest j t later child)
-]
 
 field_children : (Q : ℕ → Type 0) (p : Polarity) (fields : List Field) → ((t : Task) → Contains (child_tasks p (node.Rcd fields)) t → Q t.node) → All (λ (field : Field). Q field.node.0) fields
 field_children Q p fields each =

@@ -14,7 +14,8 @@ use Rattle.mls_automaton.specs.declared.automaton.Flow.{Flow}
 use Rattle.mls_automaton.specs.Automata.{Automaton, empty_head, flow, state_at, HasFlow, IsState}
 use Rattle.mls_automaton.proofs.Lists.{All-contained}
 use Rattle.mls_automaton.proofs.Searches.{next-cases, next-last, next-more}
-use Rattle.mls_scheme.specs.ReadAutomata.{atoms, HasVariable}
+use Rattle.mls_scheme.specs.ReadAutomata.{HasVariable}
+use Rattle.mls_scheme.specs.steps.Layers.{AreAtoms}
 use Rattle.mls_scheme.specs.steps.Signs.{sign_at}
 use Rattle.mls_scheme.specs.steps.States.{AreNodeStates, IsNodeState}
 use Rattle.mls_scheme.specs.steps.Uses.{uses_at, AddsUses, AreUses, AreUsesTo, IsAmong, IsEdge, IsUsedPair}
@@ -80,17 +81,17 @@ uses-next nodes list n d i first old new y low before is adds = record {
 }
 
 -- all atoms of a top
-pub uses-top : (P : Type 0) (nodes : List Node) (i : ℕ) (list : List ℕ) (old new : List (List ℕ)) → P → list ≡ atoms nodes i → AddsUses (IsAmong nodes list) i old new → AddsUses (λ x. P × HasVariable nodes i x) i old new
-uses-top P nodes i list old new it same adds = record {
+pub uses-top : (P : Type 0) (nodes : List Node) (i : ℕ) (list : List ℕ) (old new : List (List ℕ)) → P → AreAtoms nodes i list → AddsUses (IsAmong nodes list) i old new → AddsUses (λ x. P × HasVariable nodes i x) i old new
+uses-top P nodes i list old new it are adds = record {
   size = adds.size;
   uses = λ x k. (
     λ there. elim ((adds.uses x k).0 there) [
       | inl was ↦ inl was
-      | inr one ↦ inr ((it, subst (λ xs. IsAmong nodes xs x) same one.0), one.1)
+      | inr one ↦ inr ((it, (one.0.0, are.same.0 one.0.0 one.0.1, one.0.2)), one.1)
     ],
     λ there. elim there [
       | inl was ↦ (adds.uses x k).1 (inl was)
-      | inr one ↦ (adds.uses x k).1 (inr (subst (λ xs. IsAmong nodes xs x) (sym same) one.0.1, one.1))
+      | inr one ↦ (adds.uses x k).1 (inr ((one.0.1.0, are.same.1 one.0.1.0 one.0.1.1, one.0.1.2), one.1))
     ],
   );
 }

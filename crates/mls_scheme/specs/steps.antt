@@ -5,3 +5,4 @@ pub mod Meeting
 pub mod Signs
 pub mod States
 pub mod Uses
+pub mod Visits

@@ -1,9 +1,9 @@
 //! The layers of a book: what lies between constructors.
 ghost use Rattle.std.specs.Prelude.{◌≡◌, ◌<◌, ◌++◌, ◌∷◌, [], length, IfOk, OnOk};
 ghost use Rattle.mls_book.specs.Books.{IsClosedBook};
-ghost use Rattle.mls_scheme.specs.ReadAutomata.{atoms};
-ghost use Rattle.mls_scheme.specs.steps.Layers.{atom_step, left_step};
+ghost use Rattle.mls_scheme.specs.steps.Layers.{atom_step, left_step, AreAtoms};
 
+use crate::visits::Visits;
 use mls_base::memory::Memory;
 use mls_book::book::{Book, Node, NodeId};
 use std::alloc::Global;
@@ -36,21 +36,32 @@ fn push_both(left: &mut Vec<usize>, first: NodeId, second: NodeId) -> Result<(),
     Ok(())
 }
 
-/// The atoms of a node: those that are no join and no meet, which it reaches through joins and meets alone. It takes no
-/// recursion, and time linear in their number.
+/// The atoms of a node, each once: those that are no join and no meet, which it reaches through joins and meets alone.
+/// It takes no recursion, and looks at each node of the layer once.
 ///
 /// # Errors
 ///
 /// `Memory` where memory is wanting.
-pub fn atoms_of(alloc: Global, book: &Book, top: usize) -> Result<Vec<usize>, Memory>
+pub fn atoms_of(
+    alloc: Global,
+    visits: &mut Visits,
+    book: &Book,
+    top: usize,
+) -> Result<Vec<usize>, Memory>
     requires book { IsClosedBook book.now }
     requires top { top < length book.now }
-    ensures { IfOk result (λ found. found.items ≡ atoms book.now top) }
+    requires limit { visits.old.limit ≡ length book.now }
+    ensures limit { visits.new.limit ≡ visits.old.limit }
+    ensures atoms { IfOk result (λ found. AreAtoms book.now top found.items) }
 {
+    visits.restart();
     let mut found = Vec::new(alloc);
     let mut left = vec![in alloc; top]?;
     while let Some(i) = left.pop() {
-        look_at(&mut found, &mut left, i, book.node(NodeId(i)))?;
+        if !visits.contains(i) {
+            visits.push(i)?;
+            look_at(&mut found, &mut left, i, book.node(NodeId(i)))?;
+        }
     }
     Ok(found)
 }

@@ -19,3 +19,4 @@ mod tests_of_books;
 #[cfg(test)]
 mod tests_of_reading;
 mod uses;
+mod visits;

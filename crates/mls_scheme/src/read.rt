@@ -21,8 +21,8 @@ pub fn read_is_polarised()
 
 /// The scheme of what was read, without binders. It has a state for each node, whose number is that of the node; those
 /// between constructors have nothing. It takes no recursion. Its time is linear, but for a logarithm, in the nodes, the
-/// edges, and the atoms of all layers, where an atom counts as often as joins and meets lead to it: a layer has those of
-/// each recursive name that stands in it.
+/// edges, and the nodes of all layers, where each node counts once for each layer that it stands in: a layer has those
+/// of each recursive name in it.
 ///
 /// # Errors
 ///

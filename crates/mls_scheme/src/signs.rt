@@ -2,10 +2,10 @@
 ghost use Rattle.std.specs.Prelude.{◌≡◌, ◌<◌, ◌++◌, length, get_or, is_some, true, false, All, IfOk, OnOk, None};
 ghost use Rattle.mls_book.specs.Books.{IsClosedBook};
 ghost use Rattle.mls_book.specs.declared.book.Field.{Field};
-ghost use Rattle.mls_scheme.specs.ReadAutomata.{atoms};
-ghost use Rattle.mls_scheme.specs.steps.Signs.{AreSigned, child_tasks, field_tasks, layer_tasks, sign_at, with_sign};
+ghost use Rattle.mls_scheme.specs.steps.Signs.{AddsLayer, AreSigned, child_tasks, field_tasks, layer_tasks, sign_at, with_sign};
 
 use crate::layer::atoms_of;
+use crate::visits::Visits;
 use mls_automaton::automaton::Polarity;
 use mls_base::memory::Memory;
 use mls_book::book::{Book, Field, Node, NodeId};
@@ -67,14 +67,17 @@ fn push_layer(
 // Gives a top its polarity, if it has none, and goes on to the children of its atoms.
 fn visit(
     alloc: Global,
+    visits: &mut Visits,
     book: &Book,
     signs: &mut Vec<Option<Polarity>>,
     work: &mut Vec<Task>,
     task: Task,
 ) -> Result<(), Memory>
     requires book { IsClosedBook book.now }
+    requires limit { visits.old.limit ≡ length book.now }
     requires size { length signs.old.items ≡ length book.now }
     requires task { task.node < length book.now }
+    ensures limit { visits.new.limit ≡ visits.old.limit }
     ensures seen { OnOk result (is_some (sign_at signs.old.items task.node) ≡ true
         → signs.new.items ≡ signs.old.items) }
     ensures seen_work { OnOk result (is_some (sign_at signs.old.items task.node) ≡ true
@@ -82,13 +85,13 @@ fn visit(
     ensures signs { OnOk result (is_some (sign_at signs.old.items task.node) ≡ false
         → signs.new.items ≡ with_sign signs.old.items task) }
     ensures work { OnOk result (is_some (sign_at signs.old.items task.node) ≡ false
-        → work.new.items ≡ work.old.items ++ layer_tasks book.now task.sign (atoms book.now task.node)) }
+        → AddsLayer book.now task work.old.items work.new.items) }
 {
     if signs[task.node].is_some() {
         return Ok(());
     }
     signs[task.node] = Some(task.sign);
-    let atoms = atoms_of(alloc, book, task.node)?;
+    let atoms = atoms_of(alloc, visits, book, task.node)?;
     push_layer(work, book, atoms.as_slice(), task.sign)?;
     Ok(())
 }
@@ -115,6 +118,7 @@ pub fn signs_of(alloc: Global, book: &Book, root: usize) -> Result<Vec<Option<Po
     requires root { root < length book.now }
     ensures { IfOk result (λ signs. AreSigned book.now root signs.items) }
 {
+    let mut visits = Visits::new(alloc, book.len())?;
     let mut signs = no_signs(alloc, book.len())?;
     let mut work = vec![in alloc;
         Task {
@@ -123,7 +127,7 @@ pub fn signs_of(alloc: Global, book: &Book, root: usize) -> Result<Vec<Option<Po
         },
     ]?;
     while let Some(task) = work.pop() {
-        visit(alloc, book, &mut signs, &mut work, task)?;
+        visit(alloc, &mut visits, book, &mut signs, &mut work, task)?;
     }
     Ok(signs)
 }

@@ -8,20 +8,29 @@ ghost use Rattle.mls_scheme.specs.steps.States.{AddsNode, AreNodeStates};
 
 use crate::heads::layer_head;
 use crate::layer::atoms_of;
+use crate::visits::Visits;
 use mls_automaton::automaton::{Automaton, Head, Polarity};
 use mls_base::memory::Memory;
 use mls_book::book::Book;
 use std::alloc::Global;
 
 // The combined head of the atoms of a node.
-fn top_head(alloc: Global, book: &Book, i: usize, p: Polarity) -> Result<Head, Memory>
+fn top_head(
+    alloc: Global,
+    visits: &mut Visits,
+    book: &Book,
+    i: usize,
+    p: Polarity,
+) -> Result<Head, Memory>
     requires book { IsClosedBook book.now }
     requires i { i < length book.now }
+    requires limit { visits.old.limit ≡ length book.now }
+    ensures limit { visits.new.limit ≡ visits.old.limit }
     ensures labels { IfOk result (λ head. HasRisingLabels head.fields) }
     ensures same { IfOk result (λ head. IsSameParts (parts_of head)
         (combined p (map (λ j. atom_parts (node_at book.now j)) (atoms book.now i)))) }
 {
-    let found = atoms_of(alloc, book, i)?;
+    let found = atoms_of(alloc, visits, book, i)?;
     let head = layer_head(alloc, book, p, found.as_slice())?;
     Ok(head)
 }
@@ -29,6 +38,7 @@ fn top_head(alloc: Global, book: &Book, i: usize, p: Polarity) -> Result<Head, M
 // Adds the state of a node: of a top that with its head, of any other node an empty one.
 fn add_node(
     alloc: Global,
+    visits: &mut Visits,
     automaton: &mut Automaton,
     book: &Book,
     i: usize,
@@ -36,7 +46,9 @@ fn add_node(
 ) -> Result<(), Memory>
     requires book { IsClosedBook book.now }
     requires i { i < length book.now }
-    ensures { OnOk result (AddsNode book.now i sign automaton.old automaton.new) }
+    requires limit { visits.old.limit ≡ length book.now }
+    ensures limit { visits.new.limit ≡ visits.old.limit }
+    ensures node { OnOk result (AddsNode book.now i sign automaton.old automaton.new) }
 {
     match sign {
         None => {
@@ -44,7 +56,7 @@ fn add_node(
             Ok(())
         }
         Some(p) => {
-            let head = top_head(alloc, book, i, p)?;
+            let head = top_head(alloc, visits, book, i, p)?;
             automaton.state(p, head)?;
             Ok(())
         }
@@ -65,9 +77,10 @@ pub fn states_of(
     requires size { length signs.now ≡ length book.now }
     ensures { IfOk result (AreNodeStates book.now signs.now) }
 {
+    let mut visits = Visits::new(alloc, book.len())?;
     let mut automaton = Automaton::new(alloc);
     for i in 0..signs.len() {
-        add_node(alloc, &mut automaton, book, i, signs[i])?;
+        add_node(alloc, &mut visits, &mut automaton, book, i, signs[i])?;
     }
     Ok(automaton)
 }

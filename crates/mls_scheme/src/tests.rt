@@ -2,19 +2,19 @@
 ghost use Rattle.std.specs.Prelude.{IsTrue};
 ghost use Rattle.mls_book.specs.Books.{IsClosedBook};
 
-use crate::build::{constant, drop_binder, lambda_use};
 use crate::heads::layer_head;
 use crate::layer::atoms_of;
 use crate::signs::signs_of;
 use crate::states::states_of;
-use mls_automaton::automaton::{Automaton, FieldSet, FieldSets, Head, HeadKind, Polarity};
+use crate::tables::sample;
+use crate::visits::Visits;
+use mls_automaton::automaton::{Automaton, Head, HeadKind, Polarity};
 use mls_automaton::combine::combine_heads;
+use mls_automaton::sample::show_automaton;
 use mls_automaton::scheme::{Env, EnvEntry};
 use mls_automaton::state_set::{StateId, StateSet};
 use mls_base::memory::Memory;
-use mls_base::spelling::is_name;
 use mls_book::book::{Book, Node, NodeId};
-use mls_book::name::Name;
 use std::alloc::Global;
 use std::process::Abort;
 use std::test::Fail;
@@ -56,59 +56,15 @@ fn binders_are_found(rt: HostRuntime) -> Result<(), Fail> {
     Ok(())
 }
 
-// The record with this label alone, whose set has this state alone.
-fn record(rt: &impl Abort, alloc: Global, label: &[u8], s: usize) -> Result<FieldSets, Memory> {
-    assert!(rt; is_name(label));
-    let mut fields = FieldSets::new(alloc);
-    fields.push(FieldSet {
-        label: Name::new(alloc, label)?,
-        set: StateSet::one(alloc, StateId(s))?,
-    })?;
-    Ok(fields)
-}
-
 #[test]
 fn combined_records_unite_their_sets(rt: HostRuntime) -> Result<(), Fail> {
-    let alloc = rt.alloc();
-    let one = record(&rt, alloc, b"l", 4)?;
-    let other = record(&rt, alloc, b"l", 1)?;
-    assert!(rt; one.is_rising() && other.is_rising());
-    let mut first = Head::empty();
-    first.fields = Some(one);
-    let mut second = Head::empty();
-    second.fields = Some(other);
-    second.integer = true;
-    let both = combine_heads(alloc, Polarity::Positive, &first, &second)?;
-    assert!(rt; both.has(HeadKind::Int) && !both.has(HeadKind::Bool));
-    match &both.fields {
-        Some(fields) => {
-            assert_eq!(rt; fields.len(), 1);
-            assert_eq!(rt; fields.as_slice()[0].set.as_slice(), [1, 4].as_slice());
-        }
-        None => assert!(rt; false),
-    }
-    Ok(())
-}
-
-#[test]
-fn an_automaton_stands_behind_its_copy(rt: HostRuntime) -> Result<(), Fail> {
-    let first = lambda_use(rt.alloc(), 3)?;
-    let mut both = first.automaton.copy()?;
-    let up = both.append(&first.automaton)?;
-    assert_eq!(rt; up, 2);
-    assert_eq!(rt; both.len(), 4);
-    assert_eq!(rt; both.flows().len(), 2);
-    Ok(())
-}
-
-#[test]
-fn a_dropped_binder_is_no_longer_reached(rt: HostRuntime) -> Result<(), Fail> {
-    let mut scheme = lambda_use(rt.alloc(), 3)?;
-    assert_eq!(rt; scheme.keep_reachable()?.automaton.len(), 2);
-    assert_eq!(rt; drop_binder(&mut scheme, 3), Some(StateId(0)));
-    assert_eq!(rt; scheme.keep_reachable()?.automaton.len(), 1);
-    let number = constant(rt.alloc(), HeadKind::Int)?;
-    assert!(rt; number.automaton.head(number.root).has(HeadKind::Int));
+    let mut automaton = sample(&rt, rt.alloc(), "+{l:4} +i{l:1} + + + *0")?.automaton;
+    assert!(rt; automaton.len() == 5);
+    let (first, second) = (automaton.head(StateId(0)), automaton.head(StateId(1)));
+    let both = combine_heads(rt.alloc(), Polarity::Positive, first, second)?;
+    automaton.state(Polarity::Positive, both)?;
+    let line = show_automaton(rt.alloc(), &automaton)?;
+    assert_eq!(rt; line.as_str(), "+{l:4} +i{l:1} + + + +i{l:1,4}");
     Ok(())
 }
 
@@ -141,7 +97,8 @@ fn small_book(rt: &impl Abort, alloc: Global) -> Result<Book, Memory> {
 fn layers_have_atoms_and_heads(rt: HostRuntime) -> Result<(), Fail> {
     let book = small_book(&rt, rt.alloc())?;
     assert!(rt; is_closed_book(&book) && 2 < book.len());
-    let atoms = atoms_of(rt.alloc(), &book, 2)?;
+    let mut visits = Visits::new(rt.alloc(), book.len())?;
+    let atoms = atoms_of(rt.alloc(), &mut visits, &book, 2)?;
     assert_eq!(rt; atoms.as_slice(), [0, 1].as_slice());
     assert!(rt; atoms.iter().all(|j| *j < book.len()));
     let head = layer_head(rt.alloc(), &book, Polarity::Positive, atoms.as_slice())?;

@@ -6,6 +6,7 @@ ghost use Rattle.mls_scheme.specs.ReadAutomata.{HasVariable};
 ghost use Rattle.mls_scheme.specs.steps.Uses.{AddsUses, AreUses, AreVariablesBelow, IsAmong, uses_at};
 
 use crate::layer::atoms_of;
+use crate::visits::Visits;
 use mls_automaton::automaton::Polarity;
 use mls_automaton::state_set::{StateId, StateSet};
 use mls_base::memory::Memory;
@@ -60,6 +61,7 @@ fn has_sign(sign: Option<Polarity>, p: Polarity) -> bool
 // Adds a top of this polarity to the uses of its variables.
 fn add_top(
     alloc: Global,
+    visits: &mut Visits,
     uses: &mut Vec<StateSet>,
     book: &Book,
     i: usize,
@@ -69,13 +71,15 @@ fn add_top(
     requires book { IsClosedBook book.now }
     requires variables { AreVariablesBelow (length uses.old.items) book.now }
     requires i { i < length book.now }
-    ensures { OnOk result (AddsUses (λ x. (sign ≡ Some p) × HasVariable book.now i x) i
+    requires limit { visits.old.limit ≡ length book.now }
+    ensures limit { visits.new.limit ≡ visits.old.limit }
+    ensures uses { OnOk result (AddsUses (λ x. (sign ≡ Some p) × HasVariable book.now i x) i
         uses.old.items uses.new.items) }
 {
     if !has_sign(sign, p) {
         return Ok(());
     }
-    let atoms = atoms_of(alloc, book, i)?;
+    let atoms = atoms_of(alloc, visits, book, i)?;
     add_uses(uses, book, atoms.as_slice(), i)?;
     Ok(())
 }
@@ -97,9 +101,10 @@ pub fn uses_of(
     requires variables { AreVariablesBelow vars book.now }
     ensures { IfOk result (λ uses. AreUses book.now signs.now p vars uses.items) }
 {
+    let mut visits = Visits::new(alloc, book.len())?;
     let mut uses = no_uses(alloc, vars)?;
     for i in 0..signs.len() {
-        add_top(alloc, &mut uses, book, i, signs[i], p)?;
+        add_top(alloc, &mut visits, &mut uses, book, i, signs[i], p)?;
     }
     Ok(uses)
 }

@@ -9,6 +9,7 @@ use Rattle.mls_automaton.specs.declared.automaton.Polarity.TheVariants.{Positive
 use Rattle.mls_automaton.specs.Automata.{opposite}
 use Rattle.mls_scheme.specs.declared.signs.Task.{Task}
 use Rattle.mls_scheme.specs.ReadAutomata.{atoms, IsPolarised}
+use Rattle.mls_scheme.specs.steps.Layers.{AreAtoms}
 
 abbrev pub task : ℕ → Polarity → Task
 task i p = record { node = i; sign = p }
@@ -25,6 +26,10 @@ child_tasks p _ = []
 abbrev pub layer_tasks : List Node → Polarity → List ℕ → List Task
 layer_tasks nodes p [] = []
 layer_tasks nodes p (j ∷ rest) = child_tasks p (node_at nodes j) ++ layer_tasks nodes p rest
+
+-- the children of the atoms of the task came to the work
+abbrev pub AddsLayer : List Node → Task → List Task → List Task → Type 0
+AddsLayer nodes t old new = (found : List ℕ) × AreAtoms nodes t.node found × (new ≡ old ++ layer_tasks nodes t.sign found)
 
 -- the polarity that was found
 abbrev pub sign_at : List (Option Polarity) → ℕ → Option Polarity
