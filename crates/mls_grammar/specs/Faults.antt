@@ -3,7 +3,7 @@ use Rattle.std.specs.Prelude.{ℕ}
 use Rattle.mls_grammar.specs.declared.fault.Fault.{Fault}
 use Rattle.mls_grammar.specs.declared.fault.Fault.TheVariants.{BadByte, BigNumber, Unexpected, Ended, TooDeep}
 use Rattle.mls_grammar.specs.declared.fault.Fault.TheVariants.{DuplicateBinding, DuplicateLabel, DuplicateImport}
-use Rattle.mls_grammar.specs.declared.fault.Fault.TheVariants.{UnknownName, NotBuilt, Memory}
+use Rattle.mls_grammar.specs.declared.fault.Fault.TheVariants.{UnknownName, Memory}
 
 -- the place of a fault of a text of this length
 abbrev pub fault_place : ℕ → Fault → ℕ
@@ -16,5 +16,4 @@ fault_place length (UnknownName at) = at
 fault_place length (DuplicateBinding at) = at
 fault_place length (DuplicateLabel at) = at
 fault_place length (DuplicateImport at) = at
-fault_place length (NotBuilt at) = at
 fault_place length Memory = 0

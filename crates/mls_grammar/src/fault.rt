@@ -36,10 +36,6 @@ pub enum Fault {
     /// A name without a meaning.
     #[error("unknown name, at {0}")]
     UnknownName(usize),
-    /// An import or an expression of a form for which no types are inferred yet; neither `parse_module` nor `resolve`
-    /// answers it.
-    #[error("not built yet, at {0}")]
-    NotBuilt(usize),
     /// Memory was wanting.
     #[error("out of memory")]
     Memory,

@@ -3,7 +3,10 @@ use Rattle.std.proofs.Common.{◌≡◌, ℕ, ◌+◌, true, false, Bool, cond, 
 use Rattle.std.specs.Prelude.{Option, option_map, find, Result, Ok, Err, OnOk}
 use Rattle.std.proofs.lemmas.List.{reverse-append}
 use Rattle.std.proofs.lemmas.Slice.Eq.{bytes_eq-Decides}
-use Rattle.indexmap.specs.IndexMap.{get}
+use Rattle.std.proofs.lemmas.Map.Text.{is_eq-slice_cmp}
+use Rattle.std.specs.BTreeMap.{BTreeMap, get, Updates}
+use Rattle.std.specs.Ordering.{nat_cmp}
+use Rattle.std.specs.Cmp.Lexicographic.{slice_cmp}
 use Rattle.mls_names.specs.declared.counts.Count.{Count}
 use Rattle.mls_term.specs.declared.term.Part.{Part}
 use Rattle.mls_names.specs.declared.resolver.Meaning.{Meaning}
@@ -13,7 +16,7 @@ use Rattle.mls_names.specs.declared.resolver.Task.{Task}
 use Rattle.mls_names.specs.declared.resolver.Task.TheVariants as task
 use Rattle.mls_names.specs.declared.resolver.Resolver.{Resolver}
 use Rattle.mls_names.specs.Resolution.{Meant, binder, let_number, Scope, meant_by}
-use Rattle.mls_names.specs.steps.Walks.{Waiting, after, fields_waiting, meant_of, meant_now, with_meaning, Waits, HasWaiting, Knows, Pushes, Binds, EntersBinder, EntersLet, EntersFields}
+use Rattle.mls_names.specs.steps.Walks.{Waiting, after, fields_waiting, meant_of, meant_now, with_meaning, Waits, HasWaiting, Knows, Pushes, Binds, EntersBinder, EntersLet, EntersFields, Restores, IsReady}
 
 -- what names mean counts only name by name
 pub same_waits : (outside : Scope) (tasks : List Task) (look other : List ℕ → Option Meant) (ws : List Waiting) → ((x : List ℕ) → look x ≡ other x) → Waits outside tasks look ws → Waits outside tasks other ws
@@ -44,18 +47,42 @@ cond_map : (b : Bool) (m : Option Meaning) (rest : Option Meaning) → option_ma
 cond_map true m rest = refl
 cond_map false m rest = refl
 
+-- names that are equal are at the same place of the order
+changed : (old new : BTreeMap (List ℕ) Meaning) (y : List ℕ) (m : Option Meaning) → Updates (slice_cmp nat_cmp) old new y m
+    → (q : List ℕ) → get (slice_cmp nat_cmp) new q ≡ cond (bytes_eq y q) m (get (slice_cmp nat_cmp) old q)
+changed old new y m updates q = updates.0 q ∙ ap (λ b. cond b m (get (slice_cmp nat_cmp) old q)) (is_eq-slice_cmp y q)
+
+-- where a name means this or nothing, it means nothing else
+pub restores : (old new : Resolver) (x : List ℕ) (m : Option Meaning) → Updates (slice_cmp nat_cmp) old.meanings new.meanings x m
+    → new.tasks ≡ old.tasks → Restores old new x m
+restores old new x m updates tasks = (
+  tasks,
+  λ y. ap (option_map meant_of) (changed old.meanings new.meanings x m updates y) ∙ cond_map (bytes_eq x y) m (get (slice_cmp nat_cmp) old.meanings y),
+)
+
+-- a name is declared where nothing is left to do
+pub declares : (old new : Resolver) (x y : List ℕ) (m : Meaning) → Updates (slice_cmp nat_cmp) old.meanings new.meanings y (Some m) → y ≡ x → new.tasks.items ≡ old.tasks.items
+    → (scope : Scope) → IsReady old scope → IsReady new ((x, meant_of m) ∷ scope)
+declares old new x y m updates same tasks scope ready = (
+  tasks ∙ ready.0,
+  λ q. ap (option_map meant_of) (changed old.meanings new.meanings y (Some m) updates q)
+      ∙ (cond_map (bytes_eq y q) (Some m) (get (slice_cmp nat_cmp) old.meanings q)
+      ∙ ((λ i. cond (bytes_eq (same i) q) (Some (meant_of m)) (ready.1 q i))
+      ∙ sym (meant_more scope x (meant_of m) q))),
+)
+
 -- a name has a new meaning, and what it meant is kept below it
 module _ (old new : Resolver) (x y z : List ℕ) (m : Meaning) (outside : Option Meaning)
-    (changed : (q : List ℕ) → get bytes_eq new.meanings q ≡ cond (bytes_eq y q) (Some m) (get bytes_eq old.meanings q))
-    (same : y ≡ x) (was : outside ≡ get bytes_eq old.meanings y)
+    (updates : Updates (slice_cmp nat_cmp) old.meanings new.meanings y (Some m))
+    (same : y ≡ x) (was : outside ≡ get (slice_cmp nat_cmp) old.meanings y)
     (tasks : new.tasks.items ≡ old.tasks.items ++ task.Restore z outside ∷ []) (alike : z ≡ x) where
   now : (q : List ℕ) → meant_now new.meanings q ≡ with_meaning (meant_now old.meanings) x (Some (meant_of m)) q
-  now q = ap (option_map meant_of) (changed q) ∙ cond_map (bytes_eq y q) (Some m) (get bytes_eq old.meanings q) ∙ (λ i. cond (bytes_eq (same i) q) (Some (meant_of m)) (meant_now old.meanings q))
+  now q = ap (option_map meant_of) (changed old.meanings new.meanings y (Some m) updates q) ∙ cond_map (bytes_eq y q) (Some m) (get (slice_cmp nat_cmp) old.meanings q) ∙ (λ i. cond (bytes_eq (same i) q) (Some (meant_of m)) (meant_now old.meanings q))
 
   back : (q : List ℕ) → meant_now old.meanings q ≡ with_meaning (meant_now new.meanings) z (option_map meant_of outside) q
   back q =
       sym (put_back (meant_now old.meanings) x (Some (meant_of m)) q)
-      ∙ (λ i. cond (bytes_eq (sym alike i) q) (option_map meant_of (sym (was ∙ ap (get bytes_eq old.meanings) same) i)) (sym (now q) i))
+      ∙ (λ i. cond (bytes_eq (sym alike i) q) (option_map meant_of (sym (was ∙ ap (get (slice_cmp nat_cmp) old.meanings) same) i)) (sym (now q) i))
 
   pub binds : Binds old new x m
   binds outer scope ws waits knows = (
@@ -63,6 +90,11 @@ module _ (old new : Resolver) (x y z : List ℕ) (m : Meaning) (outside : Option
         (same_waits outer (reverse old.tasks.items) (meant_now old.meanings) (with_meaning (meant_now new.meanings) z (option_map meant_of outside)) ws back waits),
     λ q. now q ∙ (λ i. cond (bytes_eq x q) (Some (meant_of m)) (knows q i)) ∙ sym (meant_more scope x (meant_of m) q),
   )
+
+-- what holds in any case
+pub fine : {T E : Type 0} (r : Result T E) (P : Type 0) → P → OnOk r P
+fine (Ok x) P h = h
+fine (Err e) P h = tt
 
 -- what a result that is fine says may be weakened
 pub on_ok : {T E : Type 0} (r : Result T E) (P Q : Type 0) → (P → Q) → OnOk r P → OnOk r Q

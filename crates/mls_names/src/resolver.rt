@@ -1,7 +1,9 @@
 //! The reader of expressions that knows what their names mean.
 ghost use Rattle.std.specs.Prelude.{◌≡◌, ◌≢◌, ℕ, ◌+◌, ◌++◌, ◌∷◌, ◌<◌, ◌^◌, [], List, IfOk, IfErr, OnOk, All, length};
-ghost use Rattle.std.specs.Prelude.{option_map, bytes_eq};
-ghost use Rattle.indexmap.specs.IndexMap.{get};
+ghost use Rattle.std.specs.Prelude.{option_map};
+ghost use Rattle.std.specs.BTreeMap.{get};
+ghost use Rattle.std.specs.Ordering.{nat_cmp};
+ghost use Rattle.std.specs.Cmp.Lexicographic.{slice_cmp};
 ghost use Rattle.mls_grammar.specs.Modules.{AreDistinct};
 ghost use Rattle.mls_names.specs.Resolution.{Scope, scheme, schemes_from, declared_from, declared_count};
 ghost use Rattle.mls_names.specs.Resolution.{operator_number, meant_by};
@@ -14,13 +16,13 @@ ghost use Rattle.mls_names.specs.steps.Walks.{Restores, ReadsNode, ReadsNodes, H
 
 use crate::counts::{Count, counts};
 use crate::resolve::NameList;
-use indexmap::IndexMap;
 use mls_base::memory::Memory;
 use mls_book::name::Name;
 use mls_grammar::fault::Fault;
 use mls_grammar::module::{Binding, ExprNode, Form, Op};
 use mls_term::term::{Part, ResolvedBinding, Term, TermForm, TermNode, TermNodes};
 use std::alloc::Global;
+use std::collections::BTreeMap;
 
 // What a name means: a binder or a let around it, or a scheme of the environment.
 #[derive(Clone, Copy)]
@@ -48,7 +50,7 @@ enum Task {
 // What each name means at present, and what is left to do, the next task last.
 #[derive(Drop)]
 pub struct Resolver {
-    meanings: IndexMap<Name, Meaning>,
+    meanings: BTreeMap<Name, Meaning>,
     tasks: Vec<Task>,
 }
 
@@ -58,7 +60,7 @@ impl Resolver {
         ensures { IsReady result [] }
     {
         Resolver {
-            meanings: IndexMap::new(alloc),
+            meanings: BTreeMap::new(alloc),
             tasks: Vec::new(alloc),
         }
     }
@@ -98,7 +100,7 @@ impl Resolver {
             → IsReady self.new ((name.now, scheme number) ∷ scope)) }
     {
         self.meanings
-            .insert(name.clone()?, Meaning::Scheme(number))?;
+            .insert(copied(name)?, Meaning::Scheme(number))?;
         number.checked_add(1).ok_or(Memory)
     }
 
@@ -226,7 +228,7 @@ impl Resolver {
                 self.meanings.insert(name, meaning)?;
             }
             None => {
-                self.meanings.swap_remove(&name);
+                self.meanings.remove(&name);
             }
         }
         Ok(())
@@ -255,7 +257,7 @@ impl Resolver {
 
     // What the use of a name becomes.
     fn use_of(&self, name: &Name) -> Option<TermForm>
-        ensures { result ≡ option_map (λ m. use_form (meant_of m)) (get bytes_eq self.now.meanings name.now) }
+        ensures { result ≡ option_map (λ m. use_form (meant_of m)) (get (slice_cmp nat_cmp) self.now.meanings name.now) }
     {
         match self.meanings.get(name) {
             Some(Meaning::Binder(x)) => Some(TermForm::Bound(*x)),

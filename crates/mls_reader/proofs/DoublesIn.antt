@@ -1,61 +1,57 @@
 -- The faults of what is given depend on which names were given before, not on their order.
 use Rattle.std.proofs.Common.{◌≡◌, ℕ, Bool, true, false, if◌then◌else◌, List, [], ◌∷◌, ◌++◌, refl, sym, ap, ◌∙◌}
-use Rattle.std.specs.Prelude.{◌||◌, not, bytes_eq}
+use Rattle.std.specs.Prelude.{◌||◌, cond, not, bytes_eq}
 use Rattle.std.specs.List.{list_any}
-use Rattle.std.proofs.lemmas.List.Folds.{list_any-append}
-use Rattle.std.proofs.lemmas.Slice.Eq.{bytes_eq-Decides}
-use Rattle.indexmap.specs.IndexSet.{insert_key}
+use Rattle.std.proofs.lemmas.Cmp.{nat_list_eq_equiv}
+use Rattle.std.proofs.lemmas.Map.Text.{is_eq-slice_cmp}
+use Rattle.std.specs.BTreeSet.{BTreeSet, Updates}
+use Rattle.std.specs.Ordering.{nat_cmp, is_eq}
+use Rattle.std.specs.Cmp.Lexicographic.{slice_cmp}
 use Rattle.mls_grammar.specs.declared.fault.Fault.{Fault}
 use Rattle.mls_grammar.specs.declared.fault.Fault.TheVariants.{DuplicateBinding, DuplicateLabel, DuplicateImport}
 use Rattle.mls_reader.specs.declared.piece.Event.{Event}
 use Rattle.mls_reader.specs.declared.piece.Event.TheVariants as event
 use Rattle.mls_grammar.specs.Doubles.{if_seen}
-use Rattle.mls_reader.specs.steps.GivenTwice.{doubles_in, fault_before, fault_unless, AddsLabel}
-
--- the same names are in both lists
-abbrev pub Same : List (List ℕ) → List (List ℕ) → Type 0
-Same xs ys = (x : List ℕ) → list_any (bytes_eq x) xs ≡ list_any (bytes_eq x) ys
+use Rattle.mls_reader.specs.steps.GivenTwice.{doubles_in, fault_before, fault_unless, HasSameNames, AddsLabel}
 
 abbrev pub AllSame : List (List (List ℕ)) → List (List (List ℕ)) → Type 0
 AllSame [] [] = Unit {0}
-AllSame (xs ∷ xss) (ys ∷ yss) = Same xs ys × AllSame xss yss
+AllSame (xs ∷ xss) (ys ∷ yss) = HasSameNames xs ys × AllSame xss yss
 AllSame _ _ = ⊥
 
-same : (xs : List (List ℕ)) → Same xs xs
+same : (xs : List (List ℕ)) → HasSameNames xs xs
 same xs = λ x. refl
 
 all_same : (xss : List (List (List ℕ))) → AllSame xss xss
 all_same [] = tt
 all_same (xs ∷ xss) = (same xs, all_same xss)
 
-same-more : (x : List ℕ) (xs ys : List (List ℕ)) → Same xs ys → Same (x ∷ xs) (x ∷ ys)
+same-more : (x : List ℕ) (xs ys : List (List ℕ)) → HasSameNames xs ys → HasSameNames (x ∷ xs) (x ∷ ys)
 same-more x xs ys h = λ y. ap (λ b. bytes_eq y x || b) (h y)
 
--- a name that is added at the end, or is there already
-same-added : (x : List ℕ) (xs : List (List ℕ)) → Same (x ∷ xs) (insert_key bytes_eq xs x)
-same-added x xs = λ y. go y (list_any (bytes_eq x) xs) (λ e. e)
+-- a set has a name that is equal to one of its names
+pub has : (x : List ℕ) (xs : List (List ℕ)) → list_any (λ y. is_eq (slice_cmp nat_cmp x y)) xs ≡ list_any (bytes_eq x) xs
+has x xs = ap (λ (test : List ℕ → Bool). list_any test xs) (λ i y. is_eq-slice_cmp x y i)
+
+-- a name that is added, or is there already
+pub same-added : (x : List ℕ) (old new : BTreeSet (List ℕ)) → Updates (slice_cmp nat_cmp) old new x true → HasSameNames (x ∷ old.keys) new.keys
+same-added x old new updates y =
+    sym (sym (has y new.keys)
+    ∙ (updates.0 y
+    ∙ ((λ i. cond ((is_eq-slice_cmp x y ∙ nat_list_eq_equiv.symm x y) i) true (has y old.keys i))
+    ∙ choice (bytes_eq y x) (list_any (bytes_eq y) old.keys))))
   where
-    there : (y : List ℕ) (b : Bool) → bytes_eq y x ≡ b → list_any (bytes_eq x) xs ≡ true → (b || list_any (bytes_eq y) xs) ≡ list_any (bytes_eq y) xs
-    there y true e is = sym (let is_x : y ≡ x = (bytes_eq-Decides y x).0 e in ap (λ z. list_any (bytes_eq z) xs) is_x ∙ is)
-    there y false e is = refl
+    choice : (b other : Bool) → cond b true other ≡ (b || other)
+    choice true other = refl
+    choice false other = refl
 
-    swapped : (b c : Bool) → (b || c) ≡ (c || (b || false))
-    swapped true true = refl
-    swapped true false = refl
-    swapped false true = refl
-    swapped false false = refl
-
-    go : (y : List ℕ) (b : Bool) → (b ≡ true → list_any (bytes_eq x) xs ≡ true) → list_any (bytes_eq y) (x ∷ xs) ≡ list_any (bytes_eq y) (if b then xs else xs ++ x ∷ [])
-    go y true is = there y (bytes_eq y x) refl (is refl)
-    go y false is = swapped (bytes_eq y x) (list_any (bytes_eq y) xs) ∙ sym (list_any-append (bytes_eq y) xs (x ∷ []))
-
-if_seen-same : (x : List ℕ) (fault : Fault) (xs ys : List (List ℕ)) → Same xs ys → if_seen xs x fault ≡ if_seen ys x fault
+if_seen-same : (x : List ℕ) (fault : Fault) (xs ys : List (List ℕ)) → HasSameNames xs ys → if_seen xs x fault ≡ if_seen ys x fault
 if_seen-same x fault xs ys h = ap (λ b. if b then fault ∷ [] else []) (h x)
 
 both : (xs ys : List Fault) (vs ws : List Fault) → xs ≡ ys → vs ≡ ws → xs ++ vs ≡ ys ++ ws
 both xs ys vs ws e e' = λ i. e i ++ e' i
 
-pub alike : (es : List Event) (is is' bs bs' : List (List ℕ)) (rs rs' : List (List (List ℕ))) → Same is is' → Same bs bs' → AllSame rs rs' → doubles_in is bs rs es ≡ doubles_in is' bs' rs' es
+pub alike : (es : List Event) (is is' bs bs' : List (List ℕ)) (rs rs' : List (List (List ℕ))) → HasSameNames is is' → HasSameNames bs bs' → AllSame rs rs' → doubles_in is bs rs es ≡ doubles_in is' bs' rs' es
 alike [] is is' bs bs' rs rs' i b r = refl
 alike (event.Import at x ∷ es) is is' bs bs' rs rs' i b r =
     both _ _ _ _ (if_seen-same x (DuplicateImport at) is is' i) (alike es (x ∷ is) (x ∷ is') bs bs' rs rs' (same-more x is is' i) b r)
@@ -84,24 +80,22 @@ told seen x fault new faults later e e' =
     ∙ (λ i. fault_before (fault_unless (sym e i) fault) (e' i))
 
 pub import_taken : (at : ℕ) (x : List ℕ) (is bs is' : List (List ℕ)) (rs : List (List (List ℕ))) (new : Bool) (es : List Event)
-    → new ≡ not (list_any (bytes_eq x) is) → is' ≡ insert_key bytes_eq is x
+    → new ≡ not (list_any (bytes_eq x) is) → HasSameNames (x ∷ is) is'
     → doubles_in is bs rs (event.Import at x ∷ es) ≡ fault_before (fault_unless new (DuplicateImport at)) (doubles_in is' bs rs es)
 import_taken at x is bs is' rs new es e added =
-    told is x (DuplicateImport at) new _ _ e
-    (alike es (x ∷ is) (insert_key bytes_eq is x) bs bs rs rs (same-added x is) (same bs) (all_same rs) ∙ ap (λ is. doubles_in is bs rs es) (sym added))
+    told is x (DuplicateImport at) new _ _ e (alike es (x ∷ is) is' bs bs rs rs added (same bs) (all_same rs))
 
 pub binding_taken : (at : ℕ) (x : List ℕ) (is bs bs' : List (List ℕ)) (rs : List (List (List ℕ))) (new : Bool) (es : List Event)
-    → new ≡ not (list_any (bytes_eq x) bs) → bs' ≡ insert_key bytes_eq bs x
+    → new ≡ not (list_any (bytes_eq x) bs) → HasSameNames (x ∷ bs) bs'
     → doubles_in is bs rs (event.Binding at x ∷ es) ≡ fault_before (fault_unless new (DuplicateBinding at)) (doubles_in is bs' rs es)
 binding_taken at x is bs bs' rs new es e added =
-    told bs x (DuplicateBinding at) new _ _ e
-    (alike es is is (x ∷ bs) (insert_key bytes_eq bs x) rs rs (same is) (same-added x bs) (all_same rs) ∙ ap (λ bs. doubles_in is bs rs es) (sym added))
+    told bs x (DuplicateBinding at) new _ _ e (alike es is is (x ∷ bs) bs' rs rs (same is) added (all_same rs))
 
 pub label_taken : (at : ℕ) (x : List ℕ) (is bs : List (List ℕ)) (rs rs' : List (List (List ℕ))) (new : Bool) (es : List Event)
     → AddsLabel x rs rs' new
     → doubles_in is bs rs (event.Label at x ∷ es) ≡ fault_before (fault_unless new (DuplicateLabel at)) (doubles_in is bs rs' es)
 label_taken at x is bs [] rs' new es added = λ i. fault_before (fault_unless (sym added.1 i) (DuplicateLabel at)) (doubles_in is bs (sym added.0 i) es)
 label_taken at x is bs (labels ∷ rs) rs' new es added =
-    told labels x (DuplicateLabel at) new _ _ added.1
-    (alike es is is bs bs ((x ∷ labels) ∷ rs) (insert_key bytes_eq labels x ∷ rs) (same is) (same bs) (same-added x labels, all_same rs)
-    ∙ ap (λ rs. doubles_in is bs rs es) (sym added.0))
+    told labels x (DuplicateLabel at) new _ _ added.3
+    (alike es is is bs bs ((x ∷ labels) ∷ rs) (added.0 ∷ rs) (same is) (same bs) (added.2, all_same rs)
+    ∙ ap (λ rs. doubles_in is bs rs es) (sym added.1))

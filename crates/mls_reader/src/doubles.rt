@@ -1,22 +1,22 @@
 //! Names and labels that a module gives twice.
 ghost use Rattle.std.specs.Prelude.{◌≡◌, List, [], ◌∷◌, not, reverse, IfOk, OnOk, bytes_eq};
 ghost use Rattle.std.specs.List.{list_any};
-ghost use Rattle.indexmap.specs.IndexSet.{insert_key};
 ghost use Rattle.mls_reader.specs.declared.piece.Event.{Event as Next};
 ghost use Rattle.mls_reader.specs.steps.GivenTwice.{doubles_in, first_of, fault_before, fault_unless, AddsLabel};
+ghost use Rattle.mls_reader.specs.steps.GivenTwice.{HasSameNames};
 
 use crate::piece::Event;
-use indexmap::IndexSet;
 use mls_base::memory::Memory;
 use mls_book::name::Name;
 use mls_grammar::fault::Fault;
 use std::alloc::Global;
+use std::collections::BTreeSet;
 use std::marker::Model;
 
-// Names that were given, each once.
+// Names that were given, each once. Contracts see them in their order.
 #[derive(Drop)]
 struct Names {
-    set: IndexSet<Name>,
+    set: BTreeSet<Name>,
 }
 
 impl Model for Names {
@@ -33,16 +33,16 @@ impl Names {
         ensures { result ≡ [] }
     {
         Names {
-            set: IndexSet::new(alloc),
+            set: BTreeSet::new(alloc),
         }
     }
 
     // Adds a name, and says whether it is new.
     fn add(&mut self, name: Name) -> Result<bool, Memory>
         ensures new { IfOk result (λ new. new ≡ not (list_any (bytes_eq name) self.old)) }
-        ensures names { OnOk result (self.new ≡ insert_key bytes_eq self.old name) }
+        ensures names { OnOk result (HasSameNames (name ∷ self.old) self.new) }
     {
-        let (_, new) = self.set.insert_full(name)?;
+        let new = self.set.insert(name)?;
         Ok(new)
     }
 }

@@ -12,14 +12,13 @@ mod tests {
     use crate::resolve::resolve;
     use crate::term::Term;
     use std::alloc::Global;
+    use std::process::Abort;
     use std::test::Fail;
 
     // The binders, lets and nodes of each term of a text.
-    fn shown(alloc: Global, text: &[u8]) -> Result<String, Fault> {
+    fn shown(rt: &impl Abort, alloc: Global, text: &[u8]) -> Result<String, Fault> {
         let module = parse_module(alloc, text)?;
-        if let Some(import) = module.imports.as_slice().first() {
-            return Err(Fault::NotBuilt(import.at));
-        }
+        assert!(rt; module.imports.as_slice().is_empty());
         let resolved = resolve(alloc, &module, &[])?;
         let mut line = String::new(alloc);
         for binding in resolved.bindings.as_slice() {
@@ -76,7 +75,7 @@ mod tests {
             ),
         ];
         for (text, want) in cases {
-            let line = shown(rt.alloc(), text)?;
+            let line = shown(&rt, rt.alloc(), text)?;
             assert_eq!(rt; line.as_str(), want);
         }
         Ok(())
@@ -123,7 +122,7 @@ mod tests {
             ),
         ];
         for (text, want) in cases {
-            let line = shown(rt.alloc(), text)?;
+            let line = shown(&rt, rt.alloc(), text)?;
             assert_eq!(rt; line.as_str(), want);
         }
         Ok(())
@@ -140,7 +139,7 @@ mod tests {
             (b"let a = {l = 1, k = y + z}", 20),
         ];
         for (text, place) in cases {
-            match shown(rt.alloc(), text) {
+            match shown(&rt, rt.alloc(), text) {
                 Ok(line) => assert_eq!(rt; line.as_str(), "a fault"),
                 Err(fault) => assert_eq!(rt; fault, Fault::UnknownName(place)),
             }

@@ -22,6 +22,8 @@ pub mod Pushed
 pub mod Laid
 pub mod SortedFields
 pub mod NumberedNames
+pub mod VariableNumbers
+pub mod NamesKnown
 pub mod MeasuredItems
 pub mod ReadTokens
 pub mod ReadPieces

@@ -4,7 +4,7 @@ use Rattle.std.specs.Prelude.{cond, bytes_eq, filter}
 use Rattle.std.specs.List.{list_any, position_or_len}
 use Rattle.std.proofs.lemmas.Cmp.{nat_list_eq_equiv}
 use Rattle.std.proofs.lemmas.List.{append_assoc}
-use Rattle.indexmap.specs.IndexSet.{insert_key}
+use Rattle.mls_typetext.specs.steps.Variables.{with_name}
 use Rattle.mls_typetext.specs.Books.{is_in, place_in, first_places}
 use Rattle.mls_typetext.proofs.FieldOrder.{bytes_eq-same, bytes_eq-self}
 
@@ -14,11 +14,11 @@ swap x y = nat_list_eq_equiv.symm x y
 -- names with further names, each inserted once
 abbrev pub added : List (List ℕ) → List (List ℕ) → List (List ℕ)
 added ns [] = ns
-added ns (x ∷ xs) = added (insert_key bytes_eq ns x) xs
+added ns (x ∷ xs) = added (with_name ns x) xs
 
 pub added-append : (ns xs ys : List (List ℕ)) → added ns (xs ++ ys) ≡ added (added ns xs) ys
 added-append ns [] ys = refl
-added-append ns (x ∷ xs) ys = added-append (insert_key bytes_eq ns x) xs ys
+added-append ns (x ∷ xs) ys = added-append (with_name ns x) xs ys
 
 -- the second list begins with the first
 pub record Begins (ns vars : List (List ℕ)) : Type 0 where
@@ -28,7 +28,7 @@ pub record Begins (ns vars : List (List ℕ)) : Type 0 where
 pub begins-self : (ns : List (List ℕ)) → Begins ns ns
 begins-self ns = record { more = []; is = sym (append-nil ns) }
 
-begins-insert : (x : List ℕ) (ns vars : List (List ℕ)) → Begins (insert_key bytes_eq ns x) vars → Begins ns vars
+begins-insert : (x : List ℕ) (ns vars : List (List ℕ)) → Begins (with_name ns x) vars → Begins ns vars
 begins-insert x ns vars = go (list_any (bytes_eq x) ns)
   where
     go : (b : Bool) → Begins (cond b ns (ns ++ x ∷ [])) vars → Begins ns vars
@@ -37,7 +37,7 @@ begins-insert x ns vars = go (list_any (bytes_eq x) ns)
 
 pub begins-added : (xs ns vars : List (List ℕ)) → Begins (added ns xs) vars → Begins ns vars
 begins-added [] ns vars it = it
-begins-added (x ∷ xs) ns vars it = begins-insert x ns vars (begins-added xs (insert_key bytes_eq ns x) vars it)
+begins-added (x ∷ xs) ns vars it = begins-insert x ns vars (begins-added xs (with_name ns x) vars it)
 
 -- the number of a name is its place
 any-is_in : (x : List ℕ) (ns : List (List ℕ)) → list_any (bytes_eq x) ns ≡ is_in ns x
@@ -82,7 +82,7 @@ is_in-end x (y ∷ ns) =
       | false ↦ is_in-end x ns
     ]
 
-pub number-is : (x : List ℕ) (ns vars : List (List ℕ)) → Begins (insert_key bytes_eq ns x) vars → position_or_len (bytes_eq x) ns ≡ place_in vars x
+pub number-is : (x : List ℕ) (ns vars : List (List ℕ)) → Begins (with_name ns x) vars → position_or_len (bytes_eq x) ns ≡ place_in vars x
 number-is x ns vars it = position-place_in x ns ∙ go (list_any (bytes_eq x) ns) (any-is_in x ns) it
   where
     go : (b : Bool) → b ≡ is_in ns x → Begins (cond b ns (ns ++ x ∷ [])) vars → place_in ns x ≡ place_in vars x

@@ -8,6 +8,7 @@ pub mod Items
 pub mod NameMachine
 pub mod NameReaders
 pub mod Members
+pub mod Variables
 pub mod Measuring
 pub mod Laying
 pub mod ReadPieces

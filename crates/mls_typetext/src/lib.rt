@@ -14,6 +14,7 @@ mod piece;
 mod read;
 mod resolve;
 pub mod scheme;
+mod variables;
 
 pub use end::type_end;
 pub use from_text::{read_type, read_type_from};

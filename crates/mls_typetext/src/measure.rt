@@ -7,7 +7,7 @@ ghost use Rattle.mls_typetext.specs.steps.Measuring.{rec_size, size, state_of, w
 
 use crate::count::sum;
 use crate::piece::{Item, Member, Size};
-use indexmap::IndexSet;
+use crate::variables::Variables;
 use mls_base::memory::Memory;
 use mls_book::name::Name;
 use std::alloc::Global;
@@ -24,7 +24,7 @@ pub struct Measured {
 #[derive(Drop)]
 struct Measuring {
     // The variables in the order in which they appeared.
-    names: IndexSet<Name>,
+    names: Variables,
     // The sizes of the parts that belong to nothing yet, the nearest last.
     sizes: Vec<Size>,
     // How many nodes lie below the fields so far of each record that is open, the nearest last.
@@ -84,8 +84,7 @@ impl Measuring {
         ensures number { IfOk result (λ number. number ≡ position_or_len (bytes_eq name) (state_of self.old).names) }
         ensures names { OnOk result (state_of self.new ≡ named name (state_of self.old)) }
     {
-        let (number, _) = self.names.insert_full(name)?;
-        Ok(number)
+        self.names.number_of(name)
     }
 
     // Adds a piece behind the pieces of its parts, and the size of the part that it makes.
@@ -229,7 +228,7 @@ pub fn measure(alloc: Global, items: Vec<Item>) -> Result<Measured, Memory>
     ensures { IfOk result (λ m. Measures items.items m) }
 {
     let mut measuring = Measuring {
-        names: IndexSet::new(alloc),
+        names: Variables::new(alloc),
         sizes: Vec::new(alloc),
         totals: Vec::new(alloc),
         members: Vec::new(alloc),

@@ -9,10 +9,10 @@ ghost use Rattle.mls_typetext.specs.steps.NameReaders.{tasks_of, known_of, Gives
 
 use crate::piece::{Item, Piece};
 use crate::scheme::TypeFault;
-use indexmap::{IndexMap, IndexSet};
 use mls_base::memory::Memory;
 use mls_book::name::Name;
 use std::alloc::Global;
+use std::collections::{BTreeMap, BTreeSet};
 
 // Where a part of a type stands: the sign of its place, how many functions and records are around it, and how many
 // `rec`s.
@@ -40,9 +40,9 @@ struct NameReader {
     // The next task is the last.
     tasks: Vec<NameTask>,
     // The `rec`s around the place that is reached, with the places of their bodies.
-    recs: IndexMap<Name, NamePlace>,
+    recs: BTreeMap<Name, NamePlace>,
     // The labels of the record whose fields are read, or were read last.
-    labels: IndexSet<Name>,
+    labels: BTreeSet<Name>,
     // The fault that stands first in what was read, since it was noted last.
     fault: Option<TypeFault>,
     // The items, from the last to the first.
@@ -163,8 +163,8 @@ impl NameReader {
         tasks.push(NameTask::Part(NamePlace::of_whole()))?;
         Ok(NameReader {
             tasks,
-            recs: IndexMap::new(alloc),
-            labels: IndexSet::new(alloc),
+            recs: BTreeMap::new(alloc),
+            labels: BTreeSet::new(alloc),
             fault: None,
             items: Vec::new(alloc),
         })
@@ -299,7 +299,7 @@ impl NameReader {
                 self.bind(name, body)?;
             }
             None => {
-                self.recs.swap_remove(&name);
+                self.recs.remove(&name);
             }
         }
         Ok(())
@@ -329,7 +329,7 @@ impl NameReader {
         ensures tasks { OnOk result (tasks_of self.new ≡ tasks_of self.old) }
         ensures known { OnOk result (known_of self.new ≡ with_label label (known_of self.old)) }
     {
-        let (_, is_new) = self.labels.insert_full(label)?;
+        let is_new = self.labels.insert(label)?;
         Ok(!is_new)
     }
 

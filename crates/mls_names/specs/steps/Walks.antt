@@ -2,7 +2,9 @@
 -- later part before an earlier one.
 use Rattle.std.specs.Prelude.{◌≡◌, ℕ, ◌+◌, ◌<◌, false, cond, List, [], ◌∷◌, ◌++◌, reverse, All, bytes_eq, Option, Some}
 use Rattle.std.specs.Prelude.{None, option_map, unwrap_or, slice_get}
-use Rattle.indexmap.specs.IndexMap.{IndexMap, get}
+use Rattle.std.specs.BTreeMap.{BTreeMap, get}
+use Rattle.std.specs.Ordering.{nat_cmp}
+use Rattle.std.specs.Cmp.Lexicographic.{slice_cmp}
 use Rattle.mls_names.specs.declared.counts.Count.{Count}
 use Rattle.mls_grammar.specs.declared.module.ExprNode.{ExprNode}
 use Rattle.mls_grammar.specs.declared.module.Form.{Form}
@@ -150,8 +152,8 @@ meant_of (meaning.Let k) = let_number k
 meant_of (meaning.Scheme g) = scheme g
 
 -- what a name means at present
-abbrev pub meant_now : {S : Type 0} → IndexMap (List ℕ) Meaning S → List ℕ → Option Meant
-meant_now meanings x = option_map meant_of (get bytes_eq meanings x)
+abbrev pub meant_now : BTreeMap (List ℕ) Meaning → List ℕ → Option Meant
+meant_now meanings x = option_map meant_of (get (slice_cmp nat_cmp) meanings x)
 
 -- one name means this, and all others what they meant
 abbrev pub with_meaning : (List ℕ → Option Meant) → List ℕ → Option Meant → List ℕ → Option Meant

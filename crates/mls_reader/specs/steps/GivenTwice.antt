@@ -1,7 +1,6 @@
 -- What a module gives a second time, found from what it gives in the order of the text.
 use Rattle.std.specs.Prelude.{◌≡◌, ℕ, Bool, true, false, not, List, [], ◌∷◌, ◌++◌, Option, Some, None, bytes_eq}
 use Rattle.std.specs.List.{list_any}
-use Rattle.indexmap.specs.IndexSet.{insert_key}
 use Rattle.mls_grammar.specs.declared.fault.Fault.{Fault}
 use Rattle.mls_grammar.specs.declared.fault.Fault.TheVariants.{DuplicateBinding, DuplicateLabel, DuplicateImport}
 use Rattle.mls_reader.specs.declared.piece.Event.{Event}
@@ -38,8 +37,13 @@ abbrev pub fault_unless : Bool → Fault → Option Fault
 fault_unless true fault = None
 fault_unless false fault = Some fault
 
+-- the same names are in both lists
+abbrev pub HasSameNames : List (List ℕ) → List (List ℕ) → Type 0
+HasSameNames xs ys = (x : List ℕ) → list_any (bytes_eq x) xs ≡ list_any (bytes_eq x) ys
+
 -- a label was added to the innermost record that is open, where it is new or not
 abbrev pub AddsLabel : List ℕ → (old new : List (List (List ℕ))) → Bool → Type 0
 AddsLabel x [] new fresh = (new ≡ []) × (fresh ≡ true)
 AddsLabel x (labels ∷ records) new fresh =
-    (new ≡ insert_key bytes_eq labels x ∷ records) × (fresh ≡ not (list_any (bytes_eq x) labels))
+    (more : List (List ℕ)) × (new ≡ more ∷ records) × HasSameNames (x ∷ labels) more
+    × (fresh ≡ not (list_any (bytes_eq x) labels))

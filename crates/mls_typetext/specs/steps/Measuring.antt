@@ -1,7 +1,6 @@
 -- A machine that numbers the variables of a type and measures its parts, piece by piece from the first to the last.
 use Rattle.std.specs.Prelude.{◌≡◌, ℕ, ◌+◌, suc, List, [], ◌∷◌, ◌++◌, reverse, length, Some, None, bytes_eq}
 use Rattle.std.specs.List.{position_or_len}
-use Rattle.indexmap.specs.IndexSet.{insert_key}
 use Rattle.mls_typetext.specs.declared.piece.Size.{Size}
 use Rattle.mls_typetext.specs.declared.piece.Item.{Item}
 use Rattle.mls_typetext.specs.declared.piece.Item.TheVariants as item
@@ -12,6 +11,7 @@ use Rattle.mls_typetext.specs.declared.measure.Measured.{Measured}
 use Rattle.mls_typetext.specs.Trees.{TypeTree}
 use Rattle.mls_typetext.specs.steps.Items.{items}
 use Rattle.mls_typetext.specs.Books.{variables, type_of}
+use Rattle.mls_typetext.specs.steps.Variables.{with_name}
 use Rattle.mls_typetext.specs.steps.Members.{outer, size_of, members}
 
 -- the variables so far; the sizes of the parts that belong to nothing yet and how many nodes lie below the fields of
@@ -24,7 +24,7 @@ pub record State : Type 0 where
 
 abbrev pub state_of : Measuring → State
 state_of it = record {
-  names = it.names.keys;
+  names = it.names;
   sizes = reverse it.sizes.items;
   totals = reverse it.totals.items;
   pieces = it.members.items;
@@ -71,7 +71,7 @@ add member size s =
     record { names = s.names; sizes = size ∷ s.sizes; totals = s.totals; pieces = s.pieces ++ member ∷ [] }
 
 abbrev pub named : List ℕ → State → State
-named x s = record { names = insert_key bytes_eq s.names x; sizes = s.sizes; totals = s.totals; pieces = s.pieces }
+named x s = record { names = with_name s.names x; sizes = s.sizes; totals = s.totals; pieces = s.pieces }
 
 abbrev pub without_size : State → State
 without_size s = record { names = s.names; sizes = other_sizes s.sizes; totals = s.totals; pieces = s.pieces }

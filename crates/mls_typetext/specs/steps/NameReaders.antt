@@ -1,7 +1,9 @@
 -- What the reader of pieces holds, as the machine has it, and what it gives.
-use Rattle.std.specs.Prelude.{◌≡◌, true, List, [], ◌∷◌, reverse, bytes_eq}
-use Rattle.indexmap.specs.IndexMap.{get}
-use Rattle.indexmap.specs.IndexSet.{contains}
+use Rattle.std.specs.Prelude.{◌≡◌, true, List, [], ◌∷◌, reverse}
+use Rattle.std.specs.BTreeMap.{get}
+use Rattle.std.specs.BTreeSet.{contains}
+use Rattle.std.specs.Ordering.{nat_cmp}
+use Rattle.std.specs.Cmp.Lexicographic.{slice_cmp}
 use Rattle.mls_typetext.specs.declared.scheme.TypeFault.{TypeFault}
 use Rattle.mls_typetext.specs.declared.piece.Piece.{Piece}
 use Rattle.mls_typetext.specs.declared.piece.Item.{Item}
@@ -17,8 +19,12 @@ abbrev pub tasks_of : NameReader → List NameTask
 tasks_of r = reverse r.tasks.items
 
 abbrev pub known_of : NameReader → Known
-known_of r =
-    record { recs = get bytes_eq r.recs; labels = contains bytes_eq r.labels; fault = r.fault; items = r.items.items }
+known_of r = record {
+  recs = get (slice_cmp nat_cmp) r.recs;
+  labels = contains (slice_cmp nat_cmp) r.labels;
+  fault = r.fault;
+  items = r.items.items;
+}
 
 -- the pieces are those of no tree with a fault, and these are its items from the last to the first
 abbrev pub GivesItems : List Piece → List Item → Type 0
