@@ -31,6 +31,11 @@ pub record IsSplitWalk (general special : Scheme) (walk : Walk) : Type 0 where
   pub positives : HavePolarity general Positive walk.positives
   pub negatives : HavePolarity general Negative walk.negatives
 
+-- the verdict is yes
+abbrev pub IsYes : Verdict → Type 0
+IsYes (verdict.Yes walk) = Unit {0}
+IsYes (verdict.No path) = ⊥
+
 -- what is said of the walk of a Yes, and of the path of a No
 abbrev pub IfYes : Verdict → (Walk → Type 0) → Type 0
 IfYes (verdict.Yes walk) P = P walk

@@ -9,10 +9,10 @@ ghost use Rattle.mls_flow.specs.Needs.{only};
 ghost use Rattle.mls_subsume.specs.Searches.{IsRising, IsSearch, met_at};
 ghost use Rattle.mls_subsume.specs.steps.Targets.{Follows, field_target, field_targets, function_targets, head_targets, record_targets};
 
-use crate::labels::set_of;
 use crate::queue::Queue;
 use crate::verdict::{StatePair, Step};
 use mls_automaton::automaton::{Arms, Automaton, FieldSet, FieldSets};
+use mls_automaton::lookup::set_of;
 use mls_automaton::scheme::Scheme;
 use mls_automaton::state_set::StateSet;
 use mls_base::memory::Memory;

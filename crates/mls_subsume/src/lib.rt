@@ -6,7 +6,6 @@
 
 mod explore;
 mod flows;
-mod labels;
 mod queue;
 mod reasons;
 pub mod subsume;

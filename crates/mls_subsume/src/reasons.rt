@@ -6,10 +6,10 @@ ghost use Rattle.mls_automaton.specs.Schemes.{IsScheme};
 ghost use Rattle.mls_subsume.specs.Failures.{FailsByLabel, HasLabelAlone, IsFirstMissing, IsFirstReason, IsLeast};
 ghost use Rattle.mls_subsume.specs.Searches.{IsRising, IsSearch, IsFirstByHead};
 
-use crate::labels::set_of;
 use crate::queue::Queue;
 use crate::verdict::{Path, Reason};
 use mls_automaton::automaton::{FieldSet, FieldSets, Head, HeadKind, Polarity};
+use mls_automaton::lookup::set_of;
 use mls_automaton::scheme::Scheme;
 use mls_base::memory::Memory;
 use mls_book::name::Name;

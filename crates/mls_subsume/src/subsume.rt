@@ -5,7 +5,7 @@ ghost use Rattle.mls_automaton.specs.Models.{IsDeterministic};
 ghost use Rattle.mls_automaton.specs.Schemes.{IsScheme};
 ghost use Rattle.mls_subsume.specs.Failures.{IsFirstFailure};
 ghost use Rattle.mls_subsume.specs.Searches.{HasNoFailure, IsSearch, met_at};
-ghost use Rattle.mls_subsume.specs.Verdicts.{DoesNotSubsume, DoesSubsume, IfNo, IfYes, IsSplitWalk};
+ghost use Rattle.mls_subsume.specs.Verdicts.{DoesNotSubsume, DoesSubsume, IfNo, IfYes, IsSplitWalk, IsYes};
 ghost use Rattle.mls_subsume.specs.Walks.{IsIn};
 ghost use Rattle.mls_subsume.specs.steps.Queues.{IsMet};
 
@@ -34,8 +34,8 @@ pub fn subsumes(alloc: Global, general: &Scheme, special: &Scheme) -> Result<Ver
     requires no_binders { general.now.env ≡ [] }
     requires general_deterministic { IsDeterministic general.now.automaton }
     requires special_deterministic { IsDeterministic special.now.automaton }
+    ensures exactly { IfOk result (λ verdict. IsYes verdict ↔ DoesSubsume general.now special.now) }
     ensures walk { IfOk result (λ verdict. IfYes verdict (IsSplitWalk general.now special.now)) }
-    ensures subsumes { IfOk result (λ verdict. IfYes verdict (λ walk. DoesSubsume general.now special.now)) }
     ensures first { IfOk result (λ verdict. IfNo verdict (IsFirstFailure general.now special.now)) }
     ensures does_not_subsume { IfOk result (λ verdict. IfNo verdict (λ path. DoesNotSubsume general.now special.now)) }
 {

@@ -1,173 +1,39 @@
-//! Small schemes, and which of them subsumes which.
-ghost use Rattle.std.specs.Prelude.{◌≡◌, ℕ, Some, IfOk};
-ghost use Rattle.mls_automaton.specs.declared.automaton.Polarity.TheVariants.{Negative};
-ghost use Rattle.mls_automaton.specs.Automata.{IsState};
-ghost use Rattle.mls_automaton.specs.Schemes.{IsScheme, state_of};
+//! Small schemes as texts, and which of them subsumes which.
+ghost use Rattle.std.specs.Prelude.{IfOk};
+ghost use Rattle.mls_automaton.specs.Models.{IsDeterministic};
+ghost use Rattle.mls_automaton.specs.Schemes.{IsScheme};
 
 use crate::subsume::subsumes;
 use crate::verdict::{Path, Reason, Step, Verdict};
-use mls_automaton::automaton::Polarity::{Negative, Positive};
-use mls_automaton::automaton::{Arms, Automaton, FieldSet, FieldSets, Head, HeadKind, Polarity};
-use mls_automaton::scheme::{Env, EnvEntry, Scheme};
-use mls_automaton::state_set::{StateId, StateSet};
+use mls_automaton::automaton::HeadKind;
+use mls_automaton::sample::scheme_of;
+use mls_automaton::scheme::Scheme;
 use mls_base::memory::Memory;
-use mls_base::spelling::is_name;
-use mls_book::name::Name;
 use std::alloc::Global;
 use std::process::Abort;
 use std::test::Fail;
 
-// What a state of the examples has: nothing, a base type, a function from one state to another, or a record without
-// fields, with one field or with two.
-#[derive(Clone, Copy, Debug)]
-enum Part {
-    Nothing,
-    Boolean,
-    Integer,
-    Function(usize, usize),
-    Empty,
-    Field(u8, usize),
-    Fields(u8, usize, u8, usize),
-}
-
-// A scheme: its states, its edges and its root.
-#[derive(Clone, Copy)]
-struct Example<'a> {
-    states: &'a [(Polarity, Part)],
-    flows: &'a [(usize, usize)],
-    root: usize,
-}
-
-fn add_field(
-    rt: &impl Abort,
-    alloc: Global,
-    fields: &mut FieldSets,
-    label: u8,
-    s: usize,
-) -> Result<(), Memory> {
-    let text = [label];
-    assert!(rt; is_name(text.as_slice()));
-    fields.push(FieldSet {
-        label: Name::new(alloc, text.as_slice())?,
-        set: StateSet::one(alloc, StateId(s))?,
-    })
-}
-
-fn head(rt: &impl Abort, alloc: Global, part: Part) -> Result<Head, Memory> {
-    let mut head = Head::empty();
-    match part {
-        Part::Nothing => {}
-        Part::Boolean => head.boolean = true,
-        Part::Integer => head.integer = true,
-        Part::Function(domain, codomain) => {
-            head.function = Some(Arms {
-                domain: StateSet::one(alloc, StateId(domain))?,
-                codomain: StateSet::one(alloc, StateId(codomain))?,
-            });
-        }
-        Part::Empty => head.fields = Some(FieldSets::new(alloc)),
-        Part::Field(label, s) => {
-            let mut fields = FieldSets::new(alloc);
-            add_field(rt, alloc, &mut fields, label, s)?;
-            head.fields = Some(fields);
-        }
-        Part::Fields(label, s, other, t) => {
-            let mut fields = FieldSets::new(alloc);
-            add_field(rt, alloc, &mut fields, label, s)?;
-            add_field(rt, alloc, &mut fields, other, t)?;
-            head.fields = Some(fields);
-        }
-    }
-    Ok(head)
-}
-
-fn automaton(
-    rt: &impl Abort,
-    alloc: Global,
-    states: &[(Polarity, Part)],
-    flows: &[(usize, usize)],
-) -> Result<Automaton, Memory> {
-    let mut a = Automaton::new(alloc);
-    for (polarity, part) in states {
-        a.state(*polarity, head(rt, alloc, *part)?)?;
-    }
-    for (n, p) in flows {
-        add_flow(rt, &mut a, StateId(*n), StateId(*p))?;
-    }
-    Ok(a)
-}
-
-fn add_flow(
-    rt: &impl Abort,
-    a: &mut Automaton,
-    negative: StateId,
-    positive: StateId,
-) -> Result<(), Memory> {
-    assert!(rt; negative.0 < a.len() && positive.0 < a.len());
-    assert!(rt; a.polarity(negative) == Negative && a.polarity(positive) == Positive);
-    a.add_flow(negative, positive)
-}
-
-// No binder, or binder 4 with this state.
-fn env(rt: &impl Abort, alloc: Global, a: &Automaton, binder: Option<usize>) -> Result<Env, Memory>
-    ensures { IfOk result (λ env. (x n : ℕ) → state_of env x ≡ Some n → IsState a.now Negative n) }
+// The scheme of a text, which is one, and deterministic.
+fn sample(rt: &impl Abort, alloc: Global, text: &str) -> Result<Scheme, Memory>
+    ensures scheme { IfOk result IsScheme }
+    ensures deterministic { IfOk result (λ s. IsDeterministic s.automaton) }
 {
-    let mut env = Env::new(alloc);
-    if let Some(s) = binder {
-        assert!(rt; s < a.len() && a.polarity(StateId(s)) == Negative);
-        env.push(EnvEntry {
-            binder: 4,
-            state: StateId(s),
-        })?;
+    match scheme_of(alloc, text)? {
+        Some(scheme) => {
+            assert!(rt; scheme.automaton.is_deterministic());
+            Ok(scheme)
+        }
+        None => panic!(rt; "no scheme: {text}"),
     }
-    Ok(env)
 }
 
-fn scheme(
-    rt: &impl Abort,
-    alloc: Global,
-    example: &Example,
-    binder: Option<usize>,
-) -> Result<Scheme, Memory>
-    ensures { IfOk result IsScheme }
-{
-    let automaton = automaton(rt, alloc, example.states, example.flows)?;
-    let root = StateId(example.root);
-    assert!(rt; automaton.is_closed());
-    assert!(rt; root.0 < automaton.len() && automaton.polarity(root) == Positive);
-    let env = env(rt, alloc, &automaton, binder)?;
-    Ok(Scheme {
-        automaton,
-        env,
-        root,
-    })
-}
-
-fn verdict(
-    rt: &impl Abort,
-    alloc: Global,
-    general: &Example,
-    special: &Example,
-    binder: Option<usize>,
-) -> Result<Verdict, Memory> {
-    let general = scheme(rt, alloc, general, None)?;
-    let special = scheme(rt, alloc, special, binder)?;
-    assert!(rt; general.env.is_empty());
-    assert!(rt; general.automaton.is_deterministic() && special.automaton.is_deterministic());
-    subsumes(alloc, &general, &special)
-}
-
-fn add_path(text: &mut String, path: &Path) -> Result<(), Fail> {
-    text.push_str("root")?;
+fn show_steps(line: &mut String, path: &Path) -> Result<(), Memory> {
+    line.push_str("root")?;
     for step in path.steps.as_slice() {
         match step {
-            Step::Domain => text.push_str(".dom")?,
-            Step::Codomain => text.push_str(".cod")?,
-            Step::At(label) => {
-                text.push_str(".{")?;
-                text.push_str(label.as_str())?;
-                text.push_str("}")?;
-            }
+            Step::Domain => line.push_str(".dom")?,
+            Step::Codomain => line.push_str(".cod")?,
+            Step::At(label) => write!(line, ".{{{}}}", label.as_str())?,
         }
     }
     Ok(())
@@ -175,338 +41,268 @@ fn add_path(text: &mut String, path: &Path) -> Result<(), Fail> {
 
 fn kind_name(kind: HeadKind) -> &'static str {
     match kind {
-        HeadKind::Bool => " bool",
-        HeadKind::Int => " int",
-        HeadKind::Function => " function",
-        HeadKind::Rcd => " record",
+        HeadKind::Bool => "bool",
+        HeadKind::Int => "int",
+        HeadKind::Function => "function",
+        HeadKind::Rcd => "record",
     }
 }
 
-fn add_reason(text: &mut String, reason: &Reason) -> Result<(), Fail> {
+fn show_reason(line: &mut String, reason: &Reason) -> Result<(), Memory> {
     match reason {
-        Reason::Head(kind) => text.push_str(kind_name(*kind))?,
-        Reason::Label(label) => {
-            text.push_str(" field ")?;
-            text.push_str(label.as_str())?;
-        }
-        Reason::Flow => text.push_str(" flow")?,
+        Reason::Head(kind) => write!(line, " ({})", kind_name(*kind))?,
+        Reason::Label(label) => write!(line, " (field {})", label.as_str())?,
+        Reason::Flow => line.push_str(" (flow)")?,
     }
     Ok(())
 }
 
-// `yes`, or the path and the reason.
-fn answer(alloc: Global, verdict: &Verdict) -> Result<String, Fail> {
-    let mut text = String::new(alloc);
-    match verdict {
-        Verdict::Yes(_) => text.push_str("yes")?,
+// `yes` and the numbers of its positive and of its negative pairs, or the path and the reason.
+fn answer(rt: &impl Abort, alloc: Global, general: &str, special: &str) -> Result<String, Memory> {
+    let general = sample(rt, alloc, general)?;
+    let special = sample(rt, alloc, special)?;
+    assert!(rt; general.env.is_empty());
+    let mut line = String::new(alloc);
+    match subsumes(alloc, &general, &special)? {
+        Verdict::Yes(walk) => write!(
+            line,
+            "yes {}+{}",
+            walk.positives.len(),
+            walk.negatives.len()
+        )?,
         Verdict::No(path) => {
-            add_path(&mut text, path)?;
-            add_reason(&mut text, &path.reason)?;
+            show_steps(&mut line, &path)?;
+            show_reason(&mut line, &path.reason)?;
         }
     }
-    Ok(text)
-}
-
-fn has_answer(
-    rt: &impl Abort,
-    alloc: Global,
-    general: &Example,
-    special: &Example,
-    expected: &str,
-) -> Result<(), Fail> {
-    let verdict = verdict(rt, alloc, general, special, None)?;
-    let answer = answer(alloc, &verdict)?;
-    assert_eq!(rt; answer.as_str(), expected);
-    Ok(())
+    Ok(line)
 }
 
 #[test]
-fn parts_and_labels(rt: HostRuntime) -> Result<(), Fail> {
-    let alloc = rt.alloc();
-    // A record with fields a and c, and what else there is at the root.
-    let rows = [
-        (Part::Nothing, Part::Nothing, "yes"),
-        (Part::Nothing, Part::Boolean, "yes"),
-        (Part::Boolean, Part::Boolean, "yes"),
-        (Part::Boolean, Part::Integer, "root bool"),
-        (Part::Integer, Part::Nothing, "root int"),
-        (Part::Function(1, 2), Part::Integer, "root function"),
-        (Part::Function(1, 2), Part::Function(1, 2), "yes"),
-        (Part::Empty, Part::Function(1, 2), "root record"),
-        (Part::Empty, Part::Empty, "yes"),
-        (Part::Empty, Part::Field(b'a', 2), "root field a"),
-        (Part::Field(b'a', 2), Part::Empty, "yes"),
-        (
-            Part::Field(b'c', 2),
-            Part::Fields(b'a', 2, b'b', 3),
-            "root field a",
-        ),
-        (Part::Fields(b'a', 2, b'b', 3), Part::Field(b'b', 3), "yes"),
-        (Part::Field(b'a', 2), Part::Field(b'a', 3), "root.{a} bool"),
-    ];
-    for (general, special, expected) in rows {
-        let first = [
-            (Positive, general),
-            (Negative, Part::Nothing),
-            (Positive, Part::Boolean),
-            (Positive, Part::Integer),
-        ];
-        let second = [
-            (Positive, special),
-            (Negative, Part::Nothing),
-            (Positive, Part::Boolean),
-            (Positive, Part::Integer),
-        ];
-        let flows: [(usize, usize); 0] = [];
-        let general = Example {
-            states: first.as_slice(),
-            flows: flows.as_slice(),
-            root: 0,
-        };
-        let special = Example {
-            states: second.as_slice(),
-            flows: flows.as_slice(),
-            root: 0,
-        };
-        has_answer(&rt, alloc, &general, &special, expected)?;
+fn heads_of_the_roots(rt: HostRuntime) -> Result<(), Fail> {
+    for (general, special, expected) in [
+        ("+ *0", "+ *0", "yes 1+0"),
+        ("+ *0", "+b *0", "yes 1+0"),
+        ("+b *0", "+b *0", "yes 1+0"),
+        ("+b *0", "+i *0", "root (bool)"),
+        ("+i *0", "+ *0", "root (int)"),
+        ("+f1>2 - +b *0", "+i *0", "root (function)"),
+        ("+f1>2 - +b *0", "+f1>2 - +b *0", "yes 2+1"),
+        ("+{} *0", "+f1>2 - +b *0", "root (record)"),
+        ("+{} *0", "+{} *0", "yes 1+0"),
+        ("+{} *0", "+{a:1} +b *0", "root (field a)"),
+        ("+{a:1} +b *0", "+{} *0", "yes 1+0"),
+        ("+{c:1} +b *0", "+{a:1;b:2} +b +i *0", "root (field a)"),
+        ("+{a:1;b:2} +b +i *0", "+{b:1} +i *0", "yes 2+0"),
+        ("+{a:1} +b *0", "+{a:1} +i *0", "root.{a} (bool)"),
+        // Of several reasons the first kind, and kinds before labels.
+        ("+bif1>2{} - + *0", "+bf1>2 - + *0", "root (int)"),
+        ("+i{} *0", "+{a:1} + *0", "root (int)"),
+    ] {
+        let line = answer(&rt, rt.alloc(), general, special)?;
+        assert_eq!(rt; line.as_str(), expected, "{general}");
     }
     Ok(())
 }
 
 #[test]
-fn functions(rt: HostRuntime) -> Result<(), Fail> {
-    let alloc = rt.alloc();
-    // A function from the first part to the second, and whether an edge goes between the two.
-    let rows = [
+fn functions_and_edges(rt: HostRuntime) -> Result<(), Fail> {
+    for (general, special, expected) in [
+        // A function from state 0 to state 1, with an edge from the one to the other or without.
+        ("- + +f0>1 0~1 *2", "- + +f0>1 0~1 *2", "yes 2+1"),
+        ("- + +f0>1 0~1 *2", "- + +f0>1 *2", "root.cod (flow)"),
+        ("- + +f0>1 *2", "- + +f0>1 0~1 *2", "yes 2+1"),
+        ("- + +f0>1 0~1 *2", "-b +b +f0>1 *2", "yes 2+1"),
+        ("- + +f0>1 0~1 *2", "-b +i +f0>1 *2", "root.cod (flow)"),
+        ("- +b +f0>1 *2", "-b +b +f0>1 *2", "yes 2+1"),
+        ("-b +b +f0>1 *2", "- + +f0>1 0~1 *2", "root.dom (bool)"),
+        ("-b +b +f0>1 *2", "-b +i +f0>1 *2", "root.cod (bool)"),
+        ("- +i +f0>1 0~1 *2", "- +b +f0>1 *2", "root.cod (int)"),
+        ("-{a:0} + +f0>1 *2", "-{} + +f0>1 *2", "root.dom (field a)"),
+        ("-{} + +f0>1 *2", "-{a:0} + +f0>1 *2", "yes 2+1"),
+        ("-f1>0 + +f0>1 *2", "-f1>0 + +f0>1 0~1 *2", "yes 2+1"),
+        // Heads of functions that contain themselves stand for an edge.
+        ("- + +f0>1 0~1 *2", "-f1>0 +f0>1 +f0>1 *2", "yes 2+1"),
+        // An edge of another argument is of no use.
         (
-            Part::Nothing,
-            Part::Nothing,
-            true,
-            Part::Nothing,
-            Part::Nothing,
-            true,
-            "yes",
+            "- - + +f1>2 +f0>3 0~2 *4",
+            "- - + +f1>2 +f0>3 1~2 *4",
+            "root.cod.cod (flow)",
         ),
+        // A part that is missing far away comes before an edge that is missing near.
         (
-            Part::Nothing,
-            Part::Nothing,
-            true,
-            Part::Nothing,
-            Part::Nothing,
-            false,
-            "root.cod flow",
+            "- + +f0>1{a:3} +{b:4} +i 0~1 *2",
+            "- + +f0>1{a:3} +{b:4} + *2",
+            "root.{a}.{b} (int)",
         ),
-        (
-            Part::Nothing,
-            Part::Nothing,
-            false,
-            Part::Nothing,
-            Part::Nothing,
-            true,
-            "yes",
-        ),
-        (
-            Part::Nothing,
-            Part::Nothing,
-            true,
-            Part::Boolean,
-            Part::Boolean,
-            false,
-            "yes",
-        ),
-        (
-            Part::Nothing,
-            Part::Nothing,
-            true,
-            Part::Boolean,
-            Part::Integer,
-            false,
-            "root.cod flow",
-        ),
-        (
-            Part::Nothing,
-            Part::Boolean,
-            false,
-            Part::Boolean,
-            Part::Boolean,
-            false,
-            "yes",
-        ),
-        (
-            Part::Boolean,
-            Part::Boolean,
-            false,
-            Part::Nothing,
-            Part::Nothing,
-            true,
-            "root.dom bool",
-        ),
-        (
-            Part::Boolean,
-            Part::Boolean,
-            false,
-            Part::Boolean,
-            Part::Integer,
-            false,
-            "root.cod bool",
-        ),
-        (
-            Part::Nothing,
-            Part::Integer,
-            true,
-            Part::Nothing,
-            Part::Boolean,
-            false,
-            "root.cod int",
-        ),
-        (
-            Part::Field(b'a', 0),
-            Part::Nothing,
-            false,
-            Part::Empty,
-            Part::Nothing,
-            false,
-            "root.dom field a",
-        ),
-        (
-            Part::Empty,
-            Part::Nothing,
-            false,
-            Part::Field(b'a', 0),
-            Part::Nothing,
-            false,
-            "yes",
-        ),
-        (
-            Part::Function(1, 0),
-            Part::Nothing,
-            false,
-            Part::Function(1, 0),
-            Part::Nothing,
-            true,
-            "yes",
-        ),
-    ];
-    for (domain, codomain, has_edge, other, others, has_other, expected) in rows {
-        let first = [
-            (Negative, domain),
-            (Positive, codomain),
-            (Positive, Part::Function(0, 1)),
-        ];
-        let second = [
-            (Negative, other),
-            (Positive, others),
-            (Positive, Part::Function(0, 1)),
-        ];
-        let edges = [(0, 1)];
-        let no_edges: [(usize, usize); 0] = [];
-        let general = Example {
-            states: first.as_slice(),
-            flows: if has_edge {
-                edges.as_slice()
-            } else {
-                no_edges.as_slice()
-            },
-            root: 2,
-        };
-        let special = Example {
-            states: second.as_slice(),
-            flows: if has_other {
-                edges.as_slice()
-            } else {
-                no_edges.as_slice()
-            },
-            root: 2,
-        };
-        has_answer(&rt, alloc, &general, &special, expected)?;
+    ] {
+        let line = answer(&rt, rt.alloc(), general, special)?;
+        assert_eq!(rt; line.as_str(), expected, "{general}");
     }
     Ok(())
 }
 
-// Types that contain themselves, with the periods 1 and 2.
 #[test]
-fn recursion(rt: HostRuntime) -> Result<(), Fail> {
-    let alloc = rt.alloc();
-    let flows: [(usize, usize); 0] = [];
-    let one = [(Negative, Part::Boolean), (Positive, Part::Function(0, 1))];
-    let two = [
-        (Negative, Part::Boolean),
-        (Positive, Part::Function(0, 2)),
-        (Positive, Part::Function(0, 1)),
-    ];
-    let mixed = [
-        (Negative, Part::Boolean),
-        (Positive, Part::Function(0, 2)),
-        (Positive, Part::Function(3, 1)),
-        (Negative, Part::Integer),
-    ];
-    let first = Example {
-        states: one.as_slice(),
-        flows: flows.as_slice(),
-        root: 1,
-    };
-    let second = Example {
-        states: two.as_slice(),
-        flows: flows.as_slice(),
-        root: 1,
-    };
-    let third = Example {
-        states: mixed.as_slice(),
-        flows: flows.as_slice(),
-        root: 1,
-    };
-    has_answer(&rt, alloc, &first, &second, "yes")?;
-    has_answer(&rt, alloc, &second, &first, "yes")?;
-    has_answer(&rt, alloc, &first, &third, "root.cod.dom bool")?;
-    has_answer(&rt, alloc, &third, &second, "root.cod.dom int")
+fn each_kind_at_each_depth(rt: HostRuntime) -> Result<(), Fail> {
+    for (general, special, expected) in [
+        ("-b + +f0>1 *2", "- + +f0>1 *2", "root.dom (bool)"),
+        ("- +i +f0>1 *2", "- + +f0>1 *2", "root.cod (int)"),
+        ("+{a:1} +f2>0 - *0", "+{a:1} + *0", "root.{a} (function)"),
+        ("-{} + +f0>1 *2", "-f1>0 + +f0>1 *2", "root.dom (record)"),
+        (
+            "+{a:1} +{b:2} +b *0",
+            "+{a:1} +{b:2} +i *0",
+            "root.{a}.{b} (bool)",
+        ),
+        (
+            "- -i -f3>1 + +f2>3 *4",
+            "- - -f3>1 + +f2>3 *4",
+            "root.dom.cod (int)",
+        ),
+        (
+            "- +f0>1 +f0>1 *2",
+            "- + +f0>1 +f0>2 *3",
+            "root.cod.cod (function)",
+        ),
+        (
+            "- -{} + +f1>2 +f0>3 *4",
+            "- -b + +f1>2 +f0>3 *4",
+            "root.cod.dom (record)",
+        ),
+        (
+            "+b - -f0>1 + +f2>3 +{a:4} *5",
+            "+ - -f0>1 + +f2>3 +{a:4} *5",
+            "root.{a}.dom.dom (bool)",
+        ),
+        (
+            "-i -{a:0} -f3>1 + +f2>3 *4",
+            "- -{a:0} -f3>1 + +f2>3 *4",
+            "root.dom.cod.{a} (int)",
+        ),
+        (
+            "- +f0>1 *1",
+            "- + +f0>1 +f0>2 +f0>3 *4",
+            "root.cod.cod.cod (function)",
+        ),
+        (
+            "-{} +f0>2 + -f1>4 - +f3>2 *5",
+            "-i +f0>2 + -f1>4 - +f3>2 *5",
+            "root.dom.dom.dom (record)",
+        ),
+    ] {
+        let line = answer(&rt, rt.alloc(), general, special)?;
+        assert_eq!(rt; line.as_str(), expected, "{general}");
+    }
+    Ok(())
 }
 
-// Paths of one length, through two domains, and binders of the special scheme.
 #[test]
-fn paths_and_binders(rt: HostRuntime) -> Result<(), Fail> {
-    let alloc = rt.alloc();
-    let flows: [(usize, usize); 0] = [];
-    let edge = [(0, 1)];
-    let takes_bool = [
-        (Positive, Part::Boolean),
-        (Negative, Part::Nothing),
-        (Negative, Part::Function(0, 1)),
-        (Positive, Part::Nothing),
-        (Positive, Part::Function(2, 3)),
-    ];
-    let takes_any = [
-        (Positive, Part::Nothing),
-        (Negative, Part::Nothing),
-        (Negative, Part::Function(0, 1)),
-        (Positive, Part::Nothing),
-        (Positive, Part::Function(2, 3)),
-    ];
-    let free = [(Negative, Part::Nothing), (Positive, Part::Nothing)];
-    let first = Example {
-        states: takes_bool.as_slice(),
-        flows: flows.as_slice(),
-        root: 4,
-    };
-    let second = Example {
-        states: takes_any.as_slice(),
-        flows: flows.as_slice(),
-        root: 4,
-    };
-    has_answer(&rt, alloc, &first, &second, "root.dom.dom bool")?;
-    has_answer(&rt, alloc, &second, &first, "yes")?;
-    let nothing = [(Positive, Part::Nothing)];
-    let least = Example {
-        states: nothing.as_slice(),
-        flows: flows.as_slice(),
-        root: 0,
-    };
-    let bound = Example {
-        states: free.as_slice(),
-        flows: edge.as_slice(),
-        root: 1,
-    };
-    let verdict = verdict(&rt, alloc, &least, &bound, Some(0))?;
-    let answer = answer(alloc, &verdict)?;
-    assert_eq!(rt; answer.as_str(), "yes");
+fn labels_and_the_first_path(rt: HostRuntime) -> Result<(), Fail> {
+    for (general, special, expected) in [
+        // The least label, beside one that both have: of the special record where states are positive, and of the
+        // general one where they are negative.
+        ("+{b:1} + *0", "+{aB:1;a_:1;b:1} + *0", "root (field aB)"),
+        ("+{a:1} + *0", "+{a:1;aa:1;b:1} + *0", "root (field aa)"),
+        (
+            "-{a:0;b:0;c:0} + +f0>1 *2",
+            "-{b:0} + +f0>1 *2",
+            "root.dom (field a)",
+        ),
+        ("-{b:0} + +f0>1 *2", "-{a:0;b:0;c:0} + +f0>1 *2", "yes 2+1"),
+        (
+            "+{a:1} +{b:0} *0",
+            "+{a:1} +{b:0;c:0} *0",
+            "root.{a} (field c)",
+        ),
+        (
+            "-{x:1} -{y:0} + +f0>2 *3",
+            "-{x:1} -{} + +f0>2 *3",
+            "root.dom.{x} (field y)",
+        ),
+        // Of two paths the shorter one, whatever its reason and its steps.
+        ("+{a:1} +b *0", "+{a:1;b:1} + *0", "root (field b)"),
+        (
+            "+b - -f0>1 + +i +f2>3{z:4} *5",
+            "+ - -f0>1 + + +f2>3{z:4} *5",
+            "root.{z} (int)",
+        ),
+        // Of two paths of one length the domain comes before the codomain, and this one before labels in byte order.
+        ("-b +b +f0>1 *2", "- + +f0>1 *2", "root.dom (bool)"),
+        (
+            "- +b +i +f0>1{a:2} *3",
+            "- + + +f0>1{a:2} *3",
+            "root.cod (bool)",
+        ),
+        ("+{a:1;b:2} +i +b *0", "+{a:1;b:1} + *0", "root.{a} (int)"),
+        // A pair that two paths lead to: the shorter path, and of two of one length the first.
+        (
+            "+{a:1;b:2} +{c:2} +b *0",
+            "+{a:1;b:2} +{c:2} + *0",
+            "root.{b} (bool)",
+        ),
+        (
+            "+{a:1;b:2} +{d:3} +{c:3} +b *0",
+            "+{a:1;b:2} +{d:3} +{c:3} + *0",
+            "root.{a}.{d} (bool)",
+        ),
+    ] {
+        let line = answer(&rt, rt.alloc(), general, special)?;
+        assert_eq!(rt; line.as_str(), expected, "{general}");
+    }
+    Ok(())
+}
+
+#[test]
+fn recursion_and_binders(rt: HostRuntime) -> Result<(), Fail> {
+    for (general, special, expected) in [
+        // Types that contain themselves, with the periods 1 and 2.
+        ("-b +f0>1 *1", "-b +f0>2 +f0>1 *1", "yes 2+1"),
+        ("-b +f0>2 +f0>1 *1", "-b +f0>1 *1", "yes 2+1"),
+        ("-b +f0>1 *1", "-b +f0>2 +f3>1 -i *1", "root.cod.dom (bool)"),
+        (
+            "-b +f0>2 +f3>1 -i *1",
+            "-b +f0>2 +f0>1 *1",
+            "root.cod.dom (int)",
+        ),
+        // The periods 2 and 3, and 3 and 2.
+        ("-b +f0>2 +f0>1 *1", "-b +f0>2 +f0>3 +f0>1 *1", "yes 6+1"),
+        (
+            "+{n:1} +i{n:0} *0",
+            "+i{n:1} +i{n:2} +{n:0} *0",
+            "root.{n}.{n}.{n}.{n}.{n} (int)",
+        ),
+        (
+            "+{n:1} +{n:2} +i{n:0} *0",
+            "+i{n:1} +{n:0} *0",
+            "root.{n}.{n}.{n}.{n}.{n} (int)",
+        ),
+        // A domain that contains the function, unrolled once.
+        (
+            "+f1>2 -f0>3 + - *0",
+            "+f1>4 -f2>5 +f3>4 -f0>5 + - *0",
+            "yes 3+3",
+        ),
+        // A path through two domains.
+        (
+            "+b - -f0>1 + +f2>3 *4",
+            "+ - -f0>1 + +f2>3 *4",
+            "root.dom.dom (bool)",
+        ),
+        ("+ - -f0>1 + +f2>3 *4", "+b - -f0>1 + +f2>3 *4", "yes 3+2"),
+        // An edge of a state that is paired with two.
+        ("- +f0>1 0~1 *1", "- +f0>2 +f0>1 0~1 *1", "root.cod (flow)"),
+        ("- +f0>1 0~1 *1", "- +f0>2 +f0>1 0~1 0~2 *1", "yes 2+1"),
+        // Binders of the special scheme ask nothing of the general one, and their edges are of no use to it.
+        ("+ *0", "- + 0~1 x4=0 *1", "yes 1+0"),
+        ("- + +f0>1 *2", "- + +f0>1 0~1 x3=0 x4=0 *2", "yes 2+1"),
+        (
+            "- + +f0>1 0~1 *2",
+            "- - + +f0>2 1~2 x0=1 *3",
+            "root.cod (flow)",
+        ),
+    ] {
+        let line = answer(&rt, rt.alloc(), general, special)?;
+        assert_eq!(rt; line.as_str(), expected, "{general}");
+    }
     Ok(())
 }
