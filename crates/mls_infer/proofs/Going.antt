@@ -1,6 +1,7 @@
 -- The loop over the nodes goes on to the root of each expression: whatever schemes its steps answer, the expression is inferred then, or
 -- inference stopped at one of its nodes.
 --     Done, Ready            what stands where the loop has come to
+--     KindIn, KindAmong      the kind of a node of a part, or of one of several parts
 --     node_goes              over the node of an expression that is no let and no known name
 --     let_goes, inner_goes, global_goes
 use Rattle.std.proofs.Common.{◌≡◌, ◌≢◌, ℕ, suc, ◌+◌, ◌<◌, ◌≤◌, false, List, [], ◌∷◌, length, map, All, Contains, refl, sym, ◌∙◌, subst, arith, Some, slice_get}
@@ -15,15 +16,16 @@ use Rattle.mls_automaton.proofs.BooksExist.{scheme_exists}
 use Rattle.mls_term.specs.declared.term.TermForm.{TermForm}
 use Rattle.mls_term.specs.declared.term.TermForm.TheVariants as form
 use Rattle.mls_term.specs.declared.term.TermNode.{TermNode}
-use Rattle.mls_term.specs.Terms.{TermTree, before}
-use Rattle.mls_term.specs.Derivations.{Known}
-use Rattle.mls_term.specs.WellFormed.{early_parts}
-use Rattle.mls_typing.specs.Runs.{is_let, none, Infers}
-use Rattle.mls_typing.proofs.Inference.{AreInTurn, parts_in_turn, in_turn_le}
+use Rattle.mls_term.specs.Terms.{TermTree, local, before}
+use Rattle.mls_term.specs.Derivations.{Known, with_let}
+use Rattle.mls_term.specs.WellFormed.{early_parts, IsPartOf, in_part, in_second}
+use Rattle.mls_term.specs.TypingLaws.{AreSchemes}
+use Rattle.mls_term.proofs.Metatheory.{AreSchemes-let}
+use Rattle.mls_typing.specs.Runs.{is_let, best, none, Infers}
+use Rattle.mls_typing.proofs.Inference.{AreInTurn, parts_in_turn, in_turn_le, infers_right}
 use Rattle.mls_infer.specs.declared.fault.SiteKind.{SiteKind}
-use Rattle.mls_infer.specs.declared.solve.NoSolution.TheVariants as clash
 use Rattle.mls_infer.specs.Constraints.{Constraint}
-use Rattle.mls_infer.specs.Solved.{TellsFirstClash}
+use Rattle.mls_infer.specs.Inference.{AreBestFor, IsKindAt}
 use Rattle.mls_infer.specs.Steps.{IsReadAs, IsSolution, IsConstraintOf}
 use Rattle.mls_infer.specs.Finished.{Finished, Has, HasEach}
 use Rattle.mls_infer.specs.Finishing.{children, IsBuilt, IsPosed, Scope, HasConstraint, HasParts, CanStep, is_copied, is_read, IsAnswer, is_named, is_solved, IsStep, IsStop, GoesOn}
@@ -35,16 +37,38 @@ use Rattle.mls_infer.proofs.Reading.{read_as}
 pub read_scheme : (s : Scheme) → IsScheme s → BindersRise s.env → (u : book.Scheme) × IsReadAs s u
 read_scheme s is rise = let it = scheme_exists s is in (it.0, read_as s is (rising_found s.env rise) it.0 it.1)
 
--- at a node of the term, this is the kind of the first clash of its constraint over automata of its parts
-pub record IsKindAt (i : ℕ) (m : SiteKind) : Type 0 where
-  pub known : Known
-  pub n : ℕ
-  pub t : TermTree
-  pub number_is : i ≡ n + before t
-  pub all : AllInferred known (early_parts n t)
-  pub constraint : Constraint
-  pub is : IsConstraintOf known t (automata_of known (early_parts n t) all) constraint
-  pub first : TellsFirstClash constraint (clash.Clash m)
+-- wherever the expression is a part of a whole, this is the kind of a node of the whole
+abbrev pub KindIn : Known → ℕ → TermTree → ℕ → SiteKind → Type 0
+KindIn known n t i m = (globals : List book.Scheme) (whole : TermTree) → AreSchemes known → IsPartOf globals whole n t known → IsKindAt globals whole i m
+
+-- these are parts of a whole
+abbrev pub ArePartsOf : List book.Scheme → TermTree → List (ℕ × TermTree) → Known → Type 0
+ArePartsOf globals whole parts known = (n : ℕ) (t : TermTree) → Contains parts (n, t) → IsPartOf globals whole n t known
+
+-- wherever these are parts of a whole, this is the kind of a node of the whole
+abbrev pub KindAmong : Known → List (ℕ × TermTree) → ℕ → SiteKind → Type 0
+KindAmong known parts i m = (globals : List book.Scheme) (whole : TermTree) → AreSchemes known → ArePartsOf globals whole parts known → IsKindAt globals whole i m
+
+first_part : (globals : List book.Scheme) (whole : TermTree) (part : ℕ × TermTree) (rest : List (ℕ × TermTree)) (known : Known) → ArePartsOf globals whole (part ∷ rest) known → IsPartOf globals whole part.0 part.1 known
+first_part globals whole part rest known are = are part.0 part.1 (0, omega arith, refl)
+
+other_parts : (globals : List book.Scheme) (whole : TermTree) (part : ℕ × TermTree) (rest : List (ℕ × TermTree)) (known : Known) → ArePartsOf globals whole (part ∷ rest) known → ArePartsOf globals whole rest known
+other_parts globals whole part rest known are n t it = are n t (suc it.0, (let low : it.0 < length rest = it.1 in omega arith), it.2)
+
+module _ (known : Known) (i : ℕ) (m : SiteKind) where
+  pub kind_of_parts : (n : ℕ) (t : TermTree) → KindAmong known (early_parts n t) i m → KindIn known n t i m
+  kind_of_parts n t kind globals whole all part = kind globals whole all (λ k e inside. in_part n t part inside)
+
+  pub kind_here : (n : ℕ) (t : TermTree) (rest : List (ℕ × TermTree)) → KindIn known n t i m → KindAmong known ((n, t) ∷ rest) i m
+  kind_here n t rest kind globals whole all are = kind globals whole all (first_part globals whole (n, t) rest known are)
+
+  pub kind_later : (part : ℕ × TermTree) (rest : List (ℕ × TermTree)) → KindAmong known rest i m → KindAmong known (part ∷ rest) i m
+  kind_later part rest kind globals whole all are = kind globals whole all (other_parts globals whole part rest known are)
+
+  pub kind_second : (n at k : ℕ) (e e' : TermTree) (first : Inferred known n e) → KindIn (with_let known k first.scheme) (n + suc (before e)) e' i m → KindIn known n (local at k e e') i m
+  kind_second n at k e e' first kind globals whole all part =
+      let it = infers_right globals whole known n e (best first.scheme) all (in_part n (local at k e e') part (0, omega arith, refl)) first.infers in
+      kind globals whole (AreSchemes-let known k first.scheme all first.read.is) (in_second n known at k e first.scheme part refl it.1 refl)
 
 -- a finished part, whose automaton is there
 pub record Done (known : Known) (n : ℕ) (t : TermTree) (done : Finished) : Type 0 where
@@ -118,10 +142,17 @@ module _ (known : Known) (done : Finished) where
   all_schemes [] all = λ i d low. absurd (omega arith)
   all_schemes (part ∷ parts) all = All-cons IsScheme all.0.part.automaton (automata_of known parts (inferred_all parts all.1)) all.0.is (all_schemes parts all.1)
 
+  -- finished parts have most general schemes
+  pub parts_best : (globals : List book.Scheme) (whole : TermTree) → AreSchemes known → (parts : List (ℕ × TermTree)) (all : AllDone known parts done) → ArePartsOf globals whole parts known → AreBestFor known parts (automata_of known parts (inferred_all parts all))
+  parts_best globals whole schemes [] all are = tt
+  parts_best globals whole schemes (part ∷ parts) all are =
+      let it = infers_right globals whole known part.0 part.1 (best all.0.part.scheme) schemes (first_part globals whole part parts known are) all.0.part.infers in
+      ((all.0.is, all.0.part.scheme, all.0.part.read, it.1), parts_best globals whole schemes parts all.1 (other_parts globals whole part parts known are))
+
 module _ (scope : Scope) (Fails : ℕ → SiteKind → Type 0) (Ends : Finished → Type 0) where
   -- what fails at a part, fails
   abbrev pub Failing : Known → ℕ → TermTree → Type 0
-  Failing known n t = (i : ℕ) (m : SiteKind) → IsKindAt i m → Infers known n t (none i) → Fails i m
+  Failing known n t = (i : ℕ) (m : SiteKind) → KindIn known n t i m → Infers known n t (none i) → Fails i m
 
   -- from the end of a part on, the loop goes on with the nodes that are left
   abbrev pub Going : Known → ℕ → TermTree → List TermNode → Finished → Type 0
@@ -172,7 +203,19 @@ module _ (scope : Scope) (Fails : ℕ → SiteKind → Type 0) (Ends : Finished 
         let is : IsConstraintOf known t schemes stop.constraint = of_parts stop.constraint stop.is in
         let P : ℕ → Type 0 = λ i. Fails i m in
         subst P (sym size)
-        (failing (n + before t) m (record { known = known; n = n; t = t; number_is = refl; all = parts; constraint = stop.constraint; is = is; first = stop.first })
+        (failing (n + before t) m
+        (λ globals whole known_are part. record {
+          n = n;
+          t = t;
+          known = known;
+          part = part;
+          number_is = refl;
+          schemes = schemes;
+          best = parts_best known done globals whole known_are (early_parts n t) all (λ k e inside. in_part n t part inside);
+          constraint = stop.constraint;
+          constraint_is = is;
+          first = stop.first;
+        })
         (inferred_none known n t plain parts stop.constraint is stop.none))
 
     not_inner : (k : ℕ) → node.form ≡ form.Inner k → ⊥

@@ -16,7 +16,7 @@ use Rattle.mls_infer.specs.Steps.{IsConstraintOf}
 use Rattle.mls_infer.specs.Finished.{Finished, child_of}
 use Rattle.mls_infer.specs.Finishing.{IsPosed, Scope, GoesOn, HasFirsts, HaveFirsts}
 use Rattle.mls_infer.proofs.Inferred.{second_none}
-use Rattle.mls_infer.proofs.Going.{IsKindAt, AllDone, Agree, agree_trans, agree_self, done_later, roots, Failing, Going, node_goes}
+use Rattle.mls_infer.proofs.Going.{KindAmong, kind_of_parts, kind_here, kind_later, kind_second, AllDone, Agree, agree_trans, agree_self, done_later, roots, Failing, Going, node_goes}
 use Rattle.mls_infer.proofs.GoingNames.{Ready, ready_later, ready_inside, inner_goes, global_goes, let_goes}
 
 -- nodes before other nodes
@@ -109,7 +109,7 @@ module _ (scope : Scope) (Fails : ℕ → SiteKind → Type 0) (Ends : Finished 
         let node : TermNode = record { at = at; form = form.Fun x (n + before e) } in
         let P : List TermNode → Type 0 = λ xs. Goes xs done in
         subst P (sym (one_then (postorder n e) node rest))
-        (goes_tree e (x ∷ binders) lets known n (node ∷ rest) done scoped firsts ready (λ i m kind stop. failing i m kind (part_has_none i (here n e [] refl stop) refl))
+        (goes_tree e (x ∷ binders) lets known n (node ∷ rest) done scoped firsts ready (λ i m kind stop. failing i m (kind_of_parts known i m n (fun at x e) (kind_here known i m n e [] kind)) (part_has_none i (here n e [] refl stop) refl))
         (λ new agree size one.
         node_goes scope Fails Ends known n (fun at x e) refl new (one, tt) node rest size refl tt
         (λ ss c posed. posed_fun known c at x (n + before e) e ss posed) (λ has. has) failing
@@ -118,7 +118,7 @@ module _ (scope : Scope) (Fails : ℕ → SiteKind → Type 0) (Ends : Finished 
         let node : TermNode = record { at = at; form = form.Rec x (n + before e) } in
         let P : List TermNode → Type 0 = λ xs. Goes xs done in
         subst P (sym (one_then (postorder n e) node rest))
-        (goes_tree e (x ∷ binders) lets known n (node ∷ rest) done scoped firsts ready (λ i m kind stop. failing i m kind (part_has_none i (here n e [] refl stop) refl))
+        (goes_tree e (x ∷ binders) lets known n (node ∷ rest) done scoped firsts ready (λ i m kind stop. failing i m (kind_of_parts known i m n (fix at x e) (kind_here known i m n e [] kind)) (part_has_none i (here n e [] refl stop) refl))
         (λ new agree size one.
         node_goes scope Fails Ends known n (fix at x e) refl new (one, tt) node rest size refl tt
         (λ ss c posed. posed_fix known c at x (n + before e) e ss posed) (λ has. has) failing
@@ -127,7 +127,7 @@ module _ (scope : Scope) (Fails : ℕ → SiteKind → Type 0) (Ends : Finished 
         let node : TermNode = record { at = at; form = form.Project (n + before e) label } in
         let P : List TermNode → Type 0 = λ xs. Goes xs done in
         subst P (sym (one_then (postorder n e) node rest))
-        (goes_tree e binders lets known n (node ∷ rest) done scoped firsts ready (λ i m kind stop. failing i m kind (part_has_none i (here n e [] refl stop) refl))
+        (goes_tree e binders lets known n (node ∷ rest) done scoped firsts ready (λ i m kind stop. failing i m (kind_of_parts known i m n (project at e label) (kind_here known i m n e [] kind)) (part_has_none i (here n e [] refl stop) refl))
         (λ new agree size one.
         node_goes scope Fails Ends known n (project at e label) refl new (one, tt) node rest size refl tt
         (λ ss c posed. posed_project known c at (n + before e) e label ss posed) (λ has. has) failing
@@ -137,10 +137,10 @@ module _ (scope : Scope) (Fails : ℕ → SiteKind → Type 0) (Ends : Finished 
         let node : TermNode = record { at = at; form = form.Apply (n + before e) (m + before e') } in
         let P : List TermNode → Type 0 = λ xs. Goes xs done in
         subst P (sym (two_then (postorder n e) (postorder m e') node rest))
-        (goes_tree e binders lets known n (postorder m e' ++ (node ∷ rest)) done scoped.0 firsts.0 ready (λ i k kind stop. failing i k kind (part_has_none i (here n e ((m, e') ∷ []) refl stop) refl))
+        (goes_tree e binders lets known n (postorder m e' ++ (node ∷ rest)) done scoped.0 firsts.0 ready (λ i k kind stop. failing i k (kind_of_parts known i k n (apply at e e') (kind_here known i k n e ((m, e') ∷ []) kind)) (part_has_none i (here n e ((m, e') ∷ []) refl stop) refl))
         (λ new agree size one.
         goes_tree e' binders lets known m (node ∷ rest) new scoped.1 firsts.1 (ready_later scope lets known n m done new (omega arith) agree size ready)
-        (λ i k kind stop. failing i k kind (part_has_none i (later n e ((m, e') ∷ []) one.part.scheme refl one.part.infers (here m e' [] refl stop)) refl))
+        (λ i k kind stop. failing i k (kind_of_parts known i k n (apply at e e') (kind_later known i k (n, e) ((m, e') ∷ []) (kind_here known i k m e' [] kind))) (part_has_none i (later n e ((m, e') ∷ []) one.part.scheme refl one.part.infers (here m e' [] refl stop)) refl))
         (λ new2 agree2 size2 two.
         node_goes scope Fails Ends known n (apply at e e') refl new2 (done_later known n m e new new2 (omega arith) agree2 one, (two, tt)) node rest
         (let size' : length new2 ≡ n + (suc (before e) + suc (before e')) = omega arith in size') refl tt
@@ -152,13 +152,13 @@ module _ (scope : Scope) (Fails : ℕ → SiteKind → Type 0) (Ends : Finished 
         let node : TermNode = record { at = at; form = form.If (n + before e) (m + before e') (l + before e'') } in
         let P : List TermNode → Type 0 = λ xs. Goes xs done in
         subst P (sym (three_then (postorder n e) (postorder m e') (postorder l e'') node rest))
-        (goes_tree e binders lets known n (postorder m e' ++ (postorder l e'' ++ (node ∷ rest))) done scoped.0 firsts.0 ready (λ i k kind stop. failing i k kind (part_has_none i (here n e ((m, e') ∷ (l, e'') ∷ []) refl stop) refl))
+        (goes_tree e binders lets known n (postorder m e' ++ (postorder l e'' ++ (node ∷ rest))) done scoped.0 firsts.0 ready (λ i k kind stop. failing i k (kind_of_parts known i k n (choice at e e' e'') (kind_here known i k n e ((m, e') ∷ (l, e'') ∷ []) kind)) (part_has_none i (here n e ((m, e') ∷ (l, e'') ∷ []) refl stop) refl))
         (λ new agree size one.
         goes_tree e' binders lets known m (postorder l e'' ++ (node ∷ rest)) new scoped.1 firsts.1 (ready_later scope lets known n m done new (omega arith) agree size ready)
-        (λ i k kind stop. failing i k kind (part_has_none i (later n e ((m, e') ∷ (l, e'') ∷ []) one.part.scheme refl one.part.infers (here m e' ((l, e'') ∷ []) refl stop)) refl))
+        (λ i k kind stop. failing i k (kind_of_parts known i k n (choice at e e' e'') (kind_later known i k (n, e) ((m, e') ∷ (l, e'') ∷ []) (kind_here known i k m e' ((l, e'') ∷ []) kind))) (part_has_none i (later n e ((m, e') ∷ (l, e'') ∷ []) one.part.scheme refl one.part.infers (here m e' ((l, e'') ∷ []) refl stop)) refl))
         (λ new2 agree2 size2 two.
         goes_tree e'' binders lets known l (node ∷ rest) new2 scoped.2 firsts.2 (ready_later scope lets known n l done new2 (omega arith) (agree_trans n m done new new2 (omega arith) agree agree2) size2 ready)
-        (λ i k kind stop. failing i k kind (part_has_none i (later n e ((m, e') ∷ (l, e'') ∷ []) one.part.scheme refl one.part.infers (later m e' ((l, e'') ∷ []) two.part.scheme refl two.part.infers (here l e'' [] refl stop))) refl))
+        (λ i k kind stop. failing i k (kind_of_parts known i k n (choice at e e' e'') (kind_later known i k (n, e) ((m, e') ∷ (l, e'') ∷ []) (kind_later known i k (m, e') ((l, e'') ∷ []) (kind_here known i k l e'' [] kind)))) (part_has_none i (later n e ((m, e') ∷ (l, e'') ∷ []) one.part.scheme refl one.part.infers (later m e' ((l, e'') ∷ []) two.part.scheme refl two.part.infers (here l e'' [] refl stop))) refl))
         (λ new3 agree3 size3 three.
         node_goes scope Fails Ends known n (choice at e e' e'') refl new3
         (done_later known n l e new2 new3 (omega arith) agree3 (done_later known n m e new new2 (omega arith) agree2 one), (done_later known m l e' new2 new3 (omega arith) agree3 two, (three, tt))) node rest
@@ -171,10 +171,10 @@ module _ (scope : Scope) (Fails : ℕ → SiteKind → Type 0) (Ends : Finished 
         let node : TermNode = record { at = at; form = form.Let k (n + before e) (m + before e') } in
         let P : List TermNode → Type 0 = λ xs. Goes xs done in
         subst P (sym (two_then (postorder n e) (postorder m e') node rest))
-        (goes_tree e binders lets known n (postorder m e' ++ (node ∷ rest)) done scoped.0 firsts.1 ready (λ i q kind stop. failing i q kind (part_has_none i (here n e [] refl stop) refl))
+        (goes_tree e binders lets known n (postorder m e' ++ (node ∷ rest)) done scoped.0 firsts.1 ready (λ i q kind stop. failing i q (kind_of_parts known i q n (local at k e e') (kind_here known i q n e [] kind)) (part_has_none i (here n e [] refl stop) refl))
         (λ new agree size one.
         goes_tree e' binders (k ∷ lets) (with_let known k one.part.scheme) m (node ∷ rest) new scoped.1 firsts.2 (ready_inside scope lets known n k e done new firsts.0 ready agree size one)
-        (λ i q kind stop. failing i q kind (second_none known n at k e e' one.part i stop))
+        (λ i q kind stop. failing i q (kind_second known i q n at k e e' one.part kind) (second_none known n at k e e' one.part i stop))
         (λ new2 agree2 size2 two.
         let_goes scope Fails Ends known n at k e e' new2 (done_later known n m e new new2 (omega arith) agree2 one) two rest
         (let size' : length new2 ≡ n + (suc (before e) + suc (before e')) = omega arith in size')
@@ -184,14 +184,14 @@ module _ (scope : Scope) (Fails : ℕ → SiteKind → Type 0) (Ends : Finished 
         let P : List TermNode → Type 0 = λ xs. Goes xs done in
         let L : List (List ℕ) → Type 0 = λ ls. AllPairs (λ x y. x ≢ y) ls in
         subst P (sym (one_then (field_postorder n fields) node rest))
-        (goes_fields fields binders lets known n (node ∷ rest) done scoped.1 firsts ready (λ i m kind one. failing i m kind (part_has_none i one refl))
+        (goes_fields fields binders lets known n (node ∷ rest) done scoped.1 firsts ready (λ i m kind one. failing i m (kind_of_parts known i m n (make at fields) kind) (part_has_none i one refl))
         (λ new agree size all.
         node_goes scope Fails Ends known n (make at fields) refl new all node rest size (roots_are fields n) (subst L (labels_are fields n) scoped.0)
         (λ ss c posed. posed_make known c at n fields ss posed) (λ has. has) failing
         (λ new' agree' size' whole. going new' (agree_trans n n done new new' (omega arith) agree agree') size' whole)))
 
     goes_fields : (fields : TermFields) (binders lets : List ℕ) (known : Known) (n : ℕ) (rest : List TermNode) (done : Finished) → AreScoped binders lets (length scope.globals) fields → HaveFirsts scope.first_of n fields → Ready scope lets known n done
-        → ((i : ℕ) (m : SiteKind) → IsKindAt i m → OneHasNone known (field_parts n fields) i → Fails i m)
+        → ((i : ℕ) (m : SiteKind) → KindAmong known (field_parts n fields) i m → OneHasNone known (field_parts n fields) i → Fails i m)
         → ((new : Finished) → Agree n done new → length new ≡ n + field_nodes fields → AllDone known (field_parts n fields) new → Goes rest new)
         → Goes (field_postorder n fields ++ rest) done
     goes_fields no_field binders lets known n rest done scoped firsts ready failing going = going done (agree_self n done) (let size : length done ≡ n = ready.size in let size' : length done ≡ n + 0 = omega arith in size') tt
@@ -199,10 +199,10 @@ module _ (scope : Scope) (Fails : ℕ → SiteKind → Type 0) (Ends : Finished 
         let m : ℕ = n + suc (before e) in
         let P : List TermNode → Type 0 = λ xs. Goes xs done in
         subst P (sym (append_assoc (postorder n e) (field_postorder m fields) rest))
-        (goes_tree e binders lets known n (field_postorder m fields ++ rest) done scoped.0 firsts.0 ready (λ i k kind stop. failing i k kind (here n e (field_parts m fields) refl stop))
+        (goes_tree e binders lets known n (field_postorder m fields ++ rest) done scoped.0 firsts.0 ready (λ i k kind stop. failing i k (kind_here known i k n e (field_parts m fields) kind) (here n e (field_parts m fields) refl stop))
         (λ new agree size one.
         goes_fields fields binders lets known m rest new scoped.1 firsts.1 (ready_later scope lets known n m done new (omega arith) agree size ready)
-        (λ i k kind stop. failing i k kind (later n e (field_parts m fields) one.part.scheme refl one.part.infers stop))
+        (λ i k kind stop. failing i k (kind_later known i k (n, e) (field_parts m fields) kind) (later n e (field_parts m fields) one.part.scheme refl one.part.infers stop))
         (λ new2 agree2 size2 all.
         going new2 (agree_trans n m done new new2 (omega arith) agree agree2) (let size' : length new2 ≡ n + (suc (before e) + field_nodes fields) = omega arith in size')
         (done_later known n m e new new2 (omega arith) agree2 one, all))))

@@ -2,6 +2,7 @@ pub mod Beside
 pub mod BuiltConstraints
 pub mod ClosedConstraints
 pub mod ConstraintRows
+pub mod ExtendedClashes
 pub mod FieldRows
 pub mod FinishedParts
 pub mod FirstParts

@@ -1,9 +1,10 @@
 -- Entries of the environment of a constraint that give way to fewer, one after another.
+--     extended_refl, extended_trans, extended_met
 --     merges_refl, merges_members, merges_trans, merges_append
 --     merges_met           a new state for two
 --     merges_types         what comes of the whole environment
-use Rattle.std.proofs.Common.{◌≡◌, ◌⊎◌, inl, inr, ℕ, List, [], ◌∷◌, ◌++◌, length, refl, sym, ap, ◌∙◌, subst, Contains}
-use Rattle.std.proofs.lemmas.List.{append-nil, append_assoc}
+use Rattle.std.proofs.Common.{◌≡◌, ◌⊎◌, inl, inr, ℕ, ◌+◌, ◌<◌, ◌≤◌, List, [], ◌∷◌, ◌++◌, length, refl, sym, ap, ◌∙◌, subst, arith, Contains, get_or}
+use Rattle.std.proofs.lemmas.List.{append-nil, append_assoc, get_or_append_left, length-append}
 use Rattle.std.proofs.lemmas.List.Elements.{Contains-append_left, Contains-append_right, Contains-append_cases}
 use Rattle.mls_book.specs.Predicates.{Predicate}
 use Rattle.mls_automaton.specs.declared.automaton.Polarity.TheVariants.{Positive, Negative}
@@ -11,14 +12,14 @@ use Rattle.mls_automaton.specs.declared.automaton.State.{State}
 use Rattle.mls_automaton.specs.declared.state_set.StateId.{StateId}
 use Rattle.mls_automaton.specs.declared.scheme.EnvEntry.{EnvEntry}
 use Rattle.mls_automaton.specs.declared.scheme.Scheme.{Scheme}
-use Rattle.mls_automaton.specs.Automata.{Automaton, head_at, IsState}
+use Rattle.mls_automaton.specs.Automata.{Automaton, HasFlow, empty_head, head_at, IsState}
 use Rattle.mls_automaton.specs.Heads.{parts_of, combined_two}
 use Rattle.mls_automaton.specs.Models.{IsClosed}
 use Rattle.mls_automaton.proofs.Combined.{combined_two-value, same_parts-value}
 use Rattle.mls_automaton.proofs.Lists.{Contains-here, Contains-later, Contains-cases}
 use Rattle.mls_scheme.proofs.MetStates.{closed-met, is_old, is_new}
 use Rattle.mls_infer.specs.Constraints.{Constraint, id, HasTypes, HasStates, IsMerged, negative}
-use Rattle.mls_infer.specs.Merges.{over, AreBetween, AreNegative, HasSameMembers, HaveSameTypes, IsMet, Merges}
+use Rattle.mls_infer.specs.Merges.{over, AreBetween, AreNegative, HasSameMembers, HaveSameTypes, IsExtended, IsMet, Merges}
 use Rattle.mls_infer.proofs.ConstraintRows.{nothing_in}
 use Rattle.mls_infer.proofs.Merging.{merged_types}
 
@@ -59,9 +60,42 @@ module _ {X : Type 0} where
   append_more : (xs ys zs : List X) → ((x : X) → Contains xs x → Contains ys x) → (x : X) → Contains (xs ++ zs) x → Contains (ys ++ zs) x
   append_more xs ys zs more = both_in (Contains (ys ++ zs)) xs zs (λ x it. Contains-append_left ys zs x (more x it)) (λ x it. Contains-append_right ys zs x it)
 
+pub extended_refl : (a : Automaton) → IsExtended a a
+extended_refl a = record { longer = omega arith; heads = λ s low. refl; flows = λ n p low. (λ h. h, λ h. h) }
+
+pub extended_trans : (a b c : Automaton) → IsExtended a b → IsExtended b c → IsExtended a c
+extended_trans a b c first second =
+    let one : length a.states ≤ length b.states = first.longer in
+    let two : length b.states ≤ length c.states = second.longer in
+    record {
+      longer = omega arith;
+      heads = λ s low. second.heads s (omega arith) ∙ first.heads s low;
+      flows = λ n p low.
+          let one = first.flows n p low in
+          let two = second.flows n p (omega arith) in
+          (λ h. one.0 (two.0 h), λ h. two.1 (one.1 h));
+    }
+
+-- a new state for two
+pub extended_met : (first second state : ℕ) (a b : Automaton) → IsMet first second state a b → IsExtended a b
+extended_met first second state a b met =
+    let states : b.states ≡ a.states ++ met.adds.state ∷ [] = met.adds.states in
+    let size : length b.states ≡ length a.states + 1 = ap length states ∙ length-append a.states (met.adds.state ∷ []) in
+    record {
+      longer = omega arith;
+      heads = λ s low. let d : State = record { polarity = Positive; head = empty_head } in
+          ap (λ (xs : List State). (get_or xs s d).head) states ∙ ap (λ (x : State). x.head) (get_or_append_left a.states (met.adds.state ∷ []) d s low);
+      flows = λ n p low. (λ h. old n p low ((met.adds.flows n p).0 h), λ h. (met.adds.flows n p).1 (inl h));
+    }
+  where
+    old : (n p : ℕ) → n < length a.states → HasFlow a n p ⊎ ((n ≡ length a.states) × (HasFlow a first p ⊎ HasFlow a second p)) → HasFlow a n p
+    old n p low (inl h) = h
+    old n p low (inr h) = let at : n ≡ length a.states = h.0 in absurd (omega arith)
+
 pub merges_members : (a : Automaton) (xs ys : List EnvEntry) → IsClosed a → AreNegative a xs → HasSameMembers xs ys → Merges a xs a ys
 merges_members a xs ys closed are same = record {
   closed = closed;
+  extended = extended_refl a;
   states = λ p s is. is;
   negative = λ e inside. are e ((same e).1 inside);
   types = λ others root goals more is between.
@@ -75,6 +109,7 @@ module _ (a b c : Automaton) where
   pub merges_trans : (xs ys zs : List EnvEntry) → Merges a xs b ys → Merges b ys c zs → Merges a xs c zs
   merges_trans xs ys zs first second = record {
     closed = second.closed;
+    extended = extended_trans a b c first.extended second.extended;
     states = λ p s is. second.states p s (first.states p s is);
     negative = second.negative;
     types = λ others root goals more is between.
@@ -91,6 +126,7 @@ module _ (a b c : Automaton) where
     pub merges_append : Merges a (xs ++ ys) c (xs' ++ ys')
     merges_append = record {
       closed = second.closed;
+      extended = extended_trans a b c first.extended second.extended;
       states = λ p s is. second.states p s (first.states p s is);
       negative = both_in (λ e. IsState c Negative e.state.0) xs' ys' (λ e inside. second.states Negative e.state.0 (first.negative e inside)) second.negative;
       types = λ others root goals more is between.
@@ -199,6 +235,7 @@ module _ (a b : Automaton) (closed : IsClosed a) (binder first second state : �
       subst P (sym met.is_last)
       (record {
         closed = closed-met first second a b closed is_first is_second met.adds;
+        extended = extended_met first second state a b met;
         states = is_old first second a b closed is_first is_second met.adds;
         negative = λ e inside. at e (Contains-cases (entry_at n) [] e inside);
         types = met_types;

@@ -24,6 +24,7 @@ use Rattle.mls_automaton.proofs.Instances.{HasModel, AreGoals}
 use Rattle.mls_automaton.proofs.Lists.{Contains-here, Contains-later}
 use Rattle.mls_automaton.proofs.StatesHeld.{states_held}
 use Rattle.mls_infer.specs.Constraints.{Constraint, HasTypes, size}
+use Rattle.mls_infer.specs.Solved.{GoalsOf}
 use Rattle.mls_infer.proofs.Grown.{model_agree}
 use Rattle.mls_typing.proofs.Readings.{two_readings, read_below, readings_held}
 
@@ -40,10 +41,6 @@ found_entry (entry ∷ rest) x n e = at (entry.binder == x) refl e (found_entry 
         → (state_of rest x ≡ Some n → (found : EnvEntry) × Contains rest found × (found.binder ≡ x) × (found.state.0 ≡ n)) → (found : EnvEntry) × Contains (entry ∷ rest) found × (found.binder ≡ x) × (found.state.0 ≡ n)
     at true same e later = (entry, Contains-here entry rest, eqb-true entry.binder x same, cc)
     at false other e later = let it = later e in (it.0, Contains-later entry rest it.0 it.1, it.2, it.3)
-
--- the goals of a constraint, as a relation
-abbrev pub GoalsOf : Constraint → ℕ → ℕ → Type 0
-GoalsOf c p n = Contains c.goals (p, n)
 
 module _ (c : Constraint) (types : ℕ → Predicate) (f : Predicate) where
   abbrev s : Scheme

@@ -22,7 +22,7 @@ use Rattle.mls_typetext.specs.Schemes.{scheme_of}
 use Rattle.mls_infer.specs.declared.fault.SiteKind.{SiteKind}
 use Rattle.mls_infer.specs.Finished.{Finished, Has}
 use Rattle.mls_infer.specs.Finishing.{Scope, CanStep, GoesOnIn, IsAnswerBy, IsInferred, IsStop, KeepsOthers, first_in, scope_of, without_env}
-use Rattle.mls_infer.specs.Inference.{AreNames}
+use Rattle.mls_infer.specs.Inference.{AreNames, IsKindAt}
 use Rattle.mls_infer.proofs.FinishedParts.{one_scheme}
 use Rattle.mls_infer.proofs.FirstParts.{firsts_are}
 use Rattle.mls_infer.proofs.KnownSchemes.{names_are}
@@ -59,7 +59,7 @@ module _ (scope : Scope) (nodes : List TermNode) (i : ℕ) (done : Finished) (go
     pub can_step : (t : TermTree) × (nodes ≡ postorder 0 t) → CanStep scope node.form done
     can_step one = (at_node one.0 one.1).0
 
-    pub stops_here : (m : SiteKind) → IsStop node.form done m → (t : TermTree) → nodes ≡ postorder 0 t → IsFirstNone scope.globals t (length done)
+    pub stops_here : (m : SiteKind) → IsStop node.form done m → (t : TermTree) → nodes ≡ postorder 0 t → IsFirstNone scope.globals t (length done) × IsKindAt scope.globals t (length done) m
     stops_here m stop t nodes_are = (at_node t nodes_are).1 m stop
 
     pub goes_further : (mid : Finished) (s : Scheme) → IsAnswerBy scope node.form done s → KeepsOthers node.form done mid → GoesFrom scope nodes (suc i) (mid ++ Some s ∷ [])

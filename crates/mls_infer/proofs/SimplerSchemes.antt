@@ -1,7 +1,7 @@
 -- A simpler scheme that is equivalent to a most general one is most general too.
 --     simpler_env       without binders it stays
 --     simpler_best      the theorem
-use Rattle.std.proofs.Common.{◌≡◌, ℕ, Bool, true, false, List, [], ◌∷◌, refl, sym, ap, ◌∙◌, subst, Some, None}
+use Rattle.std.proofs.Common.{◌≡◌, ℕ, Bool, true, false, List, [], ◌∷◌, refl, sym, ap, ◌∙◌, subst, Some}
 use Rattle.std.specs.Prelude.{cond, find, is_some, option_map, ◌==◌}
 use Rattle.std.proofs.lemmas.Bool.{eq-eqb}
 use Rattle.mls_book.specs.Schemes as book

@@ -37,9 +37,9 @@ use Rattle.mls_infer.specs.Constraints.{Constraint, HasStates}
 use Rattle.mls_infer.specs.Merges.{HaveSameTypes, solvable_constraint}
 use Rattle.mls_infer.specs.declared.solve.NoSolution.{NoSolution}
 use Rattle.mls_infer.specs.declared.solve.NoSolution.TheVariants as none
-use Rattle.mls_infer.specs.Solved.{ClashesFirst, IsClashWithout, IsSolvedFor}
+use Rattle.mls_infer.specs.Solved.{ClashesFirst, GoalsOf, IsClashWithout, IsSolvedFor}
 use Rattle.mls_infer.specs.Steps.{IsSolution, HasNoTypes}
-use Rattle.mls_infer.proofs.Models.{EachFound, GoalsOf}
+use Rattle.mls_infer.proofs.Models.{EachFound}
 use Rattle.mls_infer.proofs.Reading.{read_as}
 use Rattle.mls_infer.proofs.Solvable.{between_pairs, goal_in, pair_in}
 use Rattle.mls_infer.proofs.Solving.{clash_no_types, solved_solution}

@@ -15,7 +15,7 @@ use Rattle.mls_automaton.specs.Schemes.{IsScheme, IsSchemeOf}
 use Rattle.mls_term.specs.declared.term.TermNode.{TermNode}
 use Rattle.mls_term.specs.Terms.{TermTree, before, postorder}
 use Rattle.mls_term.specs.Derivations.{Known, IsBest}
-use Rattle.mls_term.specs.WellFormed.{IsScoped, IsFirstNone}
+use Rattle.mls_term.specs.WellFormed.{IsScoped, at_root, IsFirstNone}
 use Rattle.mls_term.specs.TypingLaws.{AreSchemes}
 use Rattle.mls_typing.specs.InferenceLaws.{at_start, AllSchemes}
 use Rattle.mls_typing.specs.Typed.{Allows}
@@ -25,6 +25,7 @@ use Rattle.mls_typing.proofs.Rows.{both_ways}
 use Rattle.mls_infer.specs.Constraints.{HasTypes, no_goals}
 use Rattle.mls_infer.specs.Steps.{IsReadAs}
 use Rattle.mls_infer.specs.Finished.{Finished}
+use Rattle.mls_infer.specs.Inference.{IsKindAt}
 use Rattle.mls_infer.specs.Finishing.{Scope, GoesOnIn, HasFirsts, without_env, IsInferred}
 use Rattle.mls_infer.proofs.Going.{Done}
 use Rattle.mls_infer.proofs.GoingTrees.{goes_tree}
@@ -107,7 +108,7 @@ module _ (scope : Scope) (whole : TermTree) (all : AllSchemes scope.globals) (cl
   starts firsts =
       let P : List TermNode → Type 0 = λ nodes. GoesOnIn scope whole nodes [] in
       subst P (append-nil (postorder 0 whole))
-      (goes_tree scope (λ i m. IsFirstNone scope.globals whole i) (IsInferred scope.globals whole) whole [] [] (at_start scope.globals) 0 [] [] scoped firsts
+      (goes_tree scope (λ i m. IsFirstNone scope.globals whole i × IsKindAt scope.globals whole i m) (IsInferred scope.globals whole) whole [] [] (at_start scope.globals) 0 [] [] scoped firsts
       (record { globals = refl; size = refl; scoped = λ k inside. absurd (nothing_in k inside) })
-      (λ i m kind stop. answers_are_first scope.globals whole i all stop)
+      (λ i m kind stop. (answers_are_first scope.globals whole i all stop, kind scope.globals whole (start_schemes scope.globals whole all closed_globals scoped) (at_root refl refl refl)))
       (λ new agree size one. is_inferred scope.globals whole all closed_globals scoped new one))

@@ -27,7 +27,7 @@ use Rattle.mls_infer.specs.declared.solve.NoSolution.TheVariants as no_solution
 use Rattle.mls_infer.specs.Constraints.{Constraint, HasStates, int_head, bool_head, bound_constraint, literal_constraint, fun_constraint}
 use Rattle.mls_infer.specs.Constraints.{fix_constraint, apply_constraint, project_constraint, choice_constraint, let_constraint}
 use Rattle.mls_infer.specs.Finished.{Finished, Has, HasEach, child_of}
-use Rattle.mls_infer.specs.Inference.{schemes_in}
+use Rattle.mls_infer.specs.Inference.{IsKindAt, schemes_in}
 use Rattle.mls_infer.specs.Joining.{part_labels}
 use Rattle.mls_infer.specs.Posed.{IsMadeOf, IsGoalOf, constraint_of}
 use Rattle.mls_infer.specs.Solved.{TellsFirstClash}
@@ -179,7 +179,9 @@ pub record IsInferred (globals : List book.Scheme) (whole : TermTree) (done : Fi
 
 -- the loop goes on with these nodes of an expression
 abbrev pub GoesOnIn : Scope → TermTree → List TermNode → Finished → Type 0
-GoesOnIn scope whole = GoesOn scope (λ i m. IsFirstNone scope.globals whole i) (IsInferred scope.globals whole)
+GoesOnIn scope whole =
+    GoesOn scope (λ i m. IsFirstNone scope.globals whole i × IsKindAt scope.globals whole i m)
+    (IsInferred scope.globals whole)
 
 -- As the program keeps them.
 
@@ -219,3 +221,8 @@ StopsAt node done no_solution.Memory = Unit {0}
 abbrev pub FailsIn : List book.Scheme → TermTree → InferFault → Type 0
 FailsIn globals whole (fault.NoScheme site) = IsFirstNone globals whole site.node
 FailsIn globals whole fault.Memory = Unit {0}
+
+-- and the kind of this node
+abbrev pub HasKindIn : List book.Scheme → TermTree → InferFault → Type 0
+HasKindIn globals whole (fault.NoScheme site) = IsKindAt globals whole site.node site.kind
+HasKindIn globals whole fault.Memory = Unit {0}

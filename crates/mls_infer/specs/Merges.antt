@@ -5,7 +5,7 @@ use Rattle.mls_automaton.specs.declared.automaton.Polarity.{Polarity}
 use Rattle.mls_automaton.specs.declared.automaton.Polarity.TheVariants.{Positive, Negative}
 use Rattle.mls_automaton.specs.declared.state_set.StateId.{StateId}
 use Rattle.mls_automaton.specs.declared.scheme.EnvEntry.{EnvEntry}
-use Rattle.mls_automaton.specs.Automata.{Automaton, IsState}
+use Rattle.mls_automaton.specs.Automata.{Automaton, HasFlow, head_at, IsState}
 use Rattle.mls_automaton.specs.Environments.{BindersRise}
 use Rattle.mls_automaton.specs.Models.{IsClosed}
 use Rattle.mls_scheme.specs.steps.Meeting.{AddsMet}
@@ -39,10 +39,17 @@ BindersAscend env = (i j : ℕ) (d : EnvEntry) → i ≤ j → j < length env �
 abbrev pub HasSameMembers : {A : Type 0} → List A → List A → Type 0
 HasSameMembers xs ys = (x : _) → Contains xs x ↔ Contains ys x
 
+-- The second automaton has further states behind those of the first. These have the heads and the edges that they had.
+pub record IsExtended (a b : Automaton) : Type 0 where
+  pub longer : length a.states ≤ length b.states
+  pub heads : (s : ℕ) → s < length a.states → head_at b s ≡ head_at a s
+  pub flows : (n p : ℕ) → n < length a.states → HasFlow b n p ↔ HasFlow a n p
+
 -- The second automaton has the states of the first and more. Constraints over it, with the second entries, have the same
 -- types as those over the first, with the first entries, whatever their other entries, their root and their goals.
 pub record Merges (a : Automaton) (env : List EnvEntry) (b : Automaton) (fewer : List EnvEntry) : Type 0 where
   pub closed : IsClosed b
+  pub extended : IsExtended a b
   pub states : (p : Polarity) (s : ℕ) → IsState a p s → IsState b p s
   pub negative : AreNegative b fewer
   pub types : (others : List EnvEntry) (root : StateId) (goals : List (ℕ × ℕ)) → AreNegative a others → IsState a Positive root.0 → AreBetween a goals → HaveSameTypes (over a (env ++ others) root goals) (over b (fewer ++ others) root goals)

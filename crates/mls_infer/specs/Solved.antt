@@ -1,10 +1,9 @@
 -- What solving answers: the solved automaton, or the first clash.
-use Rattle.std.specs.Prelude.{◌≡◌, ℕ, List, slice_get, Option, Some, None}
+use Rattle.std.specs.Prelude.{◌≡◌, ℕ, List, slice_get, Contains, Option, Some, None}
 use Rattle.mls_automaton.specs.declared.automaton.FieldSet.{FieldSet}
 use Rattle.mls_automaton.specs.declared.automaton.Head.{Head}
 use Rattle.mls_automaton.specs.Automata.{Automaton, head_at}
 use Rattle.mls_automaton.specs.Models.{IsClosed}
-use Rattle.mls_automaton.specs.Schemes.{IsScheme}
 use Rattle.mls_biunify.specs.declared.goal.Clash.{Clash}
 use Rattle.mls_biunify.specs.declared.goal.ClashKind.{ClashKind}
 use Rattle.mls_biunify.specs.declared.goal.ClashKind.TheVariants as kind
@@ -13,13 +12,11 @@ use Rattle.mls_biunify.specs.Clashes.{HasNoClash, IsFirstClash, label_of}
 use Rattle.mls_biunify.specs.Relations.{IsGoal, IsRelated}
 use Rattle.mls_biunify.specs.Rooms.{Room, HoldsJust}
 use Rattle.mls_biunify.specs.Solved.{IsSolved}
-use Rattle.mls_infer.specs.declared.merge.Solvable.{Solvable}
 use Rattle.mls_infer.specs.declared.fault.SiteKind.{SiteKind}
 use Rattle.mls_infer.specs.declared.fault.SiteKind.TheVariants as told
 use Rattle.mls_infer.specs.declared.solve.NoSolution.{NoSolution}
 use Rattle.mls_infer.specs.declared.solve.NoSolution.TheVariants as none
 use Rattle.mls_infer.specs.Constraints.{Constraint}
-use Rattle.mls_infer.specs.Merges.{HaveSameTypes, solvable_constraint}
 use Rattle.mls_infer.specs.Steps.{HasNoTypes}
 
 -- the record has a field of this number
@@ -32,10 +29,10 @@ abbrev pub TellsKind : Head → ClashKind → SiteKind → Type 0
 TellsKind h (kind.Unlike first second) m = m ≡ told.Unlike first second
 TellsKind h (kind.Lacks i) m = m ≡ told.Lacks (label_of h.fields i)
 
--- it tells the kind of the first clash of the closed relation
-pub record IsFirstKind (a : Automaton) (goals : List Goal) (m : SiteKind) : Type 0 where
+-- it tells the kind of the first clash of all that follows from these goals
+pub record IsFirstKind (a : Automaton) (Goals : ℕ → ℕ → Type 0) (m : SiteKind) : Type 0 where
   pub clash : Clash
-  pub first : IsFirstClash a (IsRelated a (IsGoal goals)) clash
+  pub first : IsFirstClash a (IsRelated a Goals) clash
   pub tells : TellsKind (head_at a clash.negative.0) clash.kind m
 
 -- the automaton is solved by the closed relation of the goals, which a room holds and no pair of which clashes
@@ -48,7 +45,7 @@ pub record IsSolvedFor (a : Automaton) (goals : List Goal) (solved : Automaton) 
 
 -- a clash is the first one
 abbrev pub ClashesFirst : Automaton → List Goal → NoSolution → Type 0
-ClashesFirst a goals (none.Clash m) = IsFirstKind a goals m
+ClashesFirst a goals (none.Clash m) = IsFirstKind a (IsGoal goals) m
 ClashesFirst a goals none.Memory = Unit {0}
 
 -- where there is a clash, there are no types
@@ -56,7 +53,11 @@ abbrev pub IsClashWithout : Constraint → NoSolution → Type 0
 IsClashWithout c (none.Clash m) = HasNoTypes c
 IsClashWithout c none.Memory = Unit {0}
 
--- A clash is the first one of a constraint with the same types, in which each binder has one state.
+-- the goals of a constraint
+abbrev pub GoalsOf : Constraint → ℕ → ℕ → Type 0
+GoalsOf c p n = Contains c.goals (p, n)
+
+-- a clash is the first one of the constraint
 abbrev pub TellsFirstClash : Constraint → NoSolution → Type 0
-TellsFirstClash c (none.Clash m) = (s : Solvable) × IsScheme s.scheme × HaveSameTypes c (solvable_constraint s) × IsFirstKind s.scheme.automaton s.goals m
+TellsFirstClash c (none.Clash m) = IsFirstKind c.scheme.automaton (GoalsOf c) m
 TellsFirstClash c none.Memory = Unit {0}

@@ -19,7 +19,7 @@ pub enum InferFault {
 pub struct Site {
     /// The number of the node.
     pub node: usize,
-    /// Of the clash of its constraint.
+    /// Of the first clash of its constraint over most general schemes of its parts.
     pub kind: SiteKind,
 }
 

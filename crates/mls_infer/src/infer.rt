@@ -12,8 +12,9 @@ ghost use Rattle.mls_infer.specs.Steps.{IsSolution};
 ghost use Rattle.mls_shape.specs.Simplified.{IsSimplified};
 ghost use Rattle.mls_term.specs.WellFormed.{IsTerm};
 ghost use Rattle.mls_term.specs.Terms.{postorder};
-ghost use Rattle.mls_infer.specs.Finishing.{CanStep, FailsIn, GoesOnIn, IsAnswerBy, IsInferred, KeepsOthers, StopsAt, first_in, scope_of};
-ghost use Rattle.mls_infer.specs.Inference.{AreNames, IsBestFor, IsFirstWithout, schemes_in};
+ghost use Rattle.mls_infer.specs.Finishing.{CanStep, FailsIn, GoesOnIn, HasKindIn, IsAnswerBy, IsInferred, KeepsOthers};
+ghost use Rattle.mls_infer.specs.Finishing.{StopsAt, first_in, scope_of};
+ghost use Rattle.mls_infer.specs.Inference.{AreNames, IsBestFor, IsFirstWithout, TellsKindOf, schemes_in};
 
 use crate::constraints::Constraints;
 use crate::fault::{InferFault, Site};
@@ -35,7 +36,8 @@ use std::collections::{BTreeMap, BTreeSet};
 /// # Errors
 ///
 /// `NoScheme` exactly where the expression has none: with the first node in postorder that has none, each let-bound name
-/// around it having its most general scheme. `Memory` where memory is wanting.
+/// around it having its most general scheme; its kind is that of the first clash of its constraint over most general
+/// schemes of its parts. `Memory` where memory is wanting.
 pub fn infer(alloc: Global, names: &Names, term: &Term) -> Result<Scheme, InferFault>
     requires names { AreNames names.now }
     requires term { IsTerm (length names.now.schemes) term.now.nodes term.now.binders term.now.lets }
@@ -44,6 +46,7 @@ pub fn infer(alloc: Global, names: &Names, term: &Term) -> Result<Scheme, InferF
     ensures simplified { IfOk result IsSimplified }
     ensures best { IfOk result (IsBestFor names.now term.now) }
     ensures first { IfErr result (IsFirstWithout names.now term.now) }
+    ensures kind { IfErr result (TellsKindOf names.now term.now) }
 {
     let whole = infer_whole(alloc, names, term)?;
     let simple = simplify(alloc, &whole)?;
@@ -58,6 +61,7 @@ fn infer_whole(alloc: Global, names: &Names, term: &Term) -> Result<Scheme, Infe
     ensures env { IfOk result (λ (s : Scheme). s.env ≡ []) }
     ensures best { IfOk result (IsBestFor names.now term.now) }
     ensures first { IfErr result (IsFirstWithout names.now term.now) }
+    ensures kind { IfErr result (TellsKindOf names.now term.now) }
 {
     let nodes = term.nodes.as_slice();
     let firsts = firsts_of(alloc, nodes)?;
@@ -81,6 +85,7 @@ fn infer_nodes(
     requires goes { (t : _) × (nodes.now ≡ postorder 0 t) × GoesOnIn (scope_of names.now firsts.now) t nodes.now [] }
     ensures ok { IfOk result (λ done. (t : _) → nodes.now ≡ postorder 0 t → IsInferred (schemes_in names.now) t done) }
     ensures err { IfErr result (λ fault. (t : _) → nodes.now ≡ postorder 0 t → FailsIn (schemes_in names.now) t fault) }
+    ensures kind { IfErr result (λ fault. (t : _) → nodes.now ≡ postorder 0 t → HasKindIn (schemes_in names.now) t fault) }
 {
     let mut done = Finished::new(alloc);
     let mut room = Room::new(alloc, 0, 0)?;

@@ -7,7 +7,7 @@ ghost use Rattle.mls_automaton.specs.Models.{IsClosed};
 ghost use Rattle.mls_automaton.specs.Schemes.{IsScheme};
 ghost use Rattle.mls_biunify.specs.Relations.{IsGoalOf};
 ghost use Rattle.mls_infer.specs.Constraints.{HasStates};
-ghost use Rattle.mls_infer.specs.Merges.{AreNegative, BindersAscend, HasSameMembers, HaveSameTypes, IsGroup, IsMet, Merges, solvable_constraint};
+ghost use Rattle.mls_infer.specs.Merges.{AreNegative, BindersAscend, HasSameMembers, HaveSameTypes, IsExtended, IsGroup, IsMet, Merges, solvable_constraint};
 ghost use Rattle.mls_infer.specs.Posed.{constraint_of};
 
 use crate::constraints::Constraints;
@@ -40,6 +40,8 @@ pub(crate) fn merge(alloc: Global, c: Constraints) -> Result<Solvable, Memory>
     ensures scheme { IfOk result (λ merged. IsScheme merged.scheme) }
     ensures rise { IfOk result (λ merged. BindersRise merged.scheme.env) }
     ensures goals { IfOk result (λ merged. All (IsGoalOf merged.scheme.automaton) merged.goals) }
+    ensures extended { IfOk result (λ merged. IsExtended c.automaton merged.scheme.automaton) }
+    ensures same { IfOk result (λ merged. merged.goals ≡ c.goals) }
 {
     let mut automaton = c.automaton;
     let env = merged_env(alloc, &mut automaton, c.env.as_slice())?;

@@ -1,4 +1,3 @@
-use Rattle.mls_term.specs.Terms.{postorder}
 use Rattle.mls_typing.specs.InferenceLaws.{at_start}
 use Rattle.mls_infer.specs.Inference.{schemes_in}
 use Rattle.mls_infer.proofs.SimplerSchemes.{simpler_best, simpler_env}

@@ -1,6 +1,7 @@
 use Rattle.std.proofs.Common.{◌≡◌, ◌+◌, ◌<◌, ◌≤◌, ◌++◌, ◌∷◌, [], ℕ, suc, List, ap, sym, subst, arith, length, length-append, get_or, rules, Some}
 use Rattle.mls_term.specs.declared.term.TermNode.{TermNode}
 use Rattle.mls_infer.specs.Finished.{Finished}
+use Rattle.mls_infer.specs.Inference.{IsKindAt}
 use Rattle.mls_term.specs.WellFormed.{IsFirstNone}
 use Rattle.mls_infer.specs.Finishing.{Scope, GoesOnIn, IsAnswerBy, IsStop, KeepsOthers, scope_of}
 use Rattle.mls_infer.proofs.NodeLoop.{GoesFrom, each_tree, stops_here, goes_further, infers_whole}
@@ -22,7 +23,19 @@ returns-in-Err-Clash-clause-err c =
     let low : c.loop-i.i < length nodes = search rules in
     let is : get_or nodes c.loop-i.i node ≡ node = search rules in
     let stop : IsStop node.form c.loop-i.done c.in-Err-Clash.kind = search rules in
-    λ t are. subst (λ (i : ℕ). IsFirstNone scope.globals t i) c.loop-i.invariant.0 (stops_here scope nodes c.loop-i.i c.loop-i.done c.loop-i.invariant.1 low node is c.in-Err-Clash.kind stop t are)
+    λ t are. subst (λ (i : ℕ). IsFirstNone scope.globals t i) c.loop-i.invariant.0 (stops_here scope nodes c.loop-i.i c.loop-i.done c.loop-i.invariant.1 low node is c.in-Err-Clash.kind stop t are).0
+
+pub returns-in-Err-Clash-clause-kind : goal.returns-in-Err-Clash-clause-kind
+returns-in-Err-Clash-clause-kind c =
+    let scope : Scope = scope_of c.args.names.now c.args.firsts.now in
+    let nodes : List TermNode = c.args.nodes.now in
+    let node : TermNode = c.index-nodes-i.result in
+    let low : c.loop-i.i < length nodes = search rules in
+    let is : get_or nodes c.loop-i.i node ≡ node = search rules in
+    let stop : IsStop node.form c.loop-i.done c.in-Err-Clash.kind = search rules in
+    λ t are.
+    let told : IsKindAt scope.globals t c.loop-i.i c.in-Err-Clash.kind = subst (λ (i : ℕ). IsKindAt scope.globals t i c.in-Err-Clash.kind) c.loop-i.invariant.0 (stops_here scope nodes c.loop-i.i c.loop-i.done c.loop-i.invariant.1 low node is c.in-Err-Clash.kind stop t are).1 in
+    search rules
 
 pub loop-i-preserved : goal.loop-i-preserved
 loop-i-preserved c =

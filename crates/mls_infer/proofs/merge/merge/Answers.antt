@@ -17,5 +17,8 @@ returns-clause-types c =
 pub returns-clause-scheme : goal.returns-clause-scheme
 returns-clause-scheme c = merged_scheme c.args.c.automaton c.merged_env.new.automaton c.as_slice.result.now c.in_ok-env.env c.in_ok-env.ensures.merges c.args.c.root c.requires.states.root
 
+pub returns-clause-extended : goal.returns-clause-extended
+returns-clause-extended c = c.in_ok-env.ensures.merges.extended
+
 pub returns-clause-goals : goal.returns-clause-goals
 returns-clause-goals c = goals_later c.args.c.automaton c.merged_env.new.automaton c.as_slice.result.now c.in_ok-env.env c.in_ok-env.ensures.merges c.args.c.goals c.requires.goals

@@ -1,11 +1,12 @@
-use Rattle.std.proofs.Common.{rules, List, subst}
+use Rattle.std.proofs.Common.{rules, ◌≡◌, ◌∙◌, List, subst}
 use Rattle.mls_automaton.specs.declared.scheme.Scheme.{Scheme}
 use Rattle.mls_biunify.specs.declared.goal.Goal.{Goal}
 use Rattle.mls_biunify.proofs.SolvedInstances.{over}
 use Rattle.mls_infer.specs.declared.merge.Solvable.{Solvable}
 use Rattle.mls_infer.specs.Merges.{solvable_constraint}
 use Rattle.mls_infer.specs.Posed.{constraint_of}
-use Rattle.mls_infer.specs.Solved.{ClashesFirst, IsClashWithout, IsSolvedFor}
+use Rattle.mls_infer.specs.Solved.{ClashesFirst, IsClashWithout, IsSolvedFor, TellsFirstClash}
+use Rattle.mls_infer.proofs.ExtendedClashes.{first_told}
 use Rattle.mls_infer.proofs.SolvedConstraints.{answer_none, solution_kept, solution_same, solvable_scheme, solvable_solution}
 use Rattle.mls_infer.proofs.solve.solve.Goals as goal
 
@@ -15,6 +16,15 @@ returns-in_err-automaton-clause-none c =
     let e = c.in_err-automaton.field-0.0 in
     let first : ClashesFirst s.scheme.automaton s.goals e = subst (λ (goals : List Goal). ClashesFirst s.scheme.automaton goals e) c.as_slice.ensures c.in_err-automaton.ensures.err in
     let none : IsClashWithout (constraint_of c.args.c) e = answer_none s c.in_ok-scheme.ensures.scheme c.in_ok-scheme.ensures.rise c.in_ok-scheme.ensures.goals (constraint_of c.args.c) c.in_ok-scheme.ensures.types e first in
+    search rules
+
+pub returns-in_err-automaton-clause-first : goal.returns-in_err-automaton-clause-first
+returns-in_err-automaton-clause-first c =
+    let s : Solvable = c.in_ok-scheme.field-0 in
+    let e = c.in_err-automaton.field-0.0 in
+    let same : c.as_slice.result.now ≡ c.args.c.goals = c.as_slice.ensures ∙ c.in_ok-scheme.ensures.same in
+    let first : ClashesFirst s.scheme.automaton c.args.c.goals e = subst (λ (goals : List Goal). ClashesFirst s.scheme.automaton goals e) same c.in_err-automaton.ensures.err in
+    let told : TellsFirstClash (constraint_of c.args.c) e = first_told c.args.c s.scheme.automaton c.requires.states.automaton c.requires.goals c.in_ok-scheme.ensures.extended e first in
     search rules
 
 pub keep_reachable-requires : goal.keep_reachable-requires
