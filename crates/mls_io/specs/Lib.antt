@@ -1,7 +1,9 @@
 pub mod Counts
 pub mod Directory
+pub mod Listed
 pub mod Memory
 pub mod Output
+pub mod Paths
 pub mod Sinks
 pub mod Stores
 pub mod steps

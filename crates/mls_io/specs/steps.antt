@@ -1,2 +1,3 @@
 -- What the functions of the crate do one step at a time. No public clause cites it.
+pub mod Asking
 pub mod Writing

@@ -26,6 +26,13 @@ impl Counter {
         Counter { times: 0 }
     }
 
+    /// How often it happened, up to its last value.
+    pub(crate) fn times(&self) -> u64
+        ensures { result ≡ self.now.value }
+    {
+        self.times
+    }
+
     /// It happened once more.
     pub(crate) fn rise(&mut self)
         ensures next { self.new ≡ count_of (min (self.old.value + 1) 18446744073709551615) }

@@ -4,7 +4,9 @@
 
 mod count;
 pub mod directory;
+pub mod failing;
 pub mod memory;
 pub mod output;
+pub mod path;
 pub mod sink;
 pub mod store;

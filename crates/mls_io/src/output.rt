@@ -7,7 +7,7 @@ ghost use Rattle.mls_io.specs.steps.Writing.{AppendsPart};
 use crate::count::Counter;
 use crate::sink::{Put, Sink};
 use std::io;
-use std::io::{Print, Write};
+use std::io::{ErrorKind, Print, Write};
 use std::marker::Model;
 
 /// Writes to standard output. It tells nothing of its bytes. Contracts see it as its count of faults.
@@ -42,7 +42,8 @@ impl<R: Print + Drop> Sink for OutSink<R> {
 
     ghost written = { untold_written };
 
-    /// Writes in a loop, at least a byte each turn. A write that takes nothing of what is left is a fault.
+    /// Writes in a loop, at least a byte each turn, and tries a write again that a signal interrupts. A write that takes
+    /// nothing of what is left is a fault.
     fn put(&mut self, piece: &[u8]) -> Put {
         if write_whole(&mut io::writer(&self.rt), piece) {
             Put::All
@@ -53,17 +54,21 @@ impl<R: Print + Drop> Sink for OutSink<R> {
     }
 }
 
-// Writes the piece, at least a byte each turn, and says whether all of it was taken.
+// Writes the piece, at least a byte each turn that no signal interrupts, and says whether all of it was taken. A write
+// that is interrupted is tried again, as a read is.
 fn write_whole<W: Write>(writer: &mut W, piece: &[u8]) -> bool
     ensures all { IsTrue result → Appends (W.contents writer.old) (W.contents writer.new) piece.now }
     ensures part { AppendsPart (W.contents writer.old) (W.contents writer.new) piece.now }
     ensures empty { piece.now ≡ [] → IsTrue result }
 {
     let mut left = piece;
+    let mut retries = usize::MAX;
     while !left.is_empty() {
         match writer.write(left) {
-            Ok(0) | Err(_) => return false,
+            Ok(0) => return false,
             Ok(n) => left = &left[n..],
+            Err(error) if error.kind() == ErrorKind::Interrupted && retries > 0 => retries -= 1,
+            Err(_) => return false,
         }
     }
     true
@@ -74,13 +79,13 @@ mod tests {
     use super::*;
     use std::cell::Cell;
     use std::fmt::Display;
-    use std::io::ErrorKind;
     use std::test::Fail;
 
-    // An output that takes two bytes a turn, as long as it has room.
+    // An output that takes two bytes a turn, as long as it has room, and whose first turns are interrupted.
     #[derive(Drop)]
     struct Narrow<'a> {
         room: &'a Cell<usize>,
+        interruptions: Cell<usize>,
     }
 
     impl<'a> Print for Narrow<'a> {
@@ -97,6 +102,11 @@ mod tests {
         }
 
         fn write_some(&self, bytes: &[u8]) -> io::Result<usize> {
+            if self.interruptions.get() > 0 {
+                self.interruptions
+                    .set(self.interruptions.get().saturating_sub(1));
+                return Err(io::Error::from(ErrorKind::Interrupted));
+            }
             let taken = bytes.len().min(2).min(self.room.get());
             self.room.set(self.room.get().saturating_sub(taken));
             Ok(taken)
@@ -106,7 +116,10 @@ mod tests {
     #[test]
     fn writes_all_or_fails(rt: HostRuntime) -> Result<(), Fail> {
         let room = Cell::new(8);
-        let mut sink = OutSink::new(Narrow { room: &room });
+        let mut sink = OutSink::new(Narrow {
+            room: &room,
+            interruptions: Cell::new(3),
+        });
         assert_eq!(rt; sink.put(b"bools"), Put::All);
         assert_eq!(rt; room.get(), 3);
         assert_eq!(rt; sink.put(b"ints"), Put::Failed);

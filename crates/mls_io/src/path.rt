@@ -1,0 +1,127 @@
+//! A store over several stores.
+ghost use Rattle.std.specs.Prelude.{◌≡◌, map};
+ghost use Rattle.mls_io.specs.Counts.{no_count, Rose, Grows};
+ghost use Rattle.mls_io.specs.Paths.{joined};
+ghost use Rattle.mls_io.specs.steps.Asking.{IsAsked, AskedInTurn};
+
+use crate::count::Counter;
+use crate::store::{Fetch, Store};
+
+/// Stores that are asked in turn, and a count of the files that none of them had.
+#[derive(Drop)]
+pub struct SearchPath {
+    members: Vec<Box<dyn Store>>,
+    misses: Counter,
+}
+
+impl SearchPath {
+    /// Takes the members, the one that is asked first in front. It takes no memory.
+    pub fn new(members: Vec<Box<dyn Store>>) -> SearchPath
+        ensures { ⟦<SearchPath as Store>⟧.holdings result ≡ joined no_count (map (λ b. holdings b) members.items) }
+    {
+        SearchPath {
+            members,
+            misses: Counter::new(),
+        }
+    }
+}
+
+// Asks one member.
+fn ask(member: &mut Box<dyn Store>, name: &str, limit: usize, into: &mut Vec<u8>) -> Fetch
+    ensures { IsAsked (holdings member.old) (holdings member.new) name.now limit into.old.items into.new.items result }
+{
+    member.fetch(name, limit, into)
+}
+
+// Asks members in turn, until one answers otherwise than Missing.
+fn ask_in_turn(
+    members: &mut [Box<dyn Store>],
+    name: &str,
+    limit: usize,
+    into: &mut Vec<u8>,
+) -> Fetch
+    ensures { AskedInTurn (map (λ b. holdings b) members.old) (map (λ b. holdings b) members.new)
+        name.now limit into.old.items into.new.items result }
+{
+    for i in 0..members.len() {
+        let answer = ask(&mut members[i], name, limit, into);
+        if answer != Fetch::Missing {
+            return answer;
+        }
+    }
+    Fetch::Missing
+}
+
+// Counts an answer.
+fn count(misses: &mut Counter, answer: Fetch)
+    ensures grows { Grows misses.old misses.new }
+    ensures rose { answer ≡ Fetch.Missing → Rose misses.old misses.new }
+{
+    if answer == Fetch::Missing {
+        misses.rise();
+    }
+}
+
+impl Store for SearchPath {
+    ghost use Rattle.std.specs.Prelude.{map};
+    ghost use Rattle.mls_io.specs.Paths.{joined};
+
+    ghost holdings = { λ path. joined path.misses (map (λ b. (Store-box b).holdings b.value) path.members.items) };
+
+    /// Asks the members in turn. Missing goes on to the next one, and any other answer is that of the path.
+    fn fetch(&mut self, name: &str, limit: usize, into: &mut Vec<u8>) -> Fetch {
+        let answer = ask_in_turn(&mut self.members, name, limit, into);
+        count(&mut self.misses, answer);
+        answer
+    }
+}
+
+#[cfg(test)]
+mod tests {
+    use super::*;
+    use crate::failing::MemStore;
+    use crate::memory::FileEntry;
+    use mls_base::memory::Memory;
+    use std::alloc::Global;
+    use std::test::Fail;
+
+    // A store of one file whose listed call fails.
+    fn store_of(alloc: Global, name: &str, text: &str, failing: u64) -> Result<MemStore, Memory> {
+        let file = FileEntry {
+            name: String::from_str(alloc, name)?,
+            bytes: Vec::from_slice(alloc, text.as_bytes())?,
+        };
+        MemStore::new(alloc, vec![in alloc; file]?, vec![in alloc; failing]?)
+    }
+
+    // Three stores, of which the second has a file of the same name as the first, and the third fails at its third call.
+    fn members(alloc: Global) -> Result<Vec<Box<dyn Store>>, Memory> {
+        let mut members: Vec<Box<dyn Store>> = Vec::new(alloc);
+        members.push(Box::new(alloc, store_of(alloc, "a.ml", "near", 9)?)?)?;
+        members.push(Box::new(alloc, store_of(alloc, "a.ml", "f", 9)?)?)?;
+        members.push(Box::new(alloc, store_of(alloc, "b.ml", "far", 2)?)?)?;
+        Ok(members)
+    }
+
+    #[test]
+    fn asks_members_in_turn(rt: HostRuntime) -> Result<(), Fail> {
+        let alloc = rt.alloc();
+        let members = members(alloc)?;
+        let mut path = SearchPath::new(members);
+        let mut text = Vec::new(alloc);
+        for (name, answer) in [
+            ("a.ml", Fetch::Found),
+            ("b.ml", Fetch::Found),
+            ("c.ml", Fetch::Missing),
+            ("a.ml", Fetch::Found),
+            ("b.ml", Fetch::Failed),
+        ] {
+            assert_eq!(rt; path.fetch(name, 4, &mut text), answer);
+        }
+        assert_eq!(rt; path.fetch("a.ml", 3, &mut text), Fetch::Long);
+        assert_eq!(rt; text.as_slice(), b"nearfarnear".as_slice());
+        let mut none = SearchPath::new(Vec::new(alloc));
+        assert_eq!(rt; none.fetch("a.ml", 4, &mut text), Fetch::Missing);
+        Ok(())
+    }
+}
