@@ -34,6 +34,19 @@ of_type (type.Contravariant at) = Contravariant at
 of_type (type.DuplicateLabel at) = DuplicateLabel at
 of_type type.Memory = Memory
 
+-- the place of a fault of declarations, and 0 for a fault that names none
+abbrev pub declaration_place : IfaceFault → ℕ
+declaration_place (BadByte at) = at
+declaration_place (BigNumber at) = at
+declaration_place (Unexpected at k) = at
+declaration_place Ended = 0
+declaration_place (NotPolar at) = at
+declaration_place (Unguarded at) = at
+declaration_place (Contravariant at) = at
+declaration_place (DuplicateLabel at) = at
+declaration_place (DuplicateVal at) = at
+declaration_place Memory = 0
+
 -- no interface begins at token `from` and has all tokens from there on, for this reason
 pub data HasGrammarFault (text : List ℕ) (tokens : List Token) (from : ℕ) : IfaceFault → Type 0 where
   -- the first token with which no interface can go on

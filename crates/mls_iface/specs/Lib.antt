@@ -2,4 +2,6 @@ pub mod Declarations
 pub mod Faults
 pub mod Interfaces
 pub mod Laws
+pub mod Matches
+pub mod Signatures
 pub mod steps

@@ -118,7 +118,8 @@ fn note(known: &mut BTreeSet<Name>, name: &Name) -> Result<(), Memory>
     Ok(())
 }
 
-fn copy_of(name: &Name) -> Result<Name, Memory>
+/// A copy of a name.
+pub(crate) fn copy_of(name: &Name) -> Result<Name, Memory>
     ensures { IfOk result (λ copy. copy ≡ name.now) }
 {
     let copy = name.clone()?;
