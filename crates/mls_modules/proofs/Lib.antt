@@ -1,0 +1,7 @@
+pub mod Entries
+pub mod Environments
+pub mod FirstBindings
+pub mod KnownTypes
+pub mod SameEntries
+pub mod SignatureLaws
+pub mod ValidSignatures

@@ -1,0 +1,45 @@
+-- What is inferred of some bindings of a module.
+use Rattle.std.specs.Prelude.{◌≡◌, ℕ, List, length}
+use Rattle.mls_grammar.specs.declared.fault.Fault.{Fault}
+use Rattle.mls_grammar.specs.declared.fault.Fault.TheVariants as names
+use Rattle.mls_term.specs.declared.term.ResolvedBinding.{ResolvedBinding}
+use Rattle.mls_typetext.specs.declared.scheme.Names.{Names}
+use Rattle.mls_typetext.specs.declared.scheme.ReadScheme.{ReadScheme}
+use Rattle.mls_typetext.specs.Texts.{IsTypeText}
+use Rattle.mls_infer.specs.Inference.{AreNames}
+use Rattle.mls_infer.specs.declared.fault.InferFault.{InferFault}
+use Rattle.mls_infer.specs.declared.fault.InferFault.TheVariants as fault
+use Rattle.mls_iface.specs.declared.interface.Interface.{Interface}
+use Rattle.mls_iface.specs.declared.signature.SigEntry.{SigEntry}
+use Rattle.mls_modules.specs.declared.fault.ModuleFault.{ModuleFault}
+use Rattle.mls_modules.specs.declared.fault.ModuleFault.TheVariants.{UnknownName, NoScheme, Memory}
+use Rattle.mls_modules.specs.Environments.{MeanAfter}
+use Rattle.mls_modules.specs.Entries.{AreEntriesOf, HasNoEntry}
+
+-- the text is a type
+abbrev pub IsType : List ℕ → Type 0
+IsType text = (read : ReadScheme) × IsTypeText text read
+
+-- a fault of names as one of a module
+abbrev pub of_names : Fault → ModuleFault
+of_names (names.UnknownName at) = UnknownName at
+of_names _ = Memory
+
+-- why a module has no signature, where inference of binding k ended so
+abbrev pub at_binding : ℕ → InferFault → ModuleFault
+at_binding k (fault.NoScheme site) = NoScheme k site
+at_binding k fault.Memory = Memory
+
+-- why these bindings have no entries, if memory was not wanting
+abbrev pub EndsAt : List Interface → List ResolvedBinding → ModuleFault → Type 0
+EndsAt imports bindings (NoScheme k site) = HasNoEntry imports bindings k site.node
+EndsAt imports bindings (UnknownName at) = ⊥
+EndsAt imports bindings Memory = Unit {0}
+
+-- the first k bindings have these entries, and the names mean what is known behind them
+pub record HaveEntries (imports : List Interface) (bindings : List ResolvedBinding) (k : ℕ) (names : Names)
+    (entries : List SigEntry) : Type 0 where
+  pub count : length entries ≡ k
+  pub are_entries : AreEntriesOf imports bindings entries
+  pub are_names : AreNames names
+  pub mean : MeanAfter imports entries names

@@ -1,0 +1,122 @@
+//! The signature of a module.
+ghost use Rattle.std.specs.Prelude.{◌≡◌, ◌≢◌, ℕ, ◌+◌, length, All, IfOk, IfErr};
+ghost use Rattle.mls_grammar.specs.Modules.{IsModule};
+ghost use Rattle.mls_term.specs.WellFormed.{IsTerm};
+ghost use Rattle.mls_names.specs.Resolution.{declared_count};
+ghost use Rattle.mls_names.specs.ResolutionLaws.{AreTerms};
+ghost use Rattle.mls_infer.specs.Inference.{AreNames, IsFirstWithout};
+ghost use Rattle.mls_modules.specs.Environments.{AreInterfacesOf, IsValidInterface, MeanAfter, declared_names};
+ghost use Rattle.mls_modules.specs.Entries.{AreAllEntriesOf, IsEntryOf, IsSignatureOf};
+ghost use Rattle.mls_modules.specs.ModuleFaults.{HasModuleFault};
+ghost use Rattle.mls_modules.specs.steps.Inferring.{at_binding, of_names, EndsAt};
+
+use crate::copy::{copy_bytes, copy_name, copy_scheme};
+use crate::environment::{declared_names, names_of};
+use crate::fault::ModuleFault;
+use crate::types::type_of;
+use mls_base::list::List;
+use mls_base::memory::Memory;
+use mls_grammar::fault::Fault;
+use mls_grammar::module::Module;
+use mls_iface::interface::Interface;
+use mls_iface::signature::{SigEntry, Signature};
+use mls_infer::fault::InferFault;
+use mls_infer::infer::infer;
+use mls_names::resolve::resolve;
+use mls_print::print::print_scheme;
+use mls_term::term::ResolvedBinding;
+use mls_typetext::scheme::Names;
+use std::alloc::Global;
+
+/// The signature of a module, where these are the interfaces of its imports, in order: for each binding its most general
+/// scheme, over what the operators, the imports and the entries of the earlier bindings mean.
+///
+/// # Errors
+///
+/// `UnknownName` exactly where a name has no meaning, with the first. `NoScheme` exactly where all names have one and a
+/// binding has no scheme, with the first such binding and its first node in postorder without a scheme. `Memory` where
+/// memory is wanting.
+pub fn infer_module(
+    alloc: Global,
+    module: &Module,
+    imports: &[Interface],
+) -> Result<Signature, ModuleFault>
+    requires module { IsModule «module».now }
+    requires imports { AreInterfacesOf «module».now imports.now }
+    ensures signature { IfOk result (IsSignatureOf «module».now imports.now) }
+    ensures fault { IfErr result (λ f. f ≢ ModuleFault.Memory → HasModuleFault «module».now imports.now f) }
+{
+    let declared = declared_names(alloc, imports)?;
+    match resolve(alloc, module, declared.as_slice()) {
+        Ok(resolved) => signature_of(alloc, imports, resolved.bindings.as_slice()),
+        Err(fault) => Err(of_names(fault)),
+    }
+}
+
+// A fault of names as one of a module.
+fn of_names(fault: Fault) -> ModuleFault
+    requires { fault ≢ Fault.Memory → (at : ℕ) × (fault ≡ Fault.UnknownName at) }
+    ensures { result ≡ of_names fault }
+{
+    match fault {
+        Fault::UnknownName(at) => ModuleFault::UnknownName(at),
+        Fault::Memory => ModuleFault::Memory,
+        _ => unreachable!(),
+    }
+}
+
+// The entries of bindings, or the first binding without a scheme.
+fn signature_of(
+    alloc: Global,
+    imports: &[Interface],
+    bindings: &[ResolvedBinding],
+) -> Result<Signature, ModuleFault>
+    requires imports { All IsValidInterface imports.now }
+    requires terms { AreTerms (5 + declared_count (declared_names imports.now)) bindings.now }
+    ensures entries { IfOk result (λ s. AreAllEntriesOf imports.now bindings.now s.entries) }
+    ensures fault { IfErr result (EndsAt imports.now bindings.now) }
+{
+    let mut signature = Signature {
+        entries: List::new(alloc),
+    };
+    let mut names = names_of(alloc, imports, &signature)?;
+    for (number, binding) in bindings.iter().enumerate() {
+        match entry_of(alloc, &names, binding) {
+            Ok(entry) => {
+                names.schemes.push(copy_scheme(alloc, &entry.scheme)?)?;
+                signature.entries.push(entry)?;
+            }
+            Err(fault) => return Err(at_binding(number, fault)),
+        }
+    }
+    Ok(signature)
+}
+
+// Why a module has no signature, where inference of the binding of this number ended so.
+fn at_binding(number: usize, fault: InferFault) -> ModuleFault
+    ensures { result ≡ at_binding number fault }
+{
+    match fault {
+        InferFault::NoScheme(site) => ModuleFault::NoScheme(number, site),
+        InferFault::Memory => ModuleFault::Memory,
+    }
+}
+
+// The entry of a binding, whatever entries the names come from.
+fn entry_of(alloc: Global, names: &Names, binding: &ResolvedBinding) -> Result<SigEntry, InferFault>
+    requires names { AreNames names.now }
+    requires term { IsTerm (length names.now.schemes) binding.now.term.nodes binding.now.term.binders
+        binding.now.term.lets }
+    ensures entry { IfOk result (λ e. (imports : _) (earlier : _) → MeanAfter imports earlier names.now
+        → IsEntryOf imports earlier binding.now e) }
+    ensures fault { IfErr result (IsFirstWithout names.now binding.now.term) }
+{
+    let scheme = infer(alloc, names, &binding.term)?;
+    let printed = print_scheme(alloc, &scheme)?;
+    let read = type_of(alloc, printed.as_slice())?;
+    Ok(SigEntry {
+        name: copy_name(alloc, &binding.name)?,
+        text: copy_bytes(alloc, printed.as_slice())?,
+        scheme: read,
+    })
+}
