@@ -1,39 +1,48 @@
 -- Two answers of the same words over the same files agree.
-use Rattle.std.proofs.Common.{◌≡◌, ◌⊎◌, inl, inr, ℕ, ◌+◌, ◌<◌, List, [], length, refl, sym, ap, ◌∙◌, subst, arith}
+use Rattle.std.proofs.Common.{◌≡◌, ℕ, List, All, refl, sym, ap, ◌∙◌, subst}
 use Rattle.std.specs.Prelude.{Some, slice_get, Result, Ok, Err}
 use Rattle.mls_base.specs.Files.{Files}
-use Rattle.mls_book.proofs.LongerBooks.{below_or_more}
 use Rattle.mls_lexer.specs.Tokens.{line_of, column_of}
+use Rattle.mls_grammar.specs.declared.fault.Fault.TheVariants as names
+use Rattle.mls_grammar.specs.declared.module.Binding.{Binding}
+use Rattle.mls_grammar.specs.declared.module.ExprNode.{ExprNode}
 use Rattle.mls_grammar.specs.declared.module.Module.{Module}
-use Rattle.mls_grammar.specs.declared.module.Import.{Import}
-use Rattle.mls_grammar.proofs.ModuleLaws.{one_module, no_fault_beside_a_module}
-use Rattle.mls_grammar.proofs.FirstStops.{one_fault_before_names}
-use Rattle.mls_term.specs.declared.term.Resolved.{Resolved}
-use Rattle.mls_term.specs.declared.term.ResolvedBinding.{ResolvedBinding}
-use Rattle.mls_names.proofs.OneResolution.{one_resolution, one_unknown_name, no_unknown_name_beside_a_resolution}
+use Rattle.mls_grammar.specs.Modules.{IsModule}
+use Rattle.mls_term.specs.declared.term.TermNode.{TermNode}
+use Rattle.mls_infer.specs.declared.fault.Site.{Site}
 use Rattle.mls_infer.specs.declared.fault.SiteKind.{SiteKind}
+use Rattle.mls_iface.specs.declared.interface.Interface.{Interface}
+use Rattle.mls_iface.specs.declared.matching.MatchAnswer.TheVariants.{All as all, Missing, TooSpecial}
+use Rattle.mls_iface.specs.declared.signature.Signature.{Signature}
+use Rattle.mls_iface.specs.Signatures.{AreEntries}
+use Rattle.mls_modules.specs.declared.fault.ModuleFault.TheVariants.{UnknownName, NoScheme}
+use Rattle.mls_modules.specs.Environments.{IsValidInterface}
+use Rattle.mls_modules.specs.Laws as modules
+use Rattle.mls_modules.proofs.SignatureLaws.{one_signature, no_fault_beside_signature, one_module_fault}
+use Rattle.mls_modules.proofs.ValidSignatures.{signatures_are_valid}
 use Rattle.mls_top.specs.declared.command.Command.{Command}
 use Rattle.mls_top.specs.declared.status.Status.{Status}
-use Rattle.mls_top.specs.Lines.{module_file, no_scheme_line}
-use Rattle.mls_top.specs.Refusals.{Refusal, no_file, too_long, bad_text, no_scheme, for_fault}
-use Rattle.mls_top.specs.Entries.{Declared, Entry, AreEntriesOf, HasFirstNone}
-use Rattle.mls_top.specs.Outcomes.{ReadsModule, is_module, is_faulty, ReadsImports, no_import, unbuilt_import, InfersBindings, unknown_name, one_has_none, all_inferred, Outcome, refused, outcome_status, outcome_text, InfersText, bad_module, bad_import, has_imports, Infers, no_text, has_text}
-use Rattle.mls_top.specs.Answers.{no_command, of_command, IsAnswerOf, infer}
-use Rattle.mls_top.specs.Laws.{AreAlike, OneAnswer}
-use Rattle.mls_top.proofs.SameEntries.{below_length, no_entry, one_place}
+use Rattle.mls_top.specs.Lines.{module_file, no_scheme_line, too_special_line}
+use Rattle.mls_top.specs.Refusals.{Refusal, no_file, too_long, bad_text, no_scheme, absent, too_special, for_fault, refusal_status, refusal_text}
+use Rattle.mls_top.specs.Outcomes.{ReadsModule, is_module, ReadsImports, HasNoScheme, InfersBindings, unknown_name, one_has_none, all_inferred, Outcome, refused, signed, matching, outcome_status, outcome_text, InfersText, bad_module, bad_import, has_imports, Infers, no_text, has_text, Compares, all_match, one_is_absent, one_is_too_special, Checks, no_signature, bad_interface, compared}
+use Rattle.mls_top.specs.Answers.{no_command, of_command, IsAnswerOf, infer, check}
+use Rattle.mls_top.specs.Laws.{both_absent, both_too_special, AreAlike, OneAnswer}
+use Rattle.mls_top.proofs.AlikeSignatures.{one_answer_of_alike}
+use Rattle.mls_top.proofs.OneReading.{ok, err, ok_is, one_reading, one_interface_read, one_declared, valid_imports}
+use Rattle.mls_top.proofs.SamePlaces.{site_stands}
 
--- two outcomes are told alike
-abbrev Agree : Outcome → Outcome → Type 0
-Agree o p = AreAlike (outcome_status o) (outcome_status p) (outcome_text o) (outcome_text p)
+-- two refusals are told alike
+abbrev Agree : Refusal → Refusal → Type 0
+Agree r s = AreAlike (refusal_status r) (refusal_status s) (refusal_text r) (refusal_text s)
 
 -- a refusal is told as itself
-refusal_agrees : (r : Refusal) → Agree (refused r) (refused r)
-refusal_agrees (no_file file) = record { one_status = refl; one_text = λ _ _. refl; one_binding = λ is. absurd (cc) }
-refusal_agrees (too_long file limit) = record { one_status = refl; one_text = λ _ _. refl; one_binding = λ is. absurd (cc) }
-refusal_agrees (bad_text file text place number words) = record { one_status = refl; one_text = λ _ _. refl; one_binding = λ is. absurd (cc) }
-refusal_agrees (no_scheme file text place x kind) = record {
+itself : (r : Refusal) → Agree r r
+itself (no_file file) = record { one_status = refl; one_text = λ _ _ _. refl; one_binding = λ is. absurd (cc); one_declaration = λ is. absurd (cc) }
+itself (too_long file limit) = record { one_status = refl; one_text = λ _ _ _. refl; one_binding = λ is. absurd (cc); one_declaration = λ is. absurd (cc) }
+itself (bad_text file text place number words) = record { one_status = refl; one_text = λ _ _ _. refl; one_binding = λ is. absurd (cc); one_declaration = λ is. absurd (cc) }
+itself (no_scheme file text place x kind) = record {
   one_status = refl;
-  one_text = λ _ other. absurd (other refl);
+  one_text = λ _ other _. absurd (other refl);
   one_binding = λ _. record {
     file = file;
     line = line_of text place;
@@ -44,151 +53,198 @@ refusal_agrees (no_scheme file text place x kind) = record {
     text_is = refl;
     said_is = refl;
   };
+  one_declaration = λ is. absurd (cc);
+}
+itself (absent x declared) = record {
+  one_status = refl;
+  one_text = λ _ _ other. absurd (other refl);
+  one_binding = λ is. absurd (cc);
+  one_declaration = λ _. both_absent x declared refl refl;
+}
+itself (too_special x declared path) = record {
+  one_status = refl;
+  one_text = λ _ _ other. absurd (other refl);
+  one_binding = λ is. absurd (cc);
+  one_declaration = λ _. both_too_special x declared path path refl refl;
 }
 
-refusals_agree : (r s : Refusal) → r ≡ s → Agree (refused r) (refused s)
-refusals_agree r s e = subst (λ (s : Refusal). Agree (refused r) (refused s)) e (refusal_agrees r)
+agree : (r s : Refusal) → r ≡ s → Agree r s
+agree r s e = subst (λ (s : Refusal). Agree r s) e (itself r)
 
-one_reading : (file text : List ℕ) (r s : Result Module Refusal) → ReadsModule file text r → ReadsModule file text s → r ≡ s
-one_reading file text _ _ (is_module {m} h) (is_module {m = n} k) = ap Ok (one_module text m n h k)
-one_reading file text _ _ (is_module {m} h) (is_faulty {fault} k) = absurd (no_fault_beside_a_module text m fault h k)
-one_reading file text _ _ (is_faulty {fault} h) (is_module {m} k) = absurd (no_fault_beside_a_module text m fault k h)
-one_reading file text _ _ (is_faulty {fault} h) (is_faulty {fault = other} k) = ap (λ f. Err (for_fault file text f)) (one_fault_before_names text fault other h k)
+err_is : {X E : Type 0} {x y : E} → err X E x ≡ err X E y → x ≡ y
+err_is e = cc
 
-one_declared : (files : Files) (file text : List ℕ) (is : List Import) (r s : Result Declared Refusal) → ReadsImports files file text is r → ReadsImports files file text is s → r ≡ s
-one_declared files file text _ _ _ no_import no_import = refl
-one_declared files file text _ _ _ unbuilt_import unbuilt_import = refl
+ok_is_no_err : {X E : Type 0} {x : X} {y : E} → ok X E x ≡ err X E y → ⊥
+ok_is_no_err e = absurd (cc)
 
-module _ (file text : List ℕ) (m : Module) where
-  -- a module with entries for all bindings has no binding without a scheme
-  not_all : (bs : List ResolvedBinding) (es fs : List Entry) (b : ResolvedBinding) (place : ℕ) → AreEntriesOf [] bs es → slice_get bs (length es) ≡ Some b → HasFirstNone [] es b place
-      → length fs ≡ length bs → AreEntriesOf [] bs fs → ⊥
-  not_all bs es fs b place are there first count are' =
-      let low = below_length bs (length es) b there in
-      no_entry bs es fs are are' b place there first (omega arith)
+some_is : {X : Type 0} {x y : X} → Some x ≡ Some y → x ≡ y
+some_is e = cc
 
-  one_none : (bs : List ResolvedBinding) (es fs : List Entry) (b c : ResolvedBinding) (place place' : ℕ) (kind kind' : SiteKind)
-      → AreEntriesOf [] bs es → slice_get bs (length es) ≡ Some b → HasFirstNone [] es b place
-      → AreEntriesOf [] bs fs → slice_get bs (length fs) ≡ Some c → HasFirstNone [] fs c place'
-      → Agree (refused (no_scheme file text place b.name kind)) (refused (no_scheme file text place' c.name kind'))
-  one_none bs es fs b c place place' kind kind' are there first are' there' first' = by_length (below_or_more (length es) (length fs)) (below_or_more (length fs) (length es))
-    where
-      by_length : (length es < length fs) ⊎ ((k : ℕ) × (length es ≡ length fs + k)) → (length fs < length es) ⊎ ((k : ℕ) × (length fs ≡ length es + k))
-          → Agree (refused (no_scheme file text place b.name kind)) (refused (no_scheme file text place' c.name kind'))
-      by_length (inl low) other = absurd (no_entry bs es fs are are' b place there first low)
-      by_length (inr more) (inl low) = absurd (no_entry bs fs es are' are c place' there' first' low)
-      by_length (inr (k, at)) (inr (l, at')) =
-          let a : length es ≡ length fs + k = at in
-          let b' : length fs ≡ length es + l = at' in
-          let same : length es ≡ length fs = omega arith in
-          let both : Some b ≡ Some c = sym there ∙ (ap (slice_get bs) same ∙ there') in
-          let one : b ≡ c = cc in
-          let C : ResolvedBinding → Type 0 = λ c. HasFirstNone [] fs c place' in
-          let at_one : place ≡ place' = one_place bs es fs are are' b place place' same there first (subst C (sym one) first') in
-          record {
-            one_status = refl;
-            one_text = λ done none. absurd (none refl);
-            one_binding = λ _. record {
-              file = file;
-              line = line_of text place;
-              column = column_of text place;
-              x = b.name;
-              kind = kind;
-              other = kind';
-              text_is = refl;
-              said_is = λ i. no_scheme_line file (line_of text (sym at_one i)) (column_of text (sym at_one i)) ((sym one i).name) kind';
-            };
-          }
+-- what is found for a module twice: refusals that are told alike, or signatures that are alike
+abbrev AreSame : Outcome → Outcome → Type 0
+AreSame (refused r) (refused s) = Agree r s
+AreSame (signed s) (signed t) = AreEntries s.entries × modules.AreAlike s.entries t.entries
+AreSame _ _ = ⊥
 
-  one_found : (o p : Outcome) → InfersBindings file text m [] o → InfersBindings file text m [] p → Agree o p
-  one_found _ _ (unknown_name {fault} h) (unknown_name {fault = other} k) = refusals_agree _ _ (ap (for_fault file text) (one_unknown_name m [] fault other h k))
-  one_found _ _ (unknown_name {fault} h) (one_has_none {r} k are there first) = absurd (no_unknown_name_beside_a_resolution m [] r fault k h)
-  one_found _ _ (unknown_name {fault} h) (all_inferred {r} k count are) = absurd (no_unknown_name_beside_a_resolution m [] r fault k h)
-  one_found _ _ (one_has_none {r} h are there first) (unknown_name {fault} k) = absurd (no_unknown_name_beside_a_resolution m [] r fault h k)
-  one_found _ _ (one_has_none {r} {entries = es} {b} {place} {kind} h are there first) (one_has_none {r = s} {entries = fs} {b = c} {place = place'} {kind = kind'} k are' there' first') =
-      let same : s.bindings ≡ r.bindings = ap (λ (r : Resolved). r.bindings) (one_resolution m [] s r k h) in
-      let A : List ResolvedBinding → Type 0 = λ bs. AreEntriesOf [] bs fs in
-      let T : List ResolvedBinding → Type 0 = λ bs. slice_get bs (length fs) ≡ Some c in
-      one_none r.bindings es fs b c place place' kind kind' are there first (subst A same are') (subst T same there') first'
-  one_found _ _ (one_has_none {r} {entries = es} {b} {place} h are there first) (all_inferred {r = s} {entries = fs} k count are') =
-      let same : s.bindings ≡ r.bindings = ap (λ (r : Resolved). r.bindings) (one_resolution m [] s r k h) in
-      let A : List ResolvedBinding → Type 0 = λ bs. AreEntriesOf [] bs fs in
-      absurd (not_all r.bindings es fs b place are there first (count ∙ ap (length {A = ResolvedBinding}) same) (subst A same are'))
-  one_found _ _ (all_inferred {r} h count are) (unknown_name {fault} k) = absurd (no_unknown_name_beside_a_resolution m [] r fault h k)
-  one_found _ _ (all_inferred {r = s} {entries = fs} k count are') (one_has_none {r} {entries = es} {b} {place} h are there first) =
-      let same : s.bindings ≡ r.bindings = ap (λ (r : Resolved). r.bindings) (one_resolution m [] s r k h) in
-      let A : List ResolvedBinding → Type 0 = λ bs. AreEntriesOf [] bs fs in
-      absurd (not_all r.bindings es fs b place are there first (count ∙ ap (length {A = ResolvedBinding}) same) (subst A same are'))
-  one_found _ _ (all_inferred h count are) (all_inferred k count' are') = record { one_status = refl; one_text = λ other none. absurd (other refl); one_binding = λ none. absurd (cc) }
+module _ (file text : List ℕ) (m : Module) (is : IsModule m) (imports : List Interface) (valid : All IsValidInterface imports) where
+  -- the same place of the same binding
+  one_site : (x y : List ℕ) (place place' : ℕ) (kind kind' : SiteKind) → HasNoScheme m imports x place → HasNoScheme m imports y place' → Agree (no_scheme file text place x kind) (no_scheme file text place' y kind')
+  one_site x y place place' kind kind' h h' =
+      let site : Site = record { node = h.node; kind = kind } in
+      let other : Site = record { node = h'.node; kind = kind' } in
+      let same = one_module_fault m imports (NoScheme h.number site) (NoScheme h'.number other) valid h.without h'.without in
+      let number : h.number ≡ h'.number = same.0 in
+      let node : h.node ≡ h'.node = same.1 in
+      let first = site_stands m imports h.number h.node h.without in
+      let second = site_stands m imports h'.number h'.node h'.without in
+      let b : first.b ≡ second.b = some_is (sym first.binding ∙ (ap (slice_get m.bindings) number ∙ second.binding)) in
+      let n : first.n ≡ second.n = some_is (sym first.stands ∙ ((λ i. slice_get (b i).expr.nodes (node i)) ∙ second.stands)) in
+      let found : h.found ≡ first.found = some_is (sym h.stands ∙ first.found_stands) in
+      let found' : h'.found ≡ second.found = some_is (sym h'.stands ∙ second.found_stands) in
+      let named : x ≡ y = h.x_is ∙ (sym first.name ∙ (ap (λ (b : Binding). b.name) b ∙ (second.name ∙ sym h'.x_is))) in
+      let of_first : place ≡ first.n.at = h.place_is ∙ (ap (λ (n : TermNode). n.at) found ∙ sym first.at) in
+      let of_second : place' ≡ second.n.at = h'.place_is ∙ (ap (λ (n : TermNode). n.at) found' ∙ sym second.at) in
+      let at : place ≡ place' = of_first ∙ (ap (λ (n : ExprNode). n.at) n ∙ sym of_second) in
+      record {
+        one_status = refl;
+        one_text = λ _ other _. absurd (other refl);
+        one_binding = λ _. record {
+          file = file;
+          line = line_of text place;
+          column = column_of text place;
+          x = x;
+          kind = kind;
+          other = kind';
+          text_is = refl;
+          said_is = λ i. no_scheme_line file (line_of text (sym at i)) (column_of text (sym at i)) (sym named i) kind';
+        };
+        one_declaration = λ is. absurd (cc);
+      }
 
--- so far imports declare nothing
-nothing_declared : (files : Files) (file text : List ℕ) (is : List Import) (declared : Declared) → ReadsImports files file text is (Ok declared) → declared ≡ []
-nothing_declared files file text _ _ no_import = refl
+  one_found : (o p : Outcome) → InfersBindings file text m imports o → InfersBindings file text m imports p → AreSame o p
+  one_found _ _ (unknown_name {at} h) (unknown_name {at = other} k) =
+      agree _ _ (ap (λ at. for_fault file text (names.UnknownName at)) (one_module_fault m imports (UnknownName at) (UnknownName other) valid h k))
+  one_found _ _ (unknown_name {at} h) (one_has_none {kind} k) = absurd (one_module_fault m imports (UnknownName at) (NoScheme k.number (record { node = k.node; kind = kind })) valid h k.without)
+  one_found _ _ (unknown_name {at} h) (all_inferred {s} k) = absurd (no_fault_beside_signature m imports s (UnknownName at) valid k h)
+  one_found _ _ (one_has_none {kind} h) (unknown_name {at} k) = absurd (one_module_fault m imports (UnknownName at) (NoScheme h.number (record { node = h.node; kind = kind })) valid k h.without)
+  one_found _ _ (one_has_none {x} {place} {kind} h) (one_has_none {x = y} {place = place'} {kind = kind'} k) = one_site x y place place' kind kind' h k
+  one_found _ _ (one_has_none {kind} h) (all_inferred {s} k) = absurd (no_fault_beside_signature m imports s (NoScheme h.number (record { node = h.node; kind = kind })) valid k h.without)
+  one_found _ _ (all_inferred {s} h) (unknown_name {at} k) = absurd (no_fault_beside_signature m imports s (UnknownName at) valid h k)
+  one_found _ _ (all_inferred {s} h) (one_has_none {kind} k) = absurd (no_fault_beside_signature m imports s (NoScheme k.number (record { node = k.node; kind = kind })) valid h k.without)
+  one_found _ _ (all_inferred {s} h) (all_inferred {s = t} k) = (signatures_are_valid m imports s is h, one_signature m imports s t valid h k)
+
+-- a text that is read as a module is one
+module_read : (file text : List ℕ) (m : Module) → ReadsModule file text (Ok m) → IsModule m
+module_read file text _ (is_module it) = record { tree = it.tree; no_doubles = it.text_of.no_doubles; nodes = it.nodes }
 
 module _ (files : Files) (x : List ℕ) where
-  one_text : (text : List ℕ) (o p : Outcome) → InfersText files x text o → InfersText files x text p → Agree o p
-  one_text text _ _ (bad_module {r} h) (bad_module {r = s} k) =
-      let same = one_reading (module_file x) text (Err r) (Err s) h k in refusals_agree r s (cc)
-  one_text text _ _ (bad_module {r} h) (bad_import {m} k is) =
-      let wrong = one_reading (module_file x) text (Err r) (Ok m) h k in absurd (cc)
-  one_text text _ _ (bad_module {r} h) (has_imports {m} k is found) =
-      let wrong = one_reading (module_file x) text (Err r) (Ok m) h k in absurd (cc)
-  one_text text _ _ (bad_import {m} h is) (bad_module {r = s} k) =
-      let wrong = one_reading (module_file x) text (Ok m) (Err s) h k in absurd (cc)
-  one_text text _ _ (bad_import {m} {r} h is) (bad_import {m = n} {r = s} k is') =
-      let read = one_reading (module_file x) text (Ok m) (Ok n) h k in
-      let same : m ≡ n = cc in
-      let also = one_declared files (module_file x) text n.imports (Err r) (Err s) (subst (λ (l : Module). ReadsImports files (module_file x) text l.imports (Err r)) same is) is' in
-      refusals_agree r s (cc)
-  one_text text _ _ (bad_import {m} {r} h is) (has_imports {m = n} {declared = declared} k is' found) =
-      let read = one_reading (module_file x) text (Ok m) (Ok n) h k in
-      let same : m ≡ n = cc in
-      let wrong = one_declared files (module_file x) text n.imports (Err r) (Ok declared) (subst (λ (l : Module). ReadsImports files (module_file x) text l.imports (Err r)) same is) is' in
-      absurd (cc)
-  one_text text _ _ (has_imports {m} h is found) (bad_module {r = s} k) =
-      let wrong = one_reading (module_file x) text (Ok m) (Err s) h k in absurd (cc)
-  one_text text _ _ (has_imports {m} {declared} h is found) (bad_import {m = n} {r = r} k is') =
-      let read = one_reading (module_file x) text (Ok m) (Ok n) h k in
-      let same : m ≡ n = cc in
-      let wrong = one_declared files (module_file x) text n.imports (Ok declared) (Err r) (subst (λ (l : Module). ReadsImports files (module_file x) text l.imports (Ok declared)) same is) is' in
-      absurd (cc)
-  one_text text o p (has_imports {m} {declared} h is found) (has_imports {m = n} {declared = others} k is' found') =
-      let read = one_reading (module_file x) text (Ok m) (Ok n) h k in
-      let same : m ≡ n = cc in
-      let also = one_declared files (module_file x) text n.imports (Ok declared) (Ok others) (subst (λ (l : Module). ReadsImports files (module_file x) text l.imports (Ok declared)) same is) is' in
-      let both : declared ≡ others = cc in
-      let none : others ≡ [] = nothing_declared files (module_file x) text n.imports others is' in
-      one_found (module_file x) text n o p
-      (subst (λ (d : Declared). InfersBindings (module_file x) text n d o) (both ∙ none) (subst (λ (l : Module). InfersBindings (module_file x) text l declared o) same found))
-      (subst (λ (d : Declared). InfersBindings (module_file x) text n d p) none found')
+  module _ (text : List ℕ) where
+    abbrev Reads : Result Module Refusal → Type 0
+    Reads r = ReadsModule (module_file x) text r
 
-  one_outcome : (o p : Outcome) → Infers files x o → Infers files x p → Agree o p
-  one_outcome _ _ (no_text {r} h) (no_text {r = s} k) = let both : Err r ≡ Err s = sym h ∙ k in refusals_agree r s (cc)
-  one_outcome _ _ (no_text {r} h) (has_text {text} k found) = let wrong : Err r ≡ Ok text = sym h ∙ k in absurd (cc)
-  one_outcome _ _ (has_text {text} h found) (no_text {r} k) = let wrong : Ok text ≡ Err r = sym h ∙ k in absurd (cc)
-  one_outcome o p (has_text {text} h found) (has_text {text = other} k found') =
-      let both : Ok text ≡ Ok other = sym h ∙ k in
-      let same : text ≡ other = cc in
+    one : (r s : Result Module Refusal) → Reads r → Reads s → r ≡ s
+    one = one_reading (module_file x) text
+
+    -- the imports of the one module
+    imports_of_one : (m n : Module) (r : Result (List Interface) Refusal) → Reads (Ok m) → Reads (Ok n) → ReadsImports files m.imports r → ReadsImports files n.imports r
+    imports_of_one m n r h k read = subst (λ (l : Module). ReadsImports files l.imports r) (ok_is (one (Ok m) (Ok n) h k)) read
+
+    one_text : (o p : Outcome) → InfersText files x text o → InfersText files x text p → AreSame o p
+    one_text _ _ (bad_module {r} h) (bad_module {r = s} k) = agree r s (err_is (one (Err r) (Err s) h k))
+    one_text _ _ (bad_module {r} h) (bad_import {m} k read) = absurd (ok_is_no_err (one (Ok m) (Err r) k h))
+    one_text _ _ (bad_module {r} h) (has_imports {m} k read found) = absurd (ok_is_no_err (one (Ok m) (Err r) k h))
+    one_text _ _ (bad_import {m} h read) (bad_module {r} k) = absurd (ok_is_no_err (one (Ok m) (Err r) h k))
+    one_text _ _ (bad_import {m} {r} h read) (bad_import {m = n} {r = s} k read') =
+        agree r s (err_is (one_declared files n.imports (Err r) (Err s) (imports_of_one m n (Err r) h k read) read'))
+    one_text _ _ (bad_import {m} {r} h read) (has_imports {m = n} {imports} k read' found) =
+        absurd (ok_is_no_err (one_declared files n.imports (Ok imports) (Err r) read' (imports_of_one m n (Err r) h k read)))
+    one_text _ _ (has_imports {m} h read found) (bad_module {r} k) = absurd (ok_is_no_err (one (Ok m) (Err r) h k))
+    one_text _ _ (has_imports {m} {imports} h read found) (bad_import {m = n} {r} k read') =
+        absurd (ok_is_no_err (one_declared files n.imports (Ok imports) (Err r) (imports_of_one m n (Ok imports) h k read) read'))
+    one_text o p (has_imports {m} {imports} h read found) (has_imports {m = n} {imports = others} k read' found') =
+        let same : m ≡ n = ok_is (one (Ok m) (Ok n) h k) in
+        let also : imports ≡ others = ok_is (one_declared files n.imports (Ok imports) (Ok others) (imports_of_one m n (Ok imports) h k read) read') in
+        one_found (module_file x) text n (module_read (module_file x) text n k) others (valid_imports files n.imports others read') o p
+        (subst (λ (is : List Interface). InfersBindings (module_file x) text n is o) also (subst (λ (l : Module). InfersBindings (module_file x) text l imports o) same found))
+        found'
+
+  one_inferred : (o p : Outcome) → Infers files x o → Infers files x p → AreSame o p
+  one_inferred _ _ (no_text {r} h) (no_text {r = s} k) = agree r s (err_is (sym h ∙ k))
+  one_inferred _ _ (no_text {r} h) (has_text {text} k found) = absurd (ok_is_no_err (sym k ∙ h))
+  one_inferred _ _ (has_text {text} h found) (no_text {r} k) = absurd (ok_is_no_err (sym h ∙ k))
+  one_inferred o p (has_text {text} h found) (has_text {text = other} k found') =
+      let same : text ≡ other = ok_is (sym h ∙ k) in
       one_text other o p (subst (λ t. InfersText files x t o) same found) found'
 
-told_alike : (o p : Outcome) (status other : Status) (text said : List ℕ) → Agree o p → status ≡ outcome_status o → text ≡ outcome_text o
-    → other ≡ outcome_status p → said ≡ outcome_text p → AreAlike status other text said
-told_alike o p status other text said agree s t s' t' =
+  -- two outcomes are told alike
+  abbrev ToldAlike : Outcome → Outcome → Type 0
+  ToldAlike o p = AreAlike (outcome_status o) (outcome_status p) (outcome_text x o) (outcome_text x p)
+
+  told : (o p : Outcome) → AreSame o p → ToldAlike o p
+  told (refused r) (refused s) same = same
+  told (refused r) (signed s) same = absurd same
+  told (refused r) matching same = absurd same
+  told (signed s) (refused r) same = absurd same
+  told (signed s) (signed t) same = record { one_status = refl; one_text = λ other _ _. absurd (other refl); one_binding = λ is. absurd (cc); one_declaration = λ is. absurd (cc) }
+  told (signed s) matching same = absurd same
+  told matching p same = absurd same
+
+  module _ (s t : Signature) (i : Interface) (entries : AreEntries s.entries) (are : modules.AreAlike s.entries t.entries) where
+    one_comparison : (o p : Outcome) → Compares x s i o → Compares x t i p → ToldAlike o p
+    one_comparison _ _ (all_match h) (all_match k) = record { one_status = refl; one_text = λ other _ _. absurd (other refl); one_binding = λ is. absurd (cc); one_declaration = λ is. absurd (cc) }
+    one_comparison _ _ (all_match h) (one_is_absent {declared} k) = absurd (one_answer_of_alike s.entries t.entries are entries i.vals all (Missing declared) h k)
+    one_comparison _ _ (all_match h) (one_is_too_special {declared} {path} k) = absurd (one_answer_of_alike s.entries t.entries are entries i.vals all (TooSpecial declared path) h k)
+    one_comparison _ _ (one_is_absent {declared} h) (all_match k) = absurd (one_answer_of_alike s.entries t.entries are entries i.vals (Missing declared) all h k)
+    one_comparison _ _ (one_is_absent {declared} h) (one_is_absent {declared = other} k) =
+        let same : declared ≡ other = one_answer_of_alike s.entries t.entries are entries i.vals (Missing declared) (Missing other) h k in
+        agree (absent x declared) (absent x other) (ap (absent x) same)
+    one_comparison _ _ (one_is_absent {declared} h) (one_is_too_special {declared = other} {path} k) =
+        absurd (one_answer_of_alike s.entries t.entries are entries i.vals (Missing declared) (TooSpecial other path) h k)
+    one_comparison _ _ (one_is_too_special {declared} {path} h) (all_match k) = absurd (one_answer_of_alike s.entries t.entries are entries i.vals (TooSpecial declared path) all h k)
+    one_comparison _ _ (one_is_too_special {declared} {path} h) (one_is_absent {declared = other} k) =
+        absurd (one_answer_of_alike s.entries t.entries are entries i.vals (TooSpecial declared path) (Missing other) h k)
+    one_comparison _ _ (one_is_too_special {declared} {path} h) (one_is_too_special {declared = other} {path = path'} k) =
+        let same : declared ≡ other = one_answer_of_alike s.entries t.entries are entries i.vals (TooSpecial declared path) (TooSpecial other path') h k in
+        record {
+          one_status = refl;
+          one_text = λ _ _ other. absurd (other refl);
+          one_binding = λ is. absurd (cc);
+          one_declaration = λ _. both_too_special x declared path path' refl (λ n. too_special_line x (sym same n) path');
+        }
+
+  one_check : (o p : Outcome) → Checks files x o → Checks files x p → ToldAlike o p
+  one_check _ _ (no_signature {r} h) (no_signature {r = s} k) = one_inferred (refused r) (refused s) h k
+  one_check _ _ (no_signature {r} h) (bad_interface {s} k read) = absurd (one_inferred (refused r) (signed s) h k)
+  one_check _ _ (no_signature {r} h) (compared {s} k read is) = absurd (one_inferred (refused r) (signed s) h k)
+  one_check _ _ (bad_interface {s} h read) (no_signature {r} k) = absurd (one_inferred (signed s) (refused r) h k)
+  one_check _ _ (bad_interface {r} h read) (bad_interface {r = s} k read') = agree r s (err_is (one_interface_read files x (Err r) (Err s) read read'))
+  one_check _ _ (bad_interface {r} h read) (compared {i} k read' is) = absurd (ok_is_no_err (one_interface_read files x (Ok i) (Err r) read' read))
+  one_check _ _ (compared {s} h read is) (no_signature {r} k) = absurd (one_inferred (signed s) (refused r) h k)
+  one_check _ _ (compared {i} h read is) (bad_interface {r} k read') = absurd (ok_is_no_err (one_interface_read files x (Ok i) (Err r) read read'))
+  one_check o p (compared {s} {i} h read is) (compared {s = t} {i = j} k read' is') =
+      let same : i ≡ j = ok_is (one_interface_read files x (Ok i) (Ok j) read read') in
+      let alike = one_inferred (signed s) (signed t) h k in
+      one_comparison s t j alike.0 alike.1 o p (subst (λ (i : Interface). Compares x s i o) same is) is'
+
+told_so : (x : List ℕ) (o p : Outcome) (status other : Status) (text said : List ℕ) → AreAlike (outcome_status o) (outcome_status p) (outcome_text x o) (outcome_text x p)
+    → status ≡ outcome_status o → text ≡ outcome_text x o → other ≡ outcome_status p → said ≡ outcome_text x p
+    → AreAlike status other text said
+told_so x o p status other text said alike s t s' t' =
     subst (λ (s : Status). AreAlike s other text said) (sym s)
     (subst (λ (s : Status). AreAlike (outcome_status o) s text said) (sym s')
     (subst (λ t. AreAlike (outcome_status o) (outcome_status p) t said) (sym t)
-    (subst (λ t. AreAlike (outcome_status o) (outcome_status p) (outcome_text o) t) (sym t') agree)))
+    (subst (λ t. AreAlike (outcome_status o) (outcome_status p) (outcome_text x o) t) (sym t') alike)))
 
 one_command : (files : Files) (command : Command) (status other : Status) (text said : List ℕ) → IsAnswerOf files command status text → IsAnswerOf files command other said
     → AreAlike status other text said
 one_command files _ status other text said (infer x o found s t) (infer _ p found' s' t') =
-    told_alike o p status other text said (one_outcome files x o p found found') s t s' t'
+    told_so x o p status other text said (told files x o p (one_inferred files x o p found found')) s t s' t'
+one_command files _ status other text said (check x o found s t) (check _ p found' s' t') = told_so x o p status other text said (one_check files x o p found found') s t s' t'
 
 pub one_answer : OneAnswer
-one_answer files words _ _ _ _ (no_command h) (no_command k) = record { one_status = refl; one_text = λ _ _. refl; one_binding = λ is. absurd (cc) }
+one_answer files words _ _ _ _ (no_command h) (no_command k) = record { one_status = refl; one_text = λ _ _ _. refl; one_binding = λ is. absurd (cc); one_declaration = λ is. absurd (cc) }
 one_answer files words _ other _ said (no_command h) (of_command command k answer) = absurd (cc)
 one_answer files words status _ text _ (of_command command h answer) (no_command k) = absurd (cc)
 one_answer files words status other text said (of_command command h answer) (of_command command' k answer') =
-    let both : Some command ≡ Some command' = sym h ∙ k in
-    let same : command ≡ command' = cc in
+    let same : command ≡ command' = some_is (sym h ∙ k) in
     one_command files command' status other text said (subst (λ (c : Command). IsAnswerOf files c status text) same answer) answer'

@@ -1,36 +1,24 @@
 -- What a run says after the text of an answer was written, or a front of it.
-use Rattle.std.proofs.Common.{◌≡◌, ◌⊎◌, inl, inr, ℕ, true, false, List, refl, sym, ap, ◌∙◌, subst}
+use Rattle.std.proofs.Common.{◌≡◌, ◌⊎◌, inl, inr, ℕ, true, false, List, refl, sym, subst}
 use Rattle.std.specs.Prelude.{Option, Some, None}
 use Rattle.mls_base.specs.Files.{Files}
 use Rattle.mls_io.specs.Sinks.{Written, TakesNone}
 use Rattle.mls_top.specs.declared.status.Status.{Status}
-use Rattle.mls_top.specs.declared.status.Status.TheVariants.{Done, NoScheme, BadText, NoFile, ReadFault, WriteFault, Memory, Usage, TooLong}
+use Rattle.mls_top.specs.declared.status.Status.TheVariants.{Done, NoScheme, Mismatch, BadText, NoFile, ReadFault, WriteFault, Memory, Usage, TooLong}
 use Rattle.mls_top.specs.declared.command.Command.{Command}
 use Rattle.mls_top.specs.Statuses.{is_cut, is_answer}
 use Rattle.mls_top.specs.Commands.{command_of}
 use Rattle.mls_top.specs.Lines.{usage_line}
-use Rattle.mls_top.specs.Refusals.{no_file, too_long, bad_text, no_scheme}
-use Rattle.mls_top.specs.Outcomes.{Outcome, refused, signed, outcome_status, IsInferred}
 use Rattle.mls_top.specs.Answers.{IsAnswer, no_command, of_command, IsAnswerOf, IsAnswerFor}
 use Rattle.mls_top.specs.Runs.{IsAnswered, IsCutOff, IsRunOver, IsRun}
 use Rattle.mls_top.specs.Writing.{IsTold, AddsFront}
-use Rattle.mls_top.proofs.HeldFiles.{some_files}
+use Rattle.mls_top.proofs.Learning.{some_files}
 
--- an outcome has a status of an answer
-outcome_is_answer : (o : Outcome) → is_answer (outcome_status o) ≡ true
-outcome_is_answer (refused (no_file file)) = refl
-outcome_is_answer (refused (too_long file limit)) = refl
-outcome_is_answer (refused (bad_text file text place number words)) = refl
-outcome_is_answer (refused (no_scheme file text place x kind)) = refl
-outcome_is_answer (signed entries) = refl
-
-pub inferred_is_answer : (x text said : List ℕ) (status : Status) → IsInferred x text status said → is_answer status ≡ true
-inferred_is_answer x text said status i = ap is_answer i.status_is ∙ outcome_is_answer i.outcome
-
--- it is not cut off
+-- an answer is not cut off
 pub answer_not_cut : (s : Status) → is_answer s ≡ true → is_cut s ≡ false
 answer_not_cut Done h = refl
 answer_not_cut NoScheme h = refl
+answer_not_cut Mismatch h = refl
 answer_not_cut BadText h = refl
 answer_not_cut NoFile h = refl
 answer_not_cut ReadFault h = absurd (cc)
@@ -44,6 +32,7 @@ module _ (words : List (List ℕ)) (old new : Written) where
   whole_run : (files : Files) (status : Status) → is_cut status ≡ false → IsAnswered files words old new status → IsRunOver files words old new status
   whole_run files Done h a = a
   whole_run files NoScheme h a = a
+  whole_run files Mismatch h a = a
   whole_run files BadText h a = a
   whole_run files NoFile h a = a
   whole_run files ReadFault h a = absurd (cc)
@@ -81,7 +70,7 @@ module _ (words : List (List ℕ)) (old new : Written) where
       → IsAnswerFor told command status text → is_answer status ≡ true → (result : Status) → IsTold status said old new result → IsRun told words old new result
   command_run told command status text said is same a answers result written =
       let Said : List ℕ → Type 0 = λ t. IsAnswerOf a.files command status t in
-      let answer : IsAnswer a.files words status said = of_command command is (subst Said (sym same) a.answer) in
+      let answer : IsAnswer a.files words status said = of_command command is (subst Said (sym same) a.holds) in
       record { files = a.files; of_store = a.of_store; over = run_over status said a.files answer (answer_not_cut status answers) result written }
 
   -- a run that was given up before anything was written

@@ -2,12 +2,12 @@
 use Rattle.std.specs.Prelude.{◌≡◌, ℕ, List, ◌++◌, Option, Some, None, IfSome}
 use Rattle.mls_base.specs.Files.{Files}
 use Rattle.mls_top.specs.declared.command.Command.{Command}
-use Rattle.mls_top.specs.declared.command.Command.TheVariants.{Infer}
+use Rattle.mls_top.specs.declared.command.Command.TheVariants.{Infer, Check}
 use Rattle.mls_top.specs.declared.status.Status.{Status}
 use Rattle.mls_top.specs.declared.status.Status.TheVariants.{Usage}
 use Rattle.mls_top.specs.Commands.{command_of}
 use Rattle.mls_top.specs.Lines.{usage_line}
-use Rattle.mls_top.specs.Outcomes.{Outcome, Infers, outcome_status, outcome_text}
+use Rattle.mls_top.specs.Outcomes.{Outcome, Infers, Checks, outcome_status, outcome_text}
 
 -- these files may be those of a store: where it tells its files, they are those
 abbrev pub MayBeThose : Option Files → Files → Type 0
@@ -17,8 +17,12 @@ MayBeThose told files = IfSome told (λ those. files ≡ those)
 pub data IsAnswerOf (files : Files) : Command → Status → List ℕ → Type 0 where
   -- the signature of a module
   infer : {status : Status} {text : List ℕ} (x : List ℕ) (outcome : Outcome)
-      → Infers files x outcome → status ≡ outcome_status outcome → text ≡ outcome_text outcome
+      → Infers files x outcome → status ≡ outcome_status outcome → text ≡ outcome_text x outcome
       → IsAnswerOf files (Infer x) status text
+  -- whether it matches the interface of the module
+  check : {status : Status} {text : List ℕ} (x : List ℕ) (outcome : Outcome)
+      → Checks files x outcome → status ≡ outcome_status outcome → text ≡ outcome_text x outcome
+      → IsAnswerOf files (Check x) status text
 
 -- the words answer with this status and this text over these files
 pub data IsAnswer (files : Files) (words : List (List ℕ)) : Status → List ℕ → Type 0 where
@@ -35,8 +39,12 @@ pub record IsFrontOfAnswer (files : Files) (words : List (List ℕ)) (front : Li
   pub left : List ℕ
   pub answer : IsAnswer files words status (front ++ left)
 
--- the command answers so over files that may be those of a store
-pub record IsAnswerFor (told : Option Files) (command : Command) (status : Status) (text : List ℕ) : Type 0 where
+-- this holds of files that may be those of a store
+pub record IsOver (told : Option Files) (P : Files → Type 0) : Type 0 where
   pub files : Files
   pub of_store : MayBeThose told files
-  pub answer : IsAnswerOf files command status text
+  pub holds : P files
+
+-- the command answers so over files that may be those of a store
+abbrev pub IsAnswerFor : Option Files → Command → Status → List ℕ → Type 0
+IsAnswerFor told command status text = IsOver told (λ files. IsAnswerOf files command status text)

@@ -1,8 +1,7 @@
 -- The laws of answers.
-use Rattle.std.specs.Prelude.{◌≡◌, ◌≢◌, ◌⊎◌, ℕ, List, [], ◌++◌, All, codes, length, slice_get, Some, Ok}
+use Rattle.std.specs.Prelude.{◌≡◌, ◌≢◌, ◌⊎◌, ℕ, List, ◌++◌, All, codes, slice_get, Some, Ok}
 use Rattle.mls_base.specs.Files.{Files}
 use Rattle.mls_term.specs.declared.term.Resolved.{Resolved}
-use Rattle.mls_term.specs.declared.term.ResolvedBinding.{ResolvedBinding}
 use Rattle.mls_grammar.specs.declared.module.Module.{Module}
 use Rattle.mls_grammar.specs.declared.module.Op.{Op}
 use Rattle.mls_grammar.specs.declared.module.Op.TheVariants.{Plus, Minus, Times, Less, Equal}
@@ -12,15 +11,22 @@ use Rattle.mls_infer.specs.declared.fault.SiteKind.{SiteKind}
 use Rattle.mls_typetext.specs.declared.scheme.ReadScheme.{ReadScheme}
 use Rattle.mls_typetext.specs.Books.{Ty, boolean, integer, arrow}
 use Rattle.mls_typetext.specs.Schemes.{type_scheme, environment}
-use Rattle.mls_top.specs.declared.command.Command.TheVariants.{Infer}
+use Rattle.mls_subsume.specs.declared.verdict.Path.{Path}
+use Rattle.mls_iface.specs.declared.interface.Interface.{Interface}
+use Rattle.mls_iface.specs.declared.signature.SigEntry.{SigEntry}
+use Rattle.mls_iface.specs.declared.signature.Signature.{Signature}
+use Rattle.mls_iface.specs.Signatures.{IsPlain, entry_line}
+use Rattle.mls_modules.specs.Entries.{IsSignatureOf}
+use Rattle.mls_modules.specs.Environments.{declared_names}
+use Rattle.mls_top.specs.declared.command.Command.{Command}
+use Rattle.mls_top.specs.declared.command.Command.TheVariants.{Infer, Check}
 use Rattle.mls_top.specs.declared.status.Status.{Status}
-use Rattle.mls_top.specs.declared.status.Status.TheVariants.{Done, NoScheme}
+use Rattle.mls_top.specs.declared.status.Status.TheVariants.{Done, NoScheme, Mismatch}
 use Rattle.mls_top.specs.Answers.{IsAnswer}
 use Rattle.mls_top.specs.Commands.{command_of}
-use Rattle.mls_top.specs.Lines.{module_file, no_scheme_line}
-use Rattle.mls_top.specs.Outcomes.{module_limit}
+use Rattle.mls_top.specs.Lines.{module_file, no_scheme_line, absent_line, too_special_line}
+use Rattle.mls_top.specs.Outcomes.{module_limit, ReadsImports}
 use Rattle.mls_top.specs.Refusals.{text_at}
-use Rattle.mls_top.specs.Entries.{Declared, Entry, AreEntriesOf, IsPlain, entry_line}
 
 -- both texts say of the same binding, at the same place of the same file, that it has no scheme
 pub record SayNoScheme (text said : List ℕ) : Type 0 where
@@ -33,12 +39,22 @@ pub record SayNoScheme (text said : List ℕ) : Type 0 where
   pub text_is : text ≡ no_scheme_line file line column x kind
   pub said_is : said ≡ no_scheme_line file line column x other
 
--- two answers have one status; where it is neither Done nor NoScheme they have one text, and where it is NoScheme the
--- same binding and place
+-- both texts say of the same declared name that the module does not keep it, as it does not bind the name, or as the
+-- binding is not general enough, whatever path they name
+pub data SayMismatch (text said : List ℕ) : Type 0 where
+  both_absent : (x declared : List ℕ) → text ≡ absent_line x declared → said ≡ absent_line x declared
+      → SayMismatch text said
+  both_too_special : (x declared : List ℕ) (path other : Path) → text ≡ too_special_line x declared path
+      → said ≡ too_special_line x declared other
+      → SayMismatch text said
+
+-- Two answers have one status. Where it is NoScheme they tell of the same binding and place, where it is Mismatch of
+-- the same declaration, and where it is none of these and not Done they have one text.
 pub record AreAlike (status other : Status) (text said : List ℕ) : Type 0 where
   pub one_status : status ≡ other
-  pub one_text : status ≢ Done → status ≢ NoScheme → text ≡ said
+  pub one_text : status ≢ Done → status ≢ NoScheme → status ≢ Mismatch → text ≡ said
   pub one_binding : status ≡ NoScheme → SayNoScheme text said
+  pub one_declaration : status ≡ Mismatch → SayMismatch text said
 
 -- two answers of the same words over the same files are alike
 abbrev pub OneAnswer : Type 0
@@ -47,17 +63,25 @@ OneAnswer =
     → IsAnswer files words status text → IsAnswer files words other said
     → AreAlike status other text said
 
--- the words ask for the signature of a module of these files that has no imports and whose names have meanings
+-- a command that infers the types of this module
+abbrev pub InfersTypesOf : List ℕ → Command → Type 0
+InfersTypesOf x (Infer y) = y ≡ x
+InfersTypesOf x (Check y) = y ≡ x
+
+-- the words ask for the types of a module of these files whose imports are read and whose names have meanings
 pub record AskForTypes (files : Files) (words : List (List ℕ)) : Type 0 where
   pub x : List ℕ
+  pub command : Command
+  pub infers : InfersTypesOf x command
+  pub words_are : command_of words ≡ Some command
   pub text : List ℕ
   pub m : Module
+  pub imports : List Interface
   pub r : Resolved
-  pub words_are : command_of words ≡ Some (Infer x)
   pub text_is : text_at files (module_file x) module_limit ≡ Ok text
   pub is_module : IsModuleText text m
-  pub no_imports : m.imports ≡ []
-  pub resolves : Resolves m [] r
+  pub reads : ReadsImports files m.imports (Ok imports)
+  pub resolves : Resolves m (declared_names imports) r
 
 -- all words have an answer over all files, or ask for types of such a module
 abbrev pub AnswerExists : Type 0
@@ -66,7 +90,7 @@ AnswerExists =
     → ((status : Status) × (text : List ℕ) × IsAnswer files words status text) ⊎ AskForTypes files words
 
 -- the line of an entry is plain up to the newline that ends it
-pub record IsOneLine (e : Entry) : Type 0 where
+pub record IsOneLine (e : SigEntry) : Type 0 where
   pub line : List ℕ
   pub plain : IsPlain line
   pub ended : entry_line e ≡ line ++ codes "\n"
@@ -74,8 +98,7 @@ pub record IsOneLine (e : Entry) : Type 0 where
 -- a signature has one line for each entry
 abbrev pub EachIsOneLine : Type 0
 EachIsOneLine =
-    (declared : Declared) (bindings : List ResolvedBinding) (entries : List Entry)
-    → length entries ≡ length bindings → AreEntriesOf declared bindings entries → All IsOneLine entries
+    (m : Module) (imports : List Interface) (s : Signature) → IsSignatureOf m imports s → All IsOneLine s.entries
 
 -- the type of an operator
 abbrev pub operator_type : Op → Ty

@@ -1,6 +1,5 @@
 pub mod Answers
 pub mod Commands
-pub mod Entries
 pub mod Laws
 pub mod Lines
 pub mod Outcomes

@@ -1,13 +1,21 @@
 -- The lines that are printed.
 pub use Rattle.mls_grammar.specs.Faults.{fault_place}
 use Rattle.std.specs.Prelude.{ℕ, List, [], ◌++◌, codes, decimal}
+use Rattle.std.specs.List.{flat_map}
 use Rattle.mls_grammar.specs.declared.fault.Fault.{Fault}
 use Rattle.mls_grammar.specs.declared.fault.Fault.TheVariants.{BadByte, BigNumber, Unexpected, Ended, TooDeep}
 use Rattle.mls_grammar.specs.declared.fault.Fault.TheVariants.{DuplicateBinding, DuplicateLabel, DuplicateImport}
-use Rattle.mls_grammar.specs.declared.fault.Fault.TheVariants.{UnknownName, NotBuilt, Memory}
+use Rattle.mls_grammar.specs.declared.fault.Fault.TheVariants.{UnknownName, Memory}
 use Rattle.mls_automaton.specs.declared.automaton.HeadKind.{HeadKind}
 use Rattle.mls_automaton.specs.declared.automaton.HeadKind.TheVariants as head
 use Rattle.mls_infer.specs.declared.fault.SiteKind.{SiteKind}
+use Rattle.mls_iface.specs.declared.interface.IfaceFault.{IfaceFault}
+use Rattle.mls_iface.specs.declared.interface.IfaceFault.TheVariants as faulty
+use Rattle.mls_subsume.specs.declared.verdict.Path.{Path}
+use Rattle.mls_subsume.specs.declared.verdict.Step.{Step}
+use Rattle.mls_subsume.specs.declared.verdict.Step.TheVariants.{Domain, Codomain, At}
+use Rattle.mls_subsume.specs.declared.verdict.Reason.{Reason}
+use Rattle.mls_subsume.specs.declared.verdict.Reason.TheVariants as reason
 use Rattle.mls_infer.specs.declared.fault.SiteKind.TheVariants.{Unlike, Lacks}
 
 abbrev pub usage_line : List ℕ
@@ -16,6 +24,10 @@ usage_line = codes "usage: mlsub COMMAND OPERANDS\n"
 -- the file of a module's text
 abbrev pub module_file : List ℕ → List ℕ
 module_file x = x ++ codes ".ml"
+
+-- the file of a module's interface
+abbrev pub interface_file : List ℕ → List ℕ
+interface_file x = x ++ codes ".mli"
 
 abbrev pub not_found_line : List ℕ → List ℕ
 not_found_line file = file ++ codes ": not found\n"
@@ -34,7 +46,6 @@ fault_number (UnknownName at) = 6
 fault_number (DuplicateBinding at) = 7
 fault_number (DuplicateLabel at) = 8
 fault_number (DuplicateImport at) = 9
-fault_number (NotBuilt at) = 20
 fault_number Memory = 0
 
 -- what is said of a fault
@@ -48,8 +59,46 @@ fault_text (UnknownName at) = codes "unknown name"
 fault_text (DuplicateBinding at) = codes "name bound twice"
 fault_text (DuplicateLabel at) = codes "label given twice"
 fault_text (DuplicateImport at) = codes "module imported twice"
-fault_text (NotBuilt at) = codes "not built yet"
 fault_text Memory = []
+
+-- the number of a fault of an interface; Memory is none
+abbrev pub interface_fault_number : IfaceFault → ℕ
+interface_fault_number (faulty.BadByte at) = 1
+interface_fault_number (faulty.BigNumber at) = 2
+interface_fault_number (faulty.Unexpected at kind) = 10
+interface_fault_number faulty.Ended = 11
+interface_fault_number (faulty.NotPolar at) = 12
+interface_fault_number (faulty.Unguarded at) = 13
+interface_fault_number (faulty.Contravariant at) = 14
+interface_fault_number (faulty.DuplicateLabel at) = 15
+interface_fault_number (faulty.DuplicateVal at) = 16
+interface_fault_number faulty.Memory = 0
+
+-- what is said of a fault of an interface
+abbrev pub interface_fault_text : IfaceFault → List ℕ
+interface_fault_text (faulty.BadByte at) = codes "a byte that begins no token"
+interface_fault_text (faulty.BigNumber at) = codes "a number above 9223372036854775807"
+interface_fault_text (faulty.Unexpected at kind) = codes "unexpected token in a type"
+interface_fault_text faulty.Ended = codes "the type ends too early"
+interface_fault_text (faulty.NotPolar at) = codes "not a polar type"
+interface_fault_text (faulty.Unguarded at) = codes "unguarded recursion"
+interface_fault_text (faulty.Contravariant at) = codes "contravariant recursion"
+interface_fault_text (faulty.DuplicateLabel at) = codes "label given twice"
+interface_fault_text (faulty.DuplicateVal at) = codes "name declared twice"
+interface_fault_text faulty.Memory = []
+
+-- the place of a fault in the text of an interface of this length: where it stands, or the end of the text
+abbrev pub interface_fault_place : ℕ → IfaceFault → ℕ
+interface_fault_place end (faulty.BadByte at) = at
+interface_fault_place end (faulty.BigNumber at) = at
+interface_fault_place end (faulty.Unexpected at kind) = at
+interface_fault_place end faulty.Ended = end
+interface_fault_place end (faulty.NotPolar at) = at
+interface_fault_place end (faulty.Unguarded at) = at
+interface_fault_place end (faulty.Contravariant at) = at
+interface_fault_place end (faulty.DuplicateLabel at) = at
+interface_fault_place end (faulty.DuplicateVal at) = at
+interface_fault_place end faulty.Memory = 0
 
 -- FILE:LINE:COLUMN
 abbrev pub place_text : List ℕ → (line column : ℕ) → List ℕ
@@ -76,3 +125,39 @@ kind_text (Lacks label) = codes "a record without the field " ++ label
 abbrev pub no_scheme_line : List ℕ → (line column : ℕ) → List ℕ → SiteKind → List ℕ
 no_scheme_line file line column x kind =
     place_text file line column ++ codes ": no scheme for " ++ x ++ codes ": " ++ kind_text kind ++ codes "\n"
+
+-- NAME matches NAME.mli
+abbrev pub matches_line : List ℕ → List ℕ
+matches_line x = x ++ codes " matches " ++ interface_file x ++ codes "\n"
+
+-- MODULE: val NAME is declared and not bound
+abbrev pub absent_line : (x declared : List ℕ) → List ℕ
+absent_line x declared = x ++ codes ": val " ++ declared ++ codes " is declared and not bound\n"
+
+-- a step of a path: `.dom` into the domain of a function, `.cod` into its codomain, `.{LABEL}` into a field
+abbrev pub step_text : Step → List ℕ
+step_text Domain = codes ".dom"
+step_text Codomain = codes ".cod"
+step_text (At label) = codes ".{" ++ label ++ codes "}"
+
+-- a path from the root of a type
+abbrev pub path_text : List Step → List ℕ
+path_text steps = codes "root" ++ flat_map step_text steps
+
+-- what differs at the end of a path
+abbrev pub part_text : HeadKind → List ℕ
+part_text head.Bool = codes "bool"
+part_text head.Int = codes "int"
+part_text head.Function = codes "function"
+part_text head.Rcd = codes "record"
+
+abbrev pub reason_text : Reason → List ℕ
+reason_text (reason.Head kind) = part_text kind
+reason_text (reason.Label label) = codes "field " ++ label
+reason_text reason.Flow = codes "flow"
+
+-- MODULE: val NAME is not general enough at PATH (REASON)
+abbrev pub too_special_line : (x declared : List ℕ) → Path → List ℕ
+too_special_line x declared path =
+    x ++ codes ": val " ++ declared ++ codes " is not general enough at " ++ path_text path.steps ++ codes " ("
+    ++ reason_text path.reason ++ codes ")\n"

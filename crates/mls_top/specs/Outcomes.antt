@@ -1,23 +1,33 @@
--- What is found when a module's signature is asked for: stage by stage, up to the first that refuses.
-use Rattle.std.specs.Prelude.{◌≡◌, ℕ, List, [], ◌∷◌, length, slice_get, Some, Result, Ok, Err}
+-- What is found when a module's signature is asked for, or compared with its interface: stage by stage, up to the first
+-- that refuses.
+use Rattle.std.specs.Prelude.{◌≡◌, ℕ, List, [], ◌∷◌, slice_get, Some, Result, Ok, Err}
 use Rattle.mls_base.specs.Files.{Files}
 use Rattle.mls_grammar.specs.declared.module.Module.{Module}
 use Rattle.mls_grammar.specs.declared.module.Import.{Import}
-use Rattle.mls_term.specs.declared.term.Resolved.{Resolved}
-use Rattle.mls_term.specs.declared.term.ResolvedBinding.{ResolvedBinding}
 use Rattle.mls_grammar.specs.declared.fault.Fault.{Fault}
-use Rattle.mls_grammar.specs.declared.fault.Fault.TheVariants.{NotBuilt}
+use Rattle.mls_grammar.specs.declared.fault.Fault.TheVariants as fault
 use Rattle.mls_grammar.specs.Modules.{IsModuleText}
 use Rattle.mls_grammar.specs.FirstFaults.{HasFirstFault}
-use Rattle.mls_names.specs.Resolution.{Resolves, HasUnknownName}
+use Rattle.mls_term.specs.declared.term.TermNode.{TermNode}
 use Rattle.mls_infer.specs.declared.fault.SiteKind.{SiteKind}
+use Rattle.mls_iface.specs.declared.interface.Interface.{Interface}
+use Rattle.mls_iface.specs.declared.interface.IfaceFault.{IfaceFault}
+use Rattle.mls_iface.specs.declared.signature.Signature.{Signature}
+use Rattle.mls_iface.specs.Interfaces.{IsInterfaceText, HasInterfaceFault}
+use Rattle.mls_iface.specs.Signatures.{signature_text}
+use Rattle.mls_iface.specs.declared.matching.MatchAnswer.TheVariants.{All, Missing, TooSpecial}
+use Rattle.mls_iface.specs.Matches.{IsMatchAnswer}
+use Rattle.mls_subsume.specs.declared.verdict.Path.{Path}
+use Rattle.mls_modules.specs.declared.fault.ModuleFault.TheVariants as module_fault
+use Rattle.mls_modules.specs.Entries.{IsSignatureOf}
+use Rattle.mls_modules.specs.ModuleFaults.{HasModuleFault, IsWithoutScheme}
 use Rattle.mls_top.specs.declared.status.Status.{Status}
 use Rattle.mls_top.specs.declared.status.Status.TheVariants.{Done}
-use Rattle.mls_top.specs.Lines.{module_file}
-use Rattle.mls_top.specs.Refusals.{Refusal, no_scheme, for_fault, text_at, refusal_status, refusal_text}
-use Rattle.mls_top.specs.Entries.{Declared, declared_names, Entry, AreEntriesOf, HasFirstNone, signature_text}
+use Rattle.mls_top.specs.Lines.{module_file, interface_file, matches_line}
+use Rattle.mls_top.specs.Refusals.{Refusal, no_scheme, absent, too_special, for_fault, for_interface_fault, text_at}
+use Rattle.mls_top.specs.Refusals.{refusal_status, refusal_text}
 
--- the most bytes that the text of a module may have
+-- the most bytes that the text of a module or of an interface may have
 abbrev pub module_limit : ℕ
 module_limit = 1048576
 
@@ -27,46 +37,71 @@ pub data ReadsModule (file text : List ℕ) : Result Module Refusal → Type 0 w
   -- the text has a first fault before its names are looked at
   is_faulty : {fault : Fault} → HasFirstFault text fault → ReadsModule file text (Err (for_fault file text fault))
 
--- what the imports of a module declare, or why the first of them that is refused is
-pub data ReadsImports (files : Files) (file text : List ℕ) : List Import → Result Declared Refusal → Type 0 where
-  no_import : ReadsImports files file text [] (Ok [])
-  -- so far no interface is read
-  unbuilt_import : {i : Import} {rest : List Import}
-      → ReadsImports files file text (i ∷ rest) (Err (for_fault file text (NotBuilt i.at)))
+-- what the interface of the module of this name declares, or why it is refused
+pub data ReadsInterface (files : Files) (x : List ℕ) : Result Interface Refusal → Type 0 where
+  -- the text is not there or too long
+  no_interface : {r : Refusal} → text_at files (interface_file x) module_limit ≡ Err r
+      → ReadsInterface files x (Err r)
+  is_interface : {text : List ℕ} {i : Interface} → text_at files (interface_file x) module_limit ≡ Ok text
+      → IsInterfaceText text i
+      → ReadsInterface files x (Ok i)
+  is_no_interface : {text : List ℕ} {fault : IfaceFault} → text_at files (interface_file x) module_limit ≡ Ok text
+      → HasInterfaceFault text fault
+      → ReadsInterface files x (Err (for_interface_fault (interface_file x) text fault))
+
+-- what the imports of a module declare, in order, or why the first of them that is refused is
+pub data ReadsImports (files : Files) : List Import → Result (List Interface) Refusal → Type 0 where
+  no_import : ReadsImports files [] (Ok [])
+  first_refused : {i : Import} {rest : List Import} {r : Refusal} → ReadsInterface files i.name (Err r)
+      → ReadsImports files (i ∷ rest) (Err r)
+  later_refused : {i : Import} {rest : List Import} {first : Interface} {r : Refusal}
+      → ReadsInterface files i.name (Ok first) → ReadsImports files rest (Err r)
+      → ReadsImports files (i ∷ rest) (Err r)
+  all_read : {i : Import} {rest : List Import} {first : Interface} {others : List Interface}
+      → ReadsInterface files i.name (Ok first) → ReadsImports files rest (Ok others)
+      → ReadsImports files (i ∷ rest) (Ok (first ∷ others))
+
+-- the first binding of the module that has no scheme has this name, and its first node without one this place
+pub record HasNoScheme (m : Module) (imports : List Interface) (x : List ℕ) (place : ℕ) : Type 0 where
+  pub number : ℕ
+  pub node : ℕ
+  pub without : IsWithoutScheme m imports number node
+  pub x_is : x ≡ without.none.b.name
+  pub found : TermNode
+  pub stands : slice_get without.none.b.term.nodes node ≡ Some found
+  pub place_is : place ≡ found.at
 
 -- what is found for a module
 pub data Outcome : Type 0 where
   refused : Refusal → Outcome
   -- each binding has an entry
-  signed : List Entry → Outcome
+  signed : Signature → Outcome
+  -- the signature matches the interface
+  matching : Outcome
 
--- what is found for the bindings of a module whose imports declare these
-pub data InfersBindings (file text : List ℕ) (m : Module) (declared : Declared) : Outcome → Type 0 where
+-- what is found for the bindings of a module whose imports declare this
+pub data InfersBindings (file text : List ℕ) (m : Module) (imports : List Interface) : Outcome → Type 0 where
   -- a name has no meaning
-  unknown_name : {fault : Fault} → HasUnknownName m (declared_names declared) fault
-      → InfersBindings file text m declared (refused (for_fault file text fault))
+  unknown_name : {at : ℕ} → HasModuleFault m imports (module_fault.UnknownName at)
+      → InfersBindings file text m imports (refused (for_fault file text (fault.UnknownName at)))
   -- Some bindings have entries, and the one behind them has no scheme. Which kind is told of it is left open: what a
   -- kind says of an expression is not defined yet.
-  one_has_none : {r : Resolved} {entries : List Entry} {b : ResolvedBinding} {place : ℕ} {kind : SiteKind}
-      → Resolves m (declared_names declared) r → AreEntriesOf declared r.bindings entries
-      → slice_get r.bindings (length entries) ≡ Some b → HasFirstNone declared entries b place
-      → InfersBindings file text m declared (refused (no_scheme file text place b.name kind))
-  all_inferred : {r : Resolved} {entries : List Entry} → Resolves m (declared_names declared) r
-      → length entries ≡ length r.bindings → AreEntriesOf declared r.bindings entries
-      → InfersBindings file text m declared (signed entries)
+  one_has_none : {x : List ℕ} {place : ℕ} {kind : SiteKind} → HasNoScheme m imports x place
+      → InfersBindings file text m imports (refused (no_scheme file text place x kind))
+  all_inferred : {s : Signature} → IsSignatureOf m imports s → InfersBindings file text m imports (signed s)
 
 -- what is found for the text of the module of this name over these files, which its imports are read from
 pub data InfersText (files : Files) (x text : List ℕ) : Outcome → Type 0 where
   bad_module : {r : Refusal} → ReadsModule (module_file x) text (Err r) → InfersText files x text (refused r)
   bad_import : {m : Module} {r : Refusal} → ReadsModule (module_file x) text (Ok m)
-      → ReadsImports files (module_file x) text m.imports (Err r)
+      → ReadsImports files m.imports (Err r)
       → InfersText files x text (refused r)
-  has_imports : {m : Module} {declared : Declared} {outcome : Outcome} → ReadsModule (module_file x) text (Ok m)
-      → ReadsImports files (module_file x) text m.imports (Ok declared)
-      → InfersBindings (module_file x) text m declared outcome
+  has_imports : {m : Module} {imports : List Interface} {outcome : Outcome} → ReadsModule (module_file x) text (Ok m)
+      → ReadsImports files m.imports (Ok imports)
+      → InfersBindings (module_file x) text m imports outcome
       → InfersText files x text outcome
 
--- what is found for the module of this name over these files
+-- what is found for the module of this name over these files: its signature, or why it has none
 pub data Infers (files : Files) (x : List ℕ) : Outcome → Type 0 where
   -- the text is not there or too long
   no_text : {r : Refusal} → text_at files (module_file x) module_limit ≡ Err r → Infers files x (refused r)
@@ -74,18 +109,33 @@ pub data Infers (files : Files) (x : List ℕ) : Outcome → Type 0 where
       → InfersText files x text outcome
       → Infers files x outcome
 
--- the status and the text that tell an outcome
+-- what is found where the signature of the module of this name is compared with its interface: that they match, or
+-- the first declaration that fails
+pub data Compares (x : List ℕ) (s : Signature) (i : Interface) : Outcome → Type 0 where
+  all_match : IsMatchAnswer s.entries i.vals All → Compares x s i matching
+  one_is_absent : {declared : List ℕ} → IsMatchAnswer s.entries i.vals (Missing declared)
+      → Compares x s i (refused (absent x declared))
+  -- the path is one of those that are allowed
+  one_is_too_special : {declared : List ℕ} {path : Path} → IsMatchAnswer s.entries i.vals (TooSpecial declared path)
+      → Compares x s i (refused (too_special x declared path))
+
+-- what is found where the module of this name over these files is compared with its interface
+pub data Checks (files : Files) (x : List ℕ) : Outcome → Type 0 where
+  -- the module has no signature
+  no_signature : {r : Refusal} → Infers files x (refused r) → Checks files x (refused r)
+  bad_interface : {s : Signature} {r : Refusal} → Infers files x (signed s) → ReadsInterface files x (Err r)
+      → Checks files x (refused r)
+  compared : {s : Signature} {i : Interface} {outcome : Outcome} → Infers files x (signed s)
+      → ReadsInterface files x (Ok i) → Compares x s i outcome
+      → Checks files x outcome
+
+-- the status and the text that tell an outcome for the module of this name
 abbrev pub outcome_status : Outcome → Status
 outcome_status (refused r) = refusal_status r
-outcome_status (signed entries) = Done
+outcome_status (signed s) = Done
+outcome_status matching = Done
 
-abbrev pub outcome_text : Outcome → List ℕ
-outcome_text (refused r) = refusal_text r
-outcome_text (signed entries) = signature_text entries
-
--- these are the status and the text of what is found for the text of the module of this name, whatever files there are
-pub record IsInferred (x text : List ℕ) (status : Status) (said : List ℕ) : Type 0 where
-  pub outcome : Outcome
-  pub found : (files : Files) → InfersText files x text outcome
-  pub status_is : status ≡ outcome_status outcome
-  pub text_is : said ≡ outcome_text outcome
+abbrev pub outcome_text : List ℕ → Outcome → List ℕ
+outcome_text x (refused r) = refusal_text r
+outcome_text x (signed s) = signature_text s.entries
+outcome_text x matching = matches_line x

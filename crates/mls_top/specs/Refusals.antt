@@ -4,10 +4,13 @@ use Rattle.mls_base.specs.Files.{Files, bytes_at}
 use Rattle.mls_lexer.specs.Tokens.{line_of, column_of}
 use Rattle.mls_grammar.specs.declared.fault.Fault.{Fault}
 use Rattle.mls_top.specs.declared.status.Status.{Status}
-use Rattle.mls_top.specs.declared.status.Status.TheVariants.{NoScheme, BadText, NoFile, TooLong}
+use Rattle.mls_top.specs.declared.status.Status.TheVariants.{NoScheme, Mismatch, BadText, NoFile, TooLong}
 use Rattle.mls_infer.specs.declared.fault.SiteKind.{SiteKind}
 use Rattle.mls_top.specs.Lines.{not_found_line, too_long_line, fault_line, fault_number, fault_text, fault_place}
-use Rattle.mls_top.specs.Lines.{no_scheme_line}
+use Rattle.mls_top.specs.Lines.{no_scheme_line, absent_line, too_special_line}
+use Rattle.mls_top.specs.Lines.{interface_fault_number, interface_fault_text, interface_fault_place}
+use Rattle.mls_iface.specs.declared.interface.IfaceFault.{IfaceFault}
+use Rattle.mls_subsume.specs.declared.verdict.Path.{Path}
 
 pub data Refusal : Type 0 where
   -- there is no such file
@@ -18,10 +21,21 @@ pub data Refusal : Type 0 where
   bad_text : (file text : List ℕ) (place number : ℕ) (words : List ℕ) → Refusal
   -- the binding of this name in the text of the file has no scheme, by the expression at this place, for this reason
   no_scheme : (file text : List ℕ) (place : ℕ) (x : List ℕ) (kind : SiteKind) → Refusal
+  -- the interface of the module x declares this name, and the module does not bind it
+  absent : (x declared : List ℕ) → Refusal
+  -- the interface of the module x declares this name with a type that that of its binding does not subsume: this is the
+  -- path to the first difference, and the reason
+  too_special : (x declared : List ℕ) (path : Path) → Refusal
 
 -- the refusal of a text for a fault of modules
 abbrev pub for_fault : (file text : List ℕ) → Fault → Refusal
 for_fault file text fault = bad_text file text (fault_place (length text) fault) (fault_number fault) (fault_text fault)
+
+-- the refusal of a text for a fault of interfaces
+abbrev pub for_interface_fault : (file text : List ℕ) → IfaceFault → Refusal
+for_interface_fault file text fault =
+    bad_text file text (interface_fault_place (length text) fault) (interface_fault_number fault)
+    (interface_fault_text fault)
 
 -- the bytes of a file that has at most so many, or why there are none
 abbrev pub within : List ℕ → ℕ → List ℕ → Result (List ℕ) Refusal
@@ -40,6 +54,8 @@ refusal_status (no_file file) = NoFile
 refusal_status (too_long file limit) = TooLong
 refusal_status (bad_text file text place number words) = BadText
 refusal_status (no_scheme file text place x kind) = NoScheme
+refusal_status (absent x declared) = Mismatch
+refusal_status (too_special x declared path) = Mismatch
 
 abbrev pub refusal_text : Refusal → List ℕ
 refusal_text (no_file file) = not_found_line file
@@ -48,3 +64,5 @@ refusal_text (bad_text file text place number words) =
     fault_line file (line_of text place) (column_of text place) number words
 refusal_text (no_scheme file text place x kind) =
     no_scheme_line file (line_of text place) (column_of text place) x kind
+refusal_text (absent x declared) = absent_line x declared
+refusal_text (too_special x declared path) = too_special_line x declared path

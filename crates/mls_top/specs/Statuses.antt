@@ -1,13 +1,15 @@
 -- The exit codes.
 use Rattle.std.specs.Prelude.{ℕ, Bool, true, false}
 use Rattle.mls_top.specs.declared.status.Status.{Status}
-use Rattle.mls_top.specs.declared.status.Status.TheVariants.{Done, NoScheme, BadText, NoFile, ReadFault, WriteFault}
+use Rattle.mls_top.specs.declared.status.Status.TheVariants.{Done, NoScheme, Mismatch, BadText, NoFile}
+use Rattle.mls_top.specs.declared.status.Status.TheVariants.{ReadFault, WriteFault}
 use Rattle.mls_top.specs.declared.status.Status.TheVariants.{Memory, Usage, TooLong}
 
 -- the exit code of each status
 abbrev pub code_of : Status → ℕ
 code_of Done = 0
 code_of NoScheme = 1
+code_of Mismatch = 2
 code_of BadText = 3
 code_of NoFile = 4
 code_of ReadFault = 5
@@ -27,6 +29,7 @@ is_cut _ = false
 abbrev pub is_answer : Status → Bool
 is_answer Done = true
 is_answer NoScheme = true
+is_answer Mismatch = true
 is_answer BadText = true
 is_answer NoFile = true
 is_answer TooLong = true

@@ -1,103 +1,148 @@
-//! The signature of a module, as a function of the module's text. No store and no sink is in scope here.
-ghost use Rattle.std.specs.Prelude.{◌≡◌, ◌≢◌, ◌≤◌, ℕ, length, IfOk};
-ghost use Rattle.mls_top.specs.Lines.{module_file, fault_place};
-ghost use Rattle.mls_base.specs.Files.{Files};
-ghost use Rattle.mls_top.specs.Outcomes.{IsInferred, InfersText, refused};
-ghost use Rattle.mls_top.specs.Refusals.{for_fault, no_scheme};
+//! The signature of a module, over the interfaces of its imports.
+ghost use Rattle.std.specs.Prelude.{◌≢◌, IfOk, IfErr};
+ghost use Rattle.mls_io.specs.Stores.{Follows};
+ghost use Rattle.mls_grammar.specs.Modules.{IsModule, IsModuleText};
+ghost use Rattle.mls_modules.specs.Environments.{AreInterfacesOf};
+ghost use Rattle.mls_modules.specs.Entries.{IsSignatureOf};
+ghost use Rattle.mls_top.specs.Answers.{IsOver};
+ghost use Rattle.mls_top.specs.Outcomes.{Infers, InfersBindings, refused};
+ghost use Rattle.mls_top.specs.steps.Answering.{IsAsked, IsAskedStop, IsStop, IsCausedStop, IsUncounted};
+ghost use Rattle.mls_top.specs.steps.Answering.{HasFaultOverSome, IsSignedModule, TellsFault};
+ghost use Rattle.mls_top.specs.steps.Fetching.{Learns, IsFileOf};
 
-use crate::answer::Answer;
-use crate::lines::{
-    fault_line, fault_number, fault_place, fault_text, module_file, no_scheme_line,
-};
-use crate::signature::{NoSignature, signature};
+use crate::answer::{Answer, Stop};
+use crate::command::Command;
+use crate::fetching::text_of;
+use crate::lines::{module_file, no_scheme_line};
+use crate::reading::{MODULE_LIMIT, faulty_module, imports_of, module_of};
 use crate::status::Status;
+use mls_base::list::List;
 use mls_base::memory::Memory;
 use mls_book::name::Name;
-use mls_infer::fault::SiteKind;
+use mls_iface::interface::Interface;
+use mls_iface::print::print_interface;
+use mls_iface::signature::Signature;
+use mls_infer::fault::Site;
+use mls_io::store::Store;
 use mls_lexer::place::locate;
-use mls_syntax::parse::{Fault, parse_module};
-use mls_syntax::resolve::resolve;
+use mls_modules::fault::ModuleFault;
+use mls_modules::infer::infer_module;
+use mls_syntax::module::Module;
+use mls_syntax::parse::Fault;
 use std::alloc::Global;
 
-/// The answer of `infer` for the module of this name with this text: its signature, the first binding that has no
-/// scheme, or the first fault of the text.
-///
-/// So far no interface is read: a module with an import is refused by `NotBuilt` at its first import.
-pub fn infer(alloc: Global, name: &Name, text: &[u8]) -> Result<Answer, Memory>
-    ensures { IfOk result (λ answer. IsInferred name.now text.now answer.status answer.text.items) }
-{
-    let source = match parse_module(alloc, text) {
-        Ok(source) => source,
-        Err(fault) => return bad_text(alloc, name, text, fault),
-    };
-    if let Some(import) = source.imports.as_slice().first() {
-        return bad_text(alloc, name, text, Fault::NotBuilt(import.at));
-    }
-    let resolved = match resolve(alloc, &source, &[]) {
-        Ok(resolved) => resolved,
-        Err(fault) => return bad_text(alloc, name, text, fault),
-    };
-    match signature(alloc, resolved.bindings.as_slice()) {
-        Ok(text) => Ok(Answer {
-            status: Status::Done,
-            text,
-        }),
-        Err(NoSignature::NoScheme(number, site)) => {
-            let Some(binding) = resolved.bindings.as_slice().get(number) else {
-                unreachable!()
-            };
-            let Some(node) = binding.term.nodes.as_slice().get(site.node) else {
-                unreachable!()
-            };
-            without_scheme(alloc, name, text, node.at, &binding.name, &site.kind)
-        }
-        Err(NoSignature::Memory) => Err(Memory),
-    }
+/// A module with what its imports declare, in their order, and its signature.
+#[derive(Drop)]
+pub struct SignedModule {
+    pub source: Module,
+    pub imports: List<Interface>,
+    pub signature: Signature,
 }
 
-// The answer for a text whose binding of this name has no scheme, by the expression at this place, for this reason.
-fn without_scheme(
-    alloc: Global,
-    name: &Name,
-    text: &[u8],
-    at: usize,
-    binding: &Name,
-    kind: &SiteKind,
-) -> Result<Answer, Memory>
-    requires found { (files : Files) → InfersText files name.now text.now
-        (refused (no_scheme (module_file name.now) text.now at binding.now kind.now)) }
-    requires within { at ≤ length text.now }
-    ensures { IfOk result (λ answer. IsInferred name.now text.now answer.status answer.text.items) }
+/// The answer of `infer` over a store: the signature of the module of this name.
+pub fn infer<S: Store>(alloc: Global, store: &mut S, name: &Name) -> Result<Answer, Stop>
+    ensures follows { Follows (S.holdings store.old) (S.holdings store.new) }
+    ensures answer { IfOk result (IsAsked (S.holdings store.old) (S.holdings store.new) (Command.Infer name.now)) }
+    ensures stop { IfErr result (IsAskedStop (S.holdings store.old) (S.holdings store.new) (Command.Infer name.now)) }
 {
-    let file = module_file(alloc, name)?;
-    let line = no_scheme_line(alloc, file.as_str(), locate(text, at), binding, kind)?;
+    let found = signed(alloc, store, name)?;
     Ok(Answer {
-        status: Status::NoScheme,
-        text: line,
+        status: Status::Done,
+        text: print_interface(alloc, &found.signature)?,
     })
 }
 
-// The answer for a text that is refused for this fault.
-fn bad_text(alloc: Global, name: &Name, text: &[u8], fault: Fault) -> Result<Answer, Memory>
-    requires found { fault ≢ Fault.Memory → (files : Files)
-        → InfersText files name.now text.now (refused (for_fault (module_file name.now) text.now fault)) }
-    requires within { fault ≢ Fault.Memory → fault_place (length text.now) fault ≤ length text.now }
-    ensures { IfOk result (λ answer. IsInferred name.now text.now answer.status answer.text.items) }
+/// The module of this name with its signature, over the interfaces of its imports.
+pub fn signed<S: Store>(alloc: Global, store: &mut S, name: &Name) -> Result<SignedModule, Stop>
+    ensures follows { Follows (S.holdings store.old) (S.holdings store.new) }
+    ensures signed { IfOk result (λ s. Learns (S.holdings store.old).files (IsFileOf name.now s.source.imports)
+        (λ files. IsSignedModule files name.now s)) }
+    ensures source { IfOk result (λ s. IsModule s.source) }
+    ensures imports { IfOk result (λ s. AreInterfacesOf s.source s.imports) }
+    ensures signature { IfOk result (λ s. IsSignatureOf s.source s.imports s.signature) }
+    ensures refused { IfErr result (IsStop (λ r. IsOver (S.holdings store.old).files
+        (λ files. Infers files name.now (refused r)))) }
+    ensures counted { IfErr result (IsCausedStop (S.holdings store.old) (S.holdings store.new)) }
 {
-    if fault == Fault::Memory {
-        return Err(Memory);
-    }
     let file = module_file(alloc, name)?;
-    let place = locate(text, fault_place(&fault, text.len()));
-    let line = fault_line(
+    let text = text_of(alloc, store, file.as_str(), MODULE_LIMIT)?;
+    let source = module_of(alloc, file.as_str(), text.as_slice())?;
+    let imports = imports_of(alloc, store, source.imports.as_slice())?;
+    let signature = signature_of(
         alloc,
         file.as_str(),
-        place,
-        fault_number(&fault),
-        fault_text(&fault),
+        text.as_slice(),
+        &source,
+        imports.as_slice(),
     )?;
+    Ok(SignedModule {
+        source,
+        imports,
+        signature,
+    })
+}
+
+// The signature of the module that this text of a file is, where these are the interfaces of its imports.
+fn signature_of(
+    alloc: Global,
+    file: &str,
+    text: &[u8],
+    source: &Module,
+    imports: &[Interface],
+) -> Result<Signature, Stop>
+    requires source { IsModuleText text.now source.now }
+    requires imports { AreInterfacesOf source.now imports.now }
+    ensures signature { IfOk result (IsSignatureOf source.now imports.now) }
+    ensures refused { IfErr result (IsStop (λ r. InfersBindings file.now text.now source.now imports.now (refused r))) }
+    ensures uncounted { IfErr result IsUncounted }
+{
+    match infer_module(alloc, source, imports) {
+        Ok(signature) => Ok(signature),
+        Err(fault) => Err(Stop::Refused(unsigned(alloc, file, text, source, fault)?)),
+    }
+}
+
+// What is told of a module that has no signature for this reason.
+fn unsigned(
+    alloc: Global,
+    file: &str,
+    text: &[u8],
+    source: &Module,
+    fault: ModuleFault,
+) -> Result<Answer, Memory>
+    requires source { IsModuleText text.now source.now }
+    requires fault { fault ≢ ModuleFault.Memory → HasFaultOverSome source.now fault }
+    ensures { IfOk result (TellsFault file.now text.now source.now fault) }
+{
+    match fault {
+        ModuleFault::UnknownName(at) => {
+            faulty_module(alloc, file, text, &Fault::UnknownName(at))
+        }
+        ModuleFault::NoScheme(number, site) => {
+            without_scheme(alloc, file, text, source, number, &site)
+        }
+        ModuleFault::Memory => Err(Memory),
+    }
+}
+
+// What is told of a module whose binding of this number has no scheme, by the expression that is named there.
+fn without_scheme(
+    alloc: Global,
+    file: &str,
+    text: &[u8],
+    source: &Module,
+    number: usize,
+    site: &Site,
+) -> Result<Answer, Memory>
+    requires source { IsModuleText text.now source.now }
+    requires fault { HasFaultOverSome source.now (ModuleFault.NoScheme number site.now) }
+    ensures { IfOk result (TellsFault file.now text.now source.now (ModuleFault.NoScheme number site.now)) }
+{
+    let binding = &source.bindings.as_slice()[number];
+    let node = &binding.expr.nodes.as_slice()[site.node];
+    let place = locate(text, node.at);
     Ok(Answer {
-        status: Status::BadText,
-        text: line,
+        status: Status::NoScheme,
+        text: no_scheme_line(alloc, file, place, &binding.name, &site.kind)?,
     })
 }

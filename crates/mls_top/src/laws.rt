@@ -2,12 +2,13 @@
 ghost use Rattle.mls_top.specs.Laws.{OneAnswer, AnswerExists, EachIsOneLine, OperatorsStandFirst};
 
 /// Two answers of the same words over the same files have one status. Where it is NoScheme they tell of one binding at
-/// one place, and where it is neither that nor Done they have one text.
+/// one place, where it is Mismatch of one declaration, and where it is none of these and not Done they have one text.
 pub fn one_answer()
     ensures { OneAnswer }
 {}
 
-/// All words have an answer over all files, or ask for types of a module without imports whose names have meanings.
+/// All words have an answer over all files, or ask for types of a module whose imports are read and whose names have
+/// meanings.
 pub fn answer_exists()
     ensures { AnswerExists }
 {}

@@ -2,13 +2,15 @@
 #![tactic(auto)]
 
 mod answer;
+mod check;
 mod command;
+mod faults;
 mod fetching;
 mod infer;
 pub mod laws;
 mod lines;
+mod mismatches;
+mod reading;
 pub mod run;
-mod signature;
 pub mod status;
-mod types;
 mod writing;

@@ -1,12 +1,11 @@
-//! The lines of refusals.
+//! Names of files, and the lines of refusals.
 ghost use Rattle.std.specs.Prelude.{◌≡◌, ◌++◌, string_bytes, IfOk, OnOk};
-ghost use Rattle.mls_top.specs.Lines.{module_file, not_found_line, too_long_line, fault_line, fault_number, fault_text};
-ghost use Rattle.mls_top.specs.Lines.{fault_place, head_text, kind_text, no_scheme_line, place_text};
+ghost use Rattle.mls_top.specs.Lines.{module_file, interface_file, not_found_line, too_long_line, fault_line};
+ghost use Rattle.mls_top.specs.Lines.{head_text, kind_text, no_scheme_line, place_text};
 
 use mls_base::memory::Memory;
 use mls_book::name::Name;
 use mls_infer::fault::{HeadKind, SiteKind};
-use mls_syntax::parse::Fault;
 use std::alloc::Global;
 
 /// The file of a module's text.
@@ -19,62 +18,14 @@ pub fn module_file(alloc: Global, name: &Name) -> Result<String, Memory>
     Ok(file)
 }
 
-/// The number of a fault in messages; want of memory has none, and gives 0.
-pub fn fault_number(fault: &Fault) -> usize
-    ensures { result ≡ fault_number fault.now }
+/// The file of a module's interface.
+pub fn interface_file(alloc: Global, name: &Name) -> Result<String, Memory>
+    ensures { IfOk result (λ file. string_bytes file ≡ interface_file name.now) }
 {
-    match fault {
-        Fault::BadByte(_) => 1,
-        Fault::BigNumber(_) => 2,
-        Fault::Unexpected(_, _) => 3,
-        Fault::Ended => 4,
-        Fault::TooDeep(_) => 5,
-        Fault::UnknownName(_) => 6,
-        Fault::DuplicateBinding(_) => 7,
-        Fault::DuplicateLabel(_) => 8,
-        Fault::DuplicateImport(_) => 9,
-        Fault::NotBuilt(_) => 20,
-        Fault::Memory => 0,
-    }
-}
-
-/// What messages say of a fault; of want of memory nothing.
-pub fn fault_text(fault: &Fault) -> &'static str
-    ensures { result.now ≡ fault_text fault.now }
-{
-    match fault {
-        Fault::BadByte(_) => "a byte that begins no token",
-        Fault::BigNumber(_) => "a number above 9223372036854775807",
-        Fault::Unexpected(_, _) => "unexpected token",
-        Fault::Ended => "the text ends too early",
-        Fault::TooDeep(_) => "nesting above 200",
-        Fault::UnknownName(_) => "unknown name",
-        Fault::DuplicateBinding(_) => "name bound twice",
-        Fault::DuplicateLabel(_) => "label given twice",
-        Fault::DuplicateImport(_) => "module imported twice",
-        Fault::NotBuilt(_) => "not built yet",
-        Fault::Memory => "",
-    }
-}
-
-/// The place of a fault in a text of this length, in bytes: that of the variant, and the end of the text for one that
-/// ends too early.
-pub fn fault_place(fault: &Fault, length: usize) -> usize
-    ensures { result ≡ fault_place length fault.now }
-{
-    match fault {
-        Fault::BadByte(at) => *at,
-        Fault::BigNumber(at) => *at,
-        Fault::Unexpected(at, _) => *at,
-        Fault::Ended => length,
-        Fault::TooDeep(at) => *at,
-        Fault::UnknownName(at) => *at,
-        Fault::DuplicateBinding(at) => *at,
-        Fault::DuplicateLabel(at) => *at,
-        Fault::DuplicateImport(at) => *at,
-        Fault::NotBuilt(at) => *at,
-        Fault::Memory => 0,
-    }
+    let mut file = String::new(alloc);
+    file.push_str(name.as_str())?;
+    file.push_str(".mli")?;
+    Ok(file)
 }
 
 /// The line of a file that is not there.

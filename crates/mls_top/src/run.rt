@@ -25,8 +25,12 @@ const USAGE: &[u8] = b"usage: mlsub COMMAND OPERANDS\n";
 /// without the program's own name.
 ///
 /// The whole answer is computed first, and then written with one put for each line; no fetch comes after the first
-/// put. The command is `infer NAME`: it reads `NAME.ml` and prints the signature of the module, or its first binding
-/// that has no scheme, or its first fault.
+/// put. The commands are
+///
+/// - `infer NAME`: reads `NAME.ml` and the interface `IMPORT.mli` of each import, and prints the signature of the
+///   module, or its first binding that has no scheme, or the first fault of a text.
+/// - `check NAME`: the same, and where the module has a signature, reads `NAME.mli`, and prints that they match or the
+///   first declaration that fails.
 pub fn run<S: Store, K: Sink>(
     alloc: Global,
     words: &Vec<String>,
@@ -88,7 +92,7 @@ fn told<K: Sink>(sink: &mut K, status: Status, text: &[u8]) -> Status
 #[cfg(test)]
 mod tests {
     use super::*;
-    use crate::answer::MODULE_LIMIT;
+    use crate::reading::MODULE_LIMIT;
     use mls_base::memory::Memory;
     use mls_io::memory::{FileEntry, SureSink, SureStore};
     use mls_io::store::Fetch;
@@ -246,15 +250,6 @@ mod tests {
             (
                 "import k\nimport k",
                 "main.ml:2:8: fault 9: module imported twice\n",
-            ),
-            ("import k", "main.ml:1:8: fault 20: not built yet\n"),
-            (
-                "import k let a = b",
-                "main.ml:1:8: fault 20: not built yet\n",
-            ),
-            (
-                "import k let a = 1 2",
-                "main.ml:1:8: fault 20: not built yet\n",
             ),
             (
                 "let f = 1 2\nlet g = y",
@@ -600,6 +595,366 @@ mod tests {
         Ok(())
     }
 
+    // The text of a file among these, each on a line with its name before it.
+    fn text_among<'a>(files: &'a str, name: &str) -> Option<&'a str> {
+        for line in files.split('\n') {
+            if let Some((file, text)) = line.split_once(' ') {
+                if file == name {
+                    return Some(text);
+                }
+            }
+        }
+        None
+    }
+
+    // A store of these files that tells nothing of them, and counts its fetches. That of this number fails, from 1 on.
+    #[derive(Drop)]
+    struct ListedStore<'a> {
+        files: &'a str,
+        failing: usize,
+        fetches: usize,
+        has_failed: bool,
+        has_missed: bool,
+        has_cut: bool,
+    }
+
+    impl<'a> Store for ListedStore<'a> {
+        ghost use Rattle.std.specs.Prelude.{None};
+
+        ghost holdings = { λ store. record {
+          files = None;
+          faults = record { value = 0; is_worn = store.has_failed };
+          misses = record { value = 0; is_worn = store.has_missed };
+          longs = record { value = 0; is_worn = store.has_cut };
+        } };
+
+        fn fetch(&mut self, name: &str, limit: usize, into: &mut Vec<u8>) -> Fetch {
+            self.fetches = self.fetches.saturating_add(1);
+            if self.fetches == self.failing {
+                self.has_failed = true;
+                return Fetch::Failed;
+            }
+            let Some(text) = text_among(self.files, name) else {
+                self.has_missed = true;
+                return Fetch::Missing;
+            };
+            if text.len() > limit {
+                self.has_cut = true;
+                return Fetch::Long;
+            }
+            match into.extend_from_slice(text.as_bytes()) {
+                Ok(_) => Fetch::Found,
+                Err(_) => Fetch::Memory,
+            }
+        }
+    }
+
+    // What a command prints over these files, its code, and how often it fetched, where this fetch fails.
+    fn answered(
+        alloc: Global,
+        command: &str,
+        name: &str,
+        files: &str,
+        failing: usize,
+    ) -> Result<(Vec<u8>, u8, usize), Memory> {
+        let words = words_of(alloc, &[command, name])?;
+        let mut store = ListedStore {
+            files,
+            failing,
+            fetches: 0,
+            has_failed: false,
+            has_missed: false,
+            has_cut: false,
+        };
+        let mut sink = SureSink::new(alloc);
+        let status = run(alloc, &words, &mut store, &mut sink);
+        Ok((
+            Vec::from_slice(alloc, sink.bytes())?,
+            status.code(),
+            store.fetches,
+        ))
+    }
+
+    // Files, what a command prints over them, its code, and how often it fetches.
+    type Row<'a> = (&'a str, &'a str, u8, usize);
+
+    // Tests a command on the module `main`.
+    fn are_answered(
+        rt: &impl Abort,
+        alloc: Global,
+        command: &str,
+        rows: &[Row],
+    ) -> Result<(), Memory> {
+        for (files, printed, code, fetches) in rows {
+            let (said, status, count) = answered(alloc, command, "main", files, 0)?;
+            assert_eq!(rt; said.as_slice(), printed.as_bytes());
+            assert_eq!(rt; status, *code, "{printed}");
+            assert_eq!(rt; count, *fetches, "{printed}");
+        }
+        Ok(())
+    }
+
+    #[test]
+    fn infers_over_imports(rt: HostRuntime) -> Result<(), Fail> {
+        let rows: [Row; 11] = [
+            // The latest import counts, and a binding of the module before it.
+            (
+                "main.ml import j import k let a = x\nj.mli val x : int\nk.mli val x : bool",
+                "val a : bool\n",
+                0,
+                3,
+            ),
+            (
+                "main.ml import k let x = true let a = x\nk.mli val x : int",
+                "val x : bool\nval a : bool\n",
+                0,
+                2,
+            ),
+            (
+                "main.ml import k let a = {l = id 1, m = id true}\nk.mli val id : a -> a",
+                "val a : {l: int, m: bool}\n",
+                0,
+                2,
+            ),
+            ("main.ml import k let a = 1\nk.mli ", "val a : int\n", 0, 2),
+            // The module that is imported need not be there, but its interface.
+            (
+                "main.ml import main let a = x\nmain.mli val x : a -> a",
+                "val a : a -> a\n",
+                0,
+                2,
+            ),
+            (
+                "main.ml import j import k let a = b\nj.mli ",
+                "k.mli: not found\n",
+                4,
+                3,
+            ),
+            (
+                "main.ml import j import k\nj.mli val x : int val x : bool",
+                "j.mli:1:17: fault 16: name declared twice\n",
+                3,
+                2,
+            ),
+            (
+                "main.ml import k\nk.mli val x : int ->",
+                "k.mli:1:15: fault 11: the type ends too early\n",
+                3,
+                2,
+            ),
+            (
+                "main.ml import k\nk.mli val x : top",
+                "k.mli:1:9: fault 12: not a polar type\n",
+                3,
+                2,
+            ),
+            (
+                "main.ml import k let b = 1 2 let a = y\nk.mli val x : int",
+                "main.ml:1:30: fault 6: unknown name\n",
+                3,
+                2,
+            ),
+            (
+                "main.ml import k let a = f true\nk.mli val f : int -> int",
+                "main.ml:1:18: no scheme for a: bool where int is expected\n",
+                1,
+                2,
+            ),
+        ];
+        are_answered(&rt, rt.alloc(), "infer", rows.as_slice())?;
+        Ok(())
+    }
+
+    #[test]
+    fn compares_the_identity(rt: HostRuntime) -> Result<(), Fail> {
+        let rows: [Row; 8] = [
+            (
+                "main.ml let id = fun x -> x\nmain.mli val id : int -> int",
+                "main matches main.mli\n",
+                0,
+                2,
+            ),
+            (
+                "main.ml let id = fun x -> x\nmain.mli val id : a & int -> a | int",
+                "main matches main.mli\n",
+                0,
+                2,
+            ),
+            (
+                "main.ml let id = fun x -> x\nmain.mli val id : (rec a. {next: a}) -> rec a. {next: a}",
+                "main matches main.mli\n",
+                0,
+                2,
+            ),
+            (
+                "main.ml let id = fun x -> x\nmain.mli val id : a -> b",
+                "main: val id is not general enough at root.cod (flow)\n",
+                2,
+                2,
+            ),
+            (
+                "main.ml let id = fun x -> x\nmain.mli val id : int -> bool",
+                "main: val id is not general enough at root.cod (flow)\n",
+                2,
+                2,
+            ),
+            (
+                "main.ml let id = fun x -> x\nmain.mli val id : {}",
+                "main: val id is not general enough at root (function)\n",
+                2,
+                2,
+            ),
+            (
+                "main.ml let id = fun x -> x\nmain.mli val k : int",
+                "main: val k is declared and not bound\n",
+                2,
+                2,
+            ),
+            (
+                "main.ml let id = fun x -> x\nmain.mli ",
+                "main matches main.mli\n",
+                0,
+                2,
+            ),
+        ];
+        are_answered(&rt, rt.alloc(), "check", rows.as_slice())?;
+        Ok(())
+    }
+
+    #[test]
+    fn compares_modules(rt: HostRuntime) -> Result<(), Fail> {
+        let rows: [Row; 10] = [
+            (
+                "main.ml let e = {}\nmain.mli val e : {a: int}",
+                "main: val e is not general enough at root (field a)\n",
+                2,
+                2,
+            ),
+            (
+                "main.ml let f = fun x -> {l = {}}\nmain.mli val f : int -> {l: {k: int}}",
+                "main: val f is not general enough at root.cod.{l} (field k)\n",
+                2,
+                2,
+            ),
+            (
+                "main.ml let f = fun g -> g 1\nmain.mli val f : (bool -> a) -> a",
+                "main: val f is not general enough at root.dom.dom (int)\n",
+                2,
+                2,
+            ),
+            // The first declaration that fails is told.
+            (
+                "main.ml let a = 1 let b = true\nmain.mli val b : bool val a : bool val c : int",
+                "main: val a is not general enough at root (int)\n",
+                2,
+                2,
+            ),
+            ("main.ml let a = 1", "main.mli: not found\n", 4, 2),
+            (
+                "main.ml let a = 1\nmain.mli val a = 1",
+                "main.mli:1:7: fault 10: unexpected token in a type\n",
+                3,
+                2,
+            ),
+            // The module has no signature, and its interface is not looked at.
+            (
+                "main.ml let a = 1 2",
+                "main.ml:1:9: no scheme for a: int where a function is expected\n",
+                1,
+                1,
+            ),
+            // The module imports itself: its interface is read once.
+            (
+                "main.ml import main let a = 1 let b = a\nmain.mli val a : int",
+                "main matches main.mli\n",
+                0,
+                2,
+            ),
+            (
+                "main.ml import k import main let a = true\nmain.mli val a : int\nk.mli val a : bool",
+                "main: val a is not general enough at root (bool)\n",
+                2,
+                3,
+            ),
+            (
+                "main.ml import k let a = f 1\nk.mli val f : a -> {l: a}\nmain.mli val a : {l: int}",
+                "main matches main.mli\n",
+                0,
+                3,
+            ),
+        ];
+        are_answered(&rt, rt.alloc(), "check", rows.as_slice())?;
+        Ok(())
+    }
+
+    #[test]
+    fn ends_at_each_fetch_that_fails(rt: HostRuntime) -> Result<(), Fail> {
+        let files =
+            "main.ml import j import k let a = f 1\nj.mli val f : int -> int\nk.mli val g : bool\nmain.mli val a : int";
+        for (command, failing, printed, code, fetches) in [
+            ("infer", 1, "", 5, 1),
+            ("infer", 2, "", 5, 2),
+            ("infer", 3, "", 5, 3),
+            ("infer", 4, "val a : int\n", 0, 3),
+            ("check", 1, "", 5, 1),
+            ("check", 2, "", 5, 2),
+            ("check", 3, "", 5, 3),
+            ("check", 4, "", 5, 4),
+            ("check", 5, "main matches main.mli\n", 0, 4),
+        ] {
+            let (said, status, count) = answered(rt.alloc(), command, "main", files, failing)?;
+            assert_eq!(rt; said.as_slice(), printed.as_bytes(), "{command}");
+            assert_eq!(rt; status, code, "{command}");
+            assert_eq!(rt; count, fetches, "{command}");
+        }
+        Ok(())
+    }
+
+    // Four modules that work together.
+    const MODULES: &str =
+        "pairs.ml let pair = fun x -> fun y -> {fst = x, snd = y} let swap = fun p -> {fst = p.snd, snd = p.fst}
+pairs.mli val pair : a -> b -> {fst: a, snd: b} val swap : {fst: a, snd: b} -> {fst: b, snd: a}
+church.ml let tt = fun x -> fun y -> x let ff = fun x -> fun y -> y let cond = fun b -> fun x -> fun y -> b x y
+church.mli val tt : a -> b -> a val ff : a -> b -> b val cond : (a -> b -> c) -> a -> b -> c
+counter.ml let rec counter = fun n -> {now = n, next = fun u -> counter (n + 1)}
+counter.mli val counter : int -> rec a. {next: {} -> a, now: int}
+main.ml import pairs import church import counter let p = pair 1 true let q = swap p let c = counter 0 let d = (c.next {}).now let r = cond tt q.fst d
+main.mli val d : int val r : bool | int";
+
+    #[test]
+    fn infers_and_compares_modules_that_work_together(rt: HostRuntime) -> Result<(), Fail> {
+        for (name, printed, matches) in [
+            (
+                "pairs",
+                "val pair : a -> b -> {fst: a, snd: b}\nval swap : {fst: a, snd: b} -> {fst: b, snd: a}\n",
+                "pairs matches pairs.mli\n",
+            ),
+            (
+                "church",
+                "val tt : a -> top -> a\nval ff : top -> a -> a\nval cond : (a -> b -> c) -> a -> b -> c\n",
+                "church matches church.mli\n",
+            ),
+            (
+                "counter",
+                "val counter : int -> rec a. {next: top -> a, now: int}\n",
+                "counter matches counter.mli\n",
+            ),
+            (
+                "main",
+                "val p : {fst: int, snd: bool}\nval q : {fst: bool, snd: int}\nval c : rec a. {next: {} -> a, now: int}\nval d : int\nval r : bool\n",
+                "main matches main.mli\n",
+            ),
+        ] {
+            let (said, code, _) = answered(rt.alloc(), "infer", name, MODULES, 0)?;
+            assert_eq!(rt; said.as_slice(), printed.as_bytes());
+            assert_eq!(rt; code, 0, "{name}");
+            let (said, code, _) = answered(rt.alloc(), "check", name, MODULES, 0)?;
+            assert_eq!(rt; said.as_slice(), matches.as_bytes());
+            assert_eq!(rt; code, 0, "{name}");
+        }
+        Ok(())
+    }
+
     #[test]
     fn answers_each_front_of_a_text(rt: HostRuntime) -> Result<(), Fail> {
         let alloc = rt.alloc();
@@ -683,6 +1038,9 @@ mod tests {
             (&["infer", "--help"].as_slice(), false, usage, 8, 0),
             (&["infer", "Main"].as_slice(), false, usage, 8, 0),
             (&["infer", "let"].as_slice(), true, usage, 8, 0),
+            (&["check"].as_slice(), false, usage, 8, 0),
+            (&["check", "1"].as_slice(), false, usage, 8, 0),
+            (&["Check", "main"].as_slice(), false, usage, 8, 0),
             (
                 &["infer", "main"].as_slice(),
                 false,
@@ -691,6 +1049,7 @@ mod tests {
                 1,
             ),
             (&["infer", "main"].as_slice(), true, "", 5, 1),
+            (&["check", "k"].as_slice(), false, "k.ml: not found\n", 4, 1),
         ] {
             let mut store = CountingStore {
                 is_broken,

@@ -9,6 +9,8 @@ pub enum Status {
     Done,
     /// A binding has no scheme; its first expression that has none is printed.
     NoScheme,
+    /// The module does not keep its interface's promise; the first declaration that fails is printed.
+    Mismatch,
     /// A text has a fault, which is printed.
     BadText,
     /// A file is not there; its name is printed.
@@ -26,14 +28,15 @@ pub enum Status {
 }
 
 impl Status {
-    /// The exit code of the program: 0 for Done, 1 NoScheme, 3 BadText, 4 NoFile, 5 ReadFault, 6 WriteFault, 7
-    /// Memory, 8 Usage and 11 TooLong. It takes no memory.
+    /// The exit code of the program: 0 for Done, 1 NoScheme, 2 Mismatch, 3 BadText, 4 NoFile, 5 ReadFault, 6
+    /// WriteFault, 7 Memory, 8 Usage and 11 TooLong. It takes no memory.
     pub fn code(&self) -> u8
         ensures { result ≡ code_of self.now }
     {
         match self {
             Status::Done => 0,
             Status::NoScheme => 1,
+            Status::Mismatch => 2,
             Status::BadText => 3,
             Status::NoFile => 4,
             Status::ReadFault => 5,

@@ -1,29 +1,33 @@
 -- What the phases of a run say to one another.
-use Rattle.std.specs.Prelude.{◌≡◌, ℕ, List, [], ◌∷◌, ◌++◌, length, map, codes, slice_get, Some, Result, Err}
-use Rattle.std.specs.Prelude.{MatchResult}
+use Rattle.std.specs.Prelude.{◌≡◌, ◌≢◌, ℕ, List, Result, Ok, MatchResult, IsTrue}
+use Rattle.mls_base.specs.Files.{Files}
 use Rattle.mls_io.specs.Counts.{Rose}
 use Rattle.mls_io.specs.Stores.{Holdings}
-use Rattle.mls_term.specs.declared.term.ResolvedBinding.{ResolvedBinding}
-use Rattle.mls_typetext.specs.declared.scheme.Names.{Names}
-use Rattle.mls_typetext.specs.declared.scheme.ReadScheme.{ReadScheme}
-use Rattle.mls_typetext.specs.Schemes.{environment}
-use Rattle.mls_infer.specs.Inference.{AreNames, schemes_in}
-use Rattle.mls_infer.specs.declared.fault.InferFault.{InferFault}
-use Rattle.mls_infer.specs.declared.fault.InferFault.TheVariants as fault
-use Rattle.mls_term.specs.Terms.{TermTree, postorder}
-use Rattle.mls_term.specs.WellFormed.{IsFirstNone}
-use Rattle.mls_typetext.specs.Texts.{IsTypeText}
-use Rattle.mls_top.specs.declared.signature.NoSignature.{NoSignature}
-use Rattle.mls_top.specs.declared.signature.NoSignature.TheVariants as none
+use Rattle.mls_grammar.specs.declared.module.Module.{Module}
+use Rattle.mls_grammar.specs.Modules.{IsModuleText}
+use Rattle.mls_iface.specs.declared.interface.Interface.{Interface}
+use Rattle.mls_iface.specs.declared.interface.IfaceFault.{IfaceFault}
+use Rattle.mls_iface.specs.declared.signature.Signature.{Signature}
+use Rattle.mls_iface.specs.Interfaces.{HasInterfaceFault}
+use Rattle.mls_modules.specs.declared.fault.ModuleFault.{ModuleFault}
+use Rattle.mls_modules.specs.declared.fault.ModuleFault.TheVariants.{Memory as WantOfMemory}
+use Rattle.mls_modules.specs.Entries.{IsSignatureOf}
+use Rattle.mls_modules.specs.ModuleFaults.{HasModuleFault}
 use Rattle.mls_top.specs.declared.answer.Answer.{Answer}
 use Rattle.mls_top.specs.declared.answer.Halt.{Halt}
 use Rattle.mls_top.specs.declared.answer.Halt.TheVariants as halt
-use Rattle.mls_top.specs.declared.fetching.Stop.{Stop}
-use Rattle.mls_top.specs.declared.fetching.Stop.TheVariants as stop
+use Rattle.mls_top.specs.declared.answer.Stop.{Stop}
+use Rattle.mls_top.specs.declared.answer.Stop.TheVariants as stop
+use Rattle.mls_top.specs.declared.command.Command.{Command}
+use Rattle.mls_top.specs.declared.infer.SignedModule.{SignedModule}
 use Rattle.mls_top.specs.declared.status.Status.{Status}
 use Rattle.mls_top.specs.declared.status.Status.TheVariants.{NoFile, TooLong, ReadFault, Memory}
-use Rattle.mls_top.specs.Lines.{not_found_line, too_long_line}
-use Rattle.mls_top.specs.Entries.{Entry, known_after, IsEntryOf, AreEntriesOf, entry_line, signature_text}
+use Rattle.mls_top.specs.Answers.{IsAnswerFor}
+use Rattle.mls_top.specs.Lines.{module_file}
+use Rattle.mls_top.specs.Outcomes.{Outcome, refused, module_limit, Compares, InfersBindings, ReadsImports}
+use Rattle.mls_top.specs.Outcomes.{outcome_status, outcome_text}
+use Rattle.mls_top.specs.Refusals.{Refusal, for_interface_fault, refusal_status, refusal_text, text_at}
+use Rattle.mls_top.specs.Statuses.{is_answer}
 
 -- the status of a run that has no answer
 abbrev pub halt_status : Halt → Status
@@ -41,70 +45,66 @@ abbrev pub IsCaused : Holdings → Holdings → Result Answer Halt → Type 0
 IsCaused old new result =
     MatchResult result (λ answer. IsCausedBy answer.status old new) (λ h. IsCausedBy (halt_status h) old new)
 
--- the answer has this status and this text, or memory was wanting
-abbrev pub Says : Status → List ℕ → Result Answer Halt → Type 0
-Says status text result =
-    MatchResult result (λ answer. (answer.status ≡ status) × (answer.text.items ≡ text)) (λ h. h ≡ halt.Memory)
+abbrev pub IsCausedStop : Holdings → Holdings → Stop → Type 0
+IsCausedStop old new (stop.Refused answer) = IsCausedBy answer.status old new
+IsCausedStop old new (stop.Halt h) = IsCausedBy (halt_status h) old new
 
--- what is answered where a file could not be fetched
-abbrev pub IsRefused : Stop → List ℕ → ℕ → Result Answer Halt → Type 0
-IsRefused stop.NoFile file limit result = Says NoFile (not_found_line file) result
-IsRefused stop.TooLong file limit result = Says TooLong (too_long_line file limit) result
-IsRefused stop.ReadFault file limit result = result ≡ Err halt.ReadFault
-IsRefused stop.Memory file limit result = result ≡ Err halt.Memory
+-- no count has to rise for it
+abbrev pub IsUncounted : Stop → Type 0
+IsUncounted s = (old new : Holdings) → IsCausedStop old new s
 
--- the names mean the operators, and what the texts of these entries are read as
-pub record Mean (names : Names) (entries : List Entry) : Type 0 where
-  pub are_names : AreNames names
-  pub schemes : schemes_in names ≡ environment [] (map (λ e. e.read) entries)
+-- the answer tells the refusal
+pub record Tells (r : Refusal) (answer : Answer) : Type 0 where
+  pub status : answer.status ≡ refusal_status r
+  pub text : answer.text.items ≡ refusal_text r
 
--- the line of an entry was added, and what its text is read as; it is one for the binding behind the entries that the
--- names meant
-pub record AddsEntry (old new : Names) (before after : List ℕ) (b : ResolvedBinding) : Type 0 where
-  pub entry : Entry
-  pub is_entry : (earlier : List Entry) → Mean old earlier → IsEntryOf [] earlier b entry
-  pub adds : after ≡ before ++ entry_line entry
-  pub names : new.schemes ≡ old.schemes ++ entry.read ∷ []
+-- the answer tells the outcome for the module of this name
+pub record TellsOutcome (x : List ℕ) (outcome : Outcome) (answer : Answer) : Type 0 where
+  pub status : answer.status ≡ outcome_status outcome
+  pub text : answer.text.items ≡ outcome_text x outcome
 
--- the text is that of a signature of these bindings
-pub record IsSignatureText (bindings : List ResolvedBinding) (text : List ℕ) : Type 0 where
-  pub entries : List Entry
-  pub count : length entries ≡ length bindings
-  pub are_entries : AreEntriesOf [] bindings entries
-  pub text_is : text ≡ signature_text entries
+-- a refusal is told of which this holds, or there is no answer
+abbrev pub IsStop : (Refusal → Type 0) → Stop → Type 0
+IsStop P (stop.Refused answer) = (r : Refusal) × Tells r answer × P r
+IsStop P (stop.Halt h) = Unit {0}
 
--- the text is that of the signature of the first k bindings, and the names mean its entries
-pub record HasEntries (bindings : List ResolvedBinding) (k : ℕ) (names : Names) (text : List ℕ) : Type 0 where
-  pub entries : List Entry
-  pub count : length entries ≡ k
-  pub are_entries : AreEntriesOf [] bindings entries
-  pub text_is : text ≡ signature_text entries
-  pub mean : Mean names entries
+-- the answer is one for the command, and what it speaks of was counted
+pub record IsAsked (old new : Holdings) (command : Command) (answer : Answer) : Type 0 where
+  pub answers : IsAnswerFor old.files command answer.status answer.text.items
+  pub caused : IsCausedBy answer.status old new
+  pub answer_status : IsTrue (is_answer answer.status)
 
--- the bindings before binding k have entries, behind which this node of its term is the first without a scheme
-pub record FailsAt (bindings : List ResolvedBinding) (k node : ℕ) : Type 0 where
-  pub entries : List Entry
-  pub count : length entries ≡ k
-  pub are_entries : AreEntriesOf [] bindings entries
-  pub b : ResolvedBinding
-  pub binding : slice_get bindings k ≡ Some b
-  pub term_tree : TermTree
-  pub nodes : b.term.nodes ≡ postorder 0 term_tree
-  pub first : IsFirstNone (known_after [] entries).globals term_tree node
+abbrev pub IsAskedStop : Holdings → Holdings → Command → Stop → Type 0
+IsAskedStop old new command (stop.Refused answer) = IsAsked old new command answer
+IsAskedStop old new command (stop.Halt h) = IsCausedBy (halt_status h) old new
 
-abbrev pub HasNoSignature : List ResolvedBinding → NoSignature → Type 0
-HasNoSignature bindings (none.NoScheme k site) = FailsAt bindings k site.node
-HasNoSignature bindings none.Memory = Unit {0}
+-- the refusal is that of an interface with this text for a fault of it
+abbrev pub IsForFault : (file text : List ℕ) → Refusal → Type 0
+IsForFault file text r =
+    (fault : IfaceFault) × HasInterfaceFault text fault × (r ≡ for_interface_fault file text fault)
 
--- why bindings have no signature, where inference of binding k ended so
-abbrev pub at_binding : ℕ → InferFault → NoSignature
-at_binding k (fault.NoScheme site) = none.NoScheme k site
-at_binding k fault.Memory = none.Memory
+-- the module has no signature over some interfaces, for this reason
+abbrev pub HasFaultOverSome : Module → ModuleFault → Type 0
+HasFaultOverSome m fault = (imports : List Interface) × HasModuleFault m imports fault
 
--- the text is a type
-abbrev pub IsType : List ℕ → Type 0
-IsType text = (read : ReadScheme) × IsTypeText text read
+-- the answer tells what is found for the bindings of the module over interfaces for which it has this fault
+pub record TellsFault (file text : List ℕ) (m : Module) (fault : ModuleFault) (answer : Answer) : Type 0 where
+  pub r : Refusal
+  pub not_memory : fault ≢ WantOfMemory
+  pub uncounted : IsUncounted (stop.Refused answer)
+  pub tells : Tells r answer
+  pub is : (imports : List Interface) → HasModuleFault m imports fault → InfersBindings file text m imports (refused r)
 
--- the line of an entry with this name and this text
-abbrev pub line_of : List ℕ → List ℕ → List ℕ
-line_of x text = codes "val " ++ x ++ codes " : " ++ text ++ codes "\n"
+-- over these files this is the module of this name, what its imports declare, and its signature
+pub record IsSignedModule (files : Files) (x : List ℕ) (s : SignedModule) : Type 0 where
+  pub text : List ℕ
+  pub text_is : text_at files (module_file x) module_limit ≡ Ok text
+  pub is_module : IsModuleText text s.source
+  pub reads : ReadsImports files s.source.imports (Ok s.imports)
+  pub signature : IsSignatureOf s.source s.imports s.signature
+
+-- the answer tells what is found where the signature of the module of this name is compared with its interface
+pub record TellsComparison (x : List ℕ) (s : Signature) (i : Interface) (answer : Answer) : Type 0 where
+  pub outcome : Outcome
+  pub compares : Compares x s i outcome
+  pub tells : TellsOutcome x outcome answer

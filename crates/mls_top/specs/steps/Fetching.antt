@@ -1,29 +1,31 @@
--- Why a text was not fetched.
-use Rattle.std.specs.Prelude.{◌≡◌, ℕ, List, Option, Result, Err}
-use Rattle.mls_base.specs.Files.{Files}
-use Rattle.mls_io.specs.Counts.{Rose}
-use Rattle.mls_io.specs.Stores.{Holdings}
-use Rattle.mls_top.specs.declared.fetching.Stop.{Stop}
-use Rattle.mls_top.specs.declared.fetching.Stop.TheVariants.{NoFile, TooLong, ReadFault, Memory}
+-- What is learned of files by fetching some of them.
+use Rattle.std.specs.Prelude.{◌≡◌, ◌⊎◌, ℕ, List, Contains, Option, Some, None}
+use Rattle.mls_base.specs.Files.{Files, bytes_at}
+use Rattle.mls_grammar.specs.declared.module.Import.{Import}
 use Rattle.mls_top.specs.Answers.{MayBeThose}
-use Rattle.mls_top.specs.Refusals.{Refusal, text_at, no_file, too_long}
+use Rattle.mls_top.specs.Lines.{module_file, interface_file}
 
--- the count of this cause rose; want of memory has none
-abbrev pub IsCounted : Stop → Holdings → Holdings → Type 0
-IsCounted NoFile old new = Rose old.misses new.misses
-IsCounted TooLong old new = Rose old.longs new.longs
-IsCounted ReadFault old new = Rose old.faults new.faults
-IsCounted Memory old new = Unit {0}
+-- the files have the same bytes under these names
+abbrev pub Agree : (List ℕ → Type 0) → Files → Files → Type 0
+Agree names files others = (x : List ℕ) → names x → bytes_at others x ≡ bytes_at files x
 
--- in files that may be those of a store, this is the text of a file of at most so many bytes, or why there is none
-pub record IsTextIn (told : Option Files) (file : List ℕ) (limit : ℕ) (text : Result (List ℕ) Refusal) : Type 0 where
+-- where the store tells nothing, there are no other files than some of these names
+abbrev pub HasOnly : Option Files → (List ℕ → Type 0) → Files → Type 0
+HasOnly (Some those) names files = Unit {0}
+HasOnly None names files = (x : List ℕ) → (names x → ⊥) → bytes_at files x ≡ None
+
+-- By fetches of files of these names, each once, this was learned: it holds of all files that have the same bytes under
+-- these names as some files that may be those of the store.
+pub record Learns (told : Option Files) (names : List ℕ → Type 0) (P : Files → Type 0) : Type 0 where
   pub files : Files
   pub of_store : MayBeThose told files
-  pub is_text : text_at files file limit ≡ text
+  pub only : HasOnly told names files
+  pub holds : (others : Files) → Agree names files others → P others
 
--- what the cause says of the files
-abbrev pub HoldsOf : Stop → Option Files → List ℕ → ℕ → Type 0
-HoldsOf NoFile told file limit = IsTextIn told file limit (Err (no_file file))
-HoldsOf TooLong told file limit = IsTextIn told file limit (Err (too_long file limit))
-HoldsOf ReadFault told file limit = Unit {0}
-HoldsOf Memory told file limit = Unit {0}
+-- the file is the interface of one of these imports
+abbrev pub IsInterfaceFile : List Import → List ℕ → Type 0
+IsInterfaceFile imports file = (i : Import) × Contains imports i × (file ≡ interface_file i.name)
+
+-- the file is the text of the module of this name, or the interface of one of these imports
+abbrev pub IsFileOf : List ℕ → List Import → List ℕ → Type 0
+IsFileOf x imports file = (file ≡ module_file x) ⊎ IsInterfaceFile imports file

@@ -1,5 +1,5 @@
 use Rattle.std.proofs.Common.{rules}
-use Rattle.mls_top.proofs.Inferring.{lacking_added}
+use Rattle.mls_top.proofs.Telling.{lacking_added}
 use Rattle.mls_top.proofs.lines.add_kind.Goals as goal
 
 pub returns-in_ok-extend_from_slice-in-Lacks-2 : goal.returns-in_ok-extend_from_slice-in-Lacks-2
