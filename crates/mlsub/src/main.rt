@@ -6,6 +6,7 @@ ghost use Rattle.std.specs.Prelude.{◌≡◌, ◌≢◌};
 use mls_io::directory::DirStore;
 use mls_io::output::OutSink;
 use mls_top::run::run;
+use mls_top::status::Status;
 use std::io::ErrorKind;
 use std::process::ExitCode;
 use std::rt::Env;
@@ -13,6 +14,18 @@ use std::{env, io};
 
 // The exit code of a program that finds no memory before it runs a command.
 const NO_MEMORY: u8 = 7;
+
+// What a person is told whose words are no command.
+const HELP: &str = "mlsub 0.1.0 infers the types of modules, and compares them with interfaces.
+
+  mlsub infer NAME    prints the most general type of each binding of NAME.ml
+  mlsub check NAME    tells whether NAME.ml has all that NAME.mli declares
+
+Both read the interface of each module that NAME.ml imports, and no other module.
+Answers go to standard output, and the exit code tells their kind: 0 done, 1 a
+binding without a type, 2 a promise not kept, 3 a fault of a text, 4 no such file,
+5 a file not read, 6 an answer not written, 7 no memory, 8 no command, 11 a file
+too long.";
 
 fn main(rt: HostRuntime) -> ExitCode {
     let alloc = rt.alloc();
@@ -25,7 +38,23 @@ fn main(rt: HostRuntime) -> ExitCode {
         Err(_) => return ExitCode::from(NO_MEMORY),
     };
     let mut sink = OutSink::new(rt);
-    ExitCode::from(run(alloc, &words, &mut store, &mut sink).code())
+    let status = run(alloc, &words, &mut store, &mut sink);
+    if let Some(text) = told(status) {
+        // where nothing can be told, the exit code has told it
+        let _ = rt.eprintln(text);
+    }
+    ExitCode::from(status.code())
+}
+
+// What standard error is told of a run, beside the answer on standard output.
+fn told(status: Status) -> Option<&'static str> {
+    match status {
+        Status::Usage => Some(HELP),
+        Status::ReadFault => Some("mlsub: a file could not be read"),
+        Status::WriteFault => Some("mlsub: the answer could not be written whole"),
+        Status::Memory => Some("mlsub: out of memory"),
+        _ => None,
+    }
 }
 
 // The words of the command line without the program's own name.
