@@ -1,12 +1,14 @@
 """Compares a program that infers signatures with the plain Rust program on random texts of modules. It ends with 1
 where they differ.
 
-    python3 bench/infer/random_texts.py PROGRAM PLAIN SEED COUNT [forms]
+    python3 bench/infer/random_texts.py PROGRAM PLAIN SEED COUNT [forms | projects | pairs]
 
 Most of the texts have a fault; with the word `forms` none has one, every form stands in them, and some of them have no
-signature. Status and output have to be the same, but for this: signatures may be equivalent line by line, as PLAIN says
-of them, and for a binding without scheme the kind of the clash may be another one, which is counted and shown. Either
-program may have words behind it: "infer-bench --simplify".
+signature; with `projects` a module has imports, whose interfaces may have faults, and an interface of its own, which it
+keeps or not, and both `infer` and `check` are asked; with `pairs` the only binding is what an import declares, so that
+`check` says of two types whether the first subsumes the second. Status and output have to be the same, but for this: signatures may be equivalent line by line, as PLAIN says
+of them, and for a binding without scheme the kind of the clash, and for one that is not general enough the path, may be
+another one, which is counted and shown. Either program may have words behind it: "infer-bench --simplify".
 """
 import collections
 import os
@@ -20,6 +22,7 @@ import tempfile
 NAMES = ["a", "b", "c", "f", "x", "y"]
 TOKENS = """let rec fun -> = in if then else ( ) { } , . + - * < == import a b x 1 true : | $ 9223372036854775808
 val""".split()
+SPECIAL = re.compile(rb"(main: val \w+ is not general enough at) (.*)\n")
 REFUSED = re.compile(rb"(main\.ml:\d+:\d+: no scheme for \w+): (.*)\n")
 
 
@@ -204,8 +207,129 @@ def module_of_forms(pick):
     return "".join(lines)
 
 
-def answer(program):
-    done = subprocess.run([*program, "infer", "main"], capture_output=True)
+class Types:
+    """Types, each polar in its place but for slips."""
+
+    def __init__(self, pick, slips):
+        self.pick = pick
+        self.slips = slips
+
+    def of(self, positive, depth, recursive=()):
+        pick = self.pick
+        if pick.random() < self.slips:
+            return pick.choice(["bot", "top", "a | int", "a & int", "rec r. r", "{a: int, a: int}", "(", "rec r. r -> r"])
+        if depth <= 0:
+            guarded = [name for name, sign, is_guarded in recursive if is_guarded and sign == positive]
+            return pick.choice(["int", "bool", "{}", "bot" if positive else "top", "a", "a", "b", "c"] + guarded)
+        inner = [(name, sign, True) for name, sign, _ in recursive]
+        chance = pick.random()
+        if chance < 0.4:
+            return f"({self.of(not positive, depth - 1, inner)}) -> {self.of(positive, depth - 1, inner)}"
+        if chance < 0.7:
+            labels = pick.sample(NAMES, pick.randrange(4))
+            return "{" + ", ".join(f"{label}: {self.of(positive, depth - 1, inner)}" for label in labels) + "}"
+        if chance < 0.85:
+            sign = " | " if positive else " & "
+            return sign.join(f"({self.of(positive, depth - 1, recursive)})" for _ in range(2))
+        if chance < 0.95:
+            name = pick.choice(["r", "s"])
+            others = [each for each in recursive if each[0] != name]
+            return f"rec {name}. {self.of(positive, depth - 1, [*others, (name, positive, False)])}"
+        return self.of(positive, 0, recursive)
+
+
+def shape_of(pick, depth=1):
+    return pick.choice(["int", "bool", "any", ("fun", "any", "any"), ("record", {pick.choice(NAMES): "any"})])
+
+
+def interface(pick, types):
+    names = [pick.choice(NAMES) + pick.choice(["", "0", "1", "9"]) for _ in range(pick.randrange(4))]
+    if pick.random() < 0.95:
+        names = list(dict.fromkeys(names))
+    return {name: types.of(True, pick.randrange(4)) for name in names}
+
+
+def text_of_interface(declared):
+    return "".join(f"val {name} : {read}\n" for name, read in declared.items())
+
+
+def promise(pick, types, signature):
+    """An interface for a module with this signature: kept, more special, or of other types."""
+    lines = []
+    for line in signature.decode().splitlines():
+        chance = pick.random()
+        head, _, read = line.partition(" : ")
+        if chance < 0.15:
+            continue
+        if chance < 0.55:
+            variables = [name for name in re.findall(r"\b[a-z]\b", re.sub(r"\w+:", "", read)) if f"rec {name}." not in read]
+            for name in variables:
+                if pick.random() < 0.6:
+                    chosen = pick.choice(["int", "bool", "{}", "{a: int}", "z", "(z -> z)", "(int -> bool)"])
+                    read = re.sub(rf"\b{name}\b(?!:)", chosen, read)
+        elif chance < 0.65:
+            read = types.of(True, 3)
+        elif chance < 0.7:
+            head = "val " + pick.choice(NAMES)
+        lines.append(f"{head} : {read}\n")
+    pick.shuffle(lines)
+    return "".join(lines)
+
+
+def project(pick, infer):
+    """The files of a project, by name; `infer` gives the signature of the module over those written so far."""
+    types = Types(pick, pick.choice([0, 0, 0, 0, 0.02]))
+    forms = Forms(pick, pick.choice([0, 0, 0, 0.05]))
+    files, scope, imported = {}, {}, []
+    for name in pick.sample(["k", "m", "q", "main"], pick.randrange(3)):
+        imported.append(name)
+        declared = interface(pick, types)
+        if pick.random() < 0.97:
+            files[name + ".mli"] = text_of_interface(declared)
+        scope.update({each: pick.choice(["free", shape_of(pick)]) for each in declared})
+    text = "".join(f"import {name}\n" for name in imported)
+    for number in range(pick.randrange(4)):
+        name = f"{pick.choice(NAMES)}{number}"
+        shape = forms.shape(2)
+        text += f"let {name} = {forms.of(shape, scope, pick.randrange(2, 5))}\n"
+        scope[name] = shape
+    files["main.ml"] = text
+    write(files)
+    if pick.random() < 0.95 and "main" not in imported:
+        files["main.mli"] = promise(pick, types, infer())
+    return files
+
+
+def specialised(pick, types, read):
+    """A type that may be more special, or is another one."""
+    for name in sorted(set(re.findall(r"\b[abc]\b(?!:)", read))):
+        if pick.random() < 0.6:
+            chosen = pick.choice(["int", "{}", "{a: int}", "z", "(z -> z)", "(int -> bool)", "rec y. {a: y}", "a", "b"])
+            read = re.sub(rf"\b{name}\b(?!:)", f"({chosen})", read)
+    if pick.random() < 0.7:
+        changes = [("int", "bool"), ("{}", "{b: int}"), ("a: int, ", ""), ("bool", "a"), ("-> int", "-> {}"), ("a", "b")]
+        read = read.replace(*pick.choice(changes), 1)
+    return read if pick.random() < 0.9 else types.of(True, 3)
+
+
+def pair(pick):
+    """The files of a module whose only binding has the first of two types, and whose interface declares the second."""
+    types = Types(pick, 0)
+    general = types.of(True, pick.randrange(1, 5))
+    special = specialised(pick, types, general)
+    return {"main.ml": "import k let f = g", "k.mli": f"val g : {general}", "main.mli": f"val f : {special}"}
+
+
+def write(files):
+    for name in os.listdir("."):
+        os.remove(name)
+    for name, text in files.items():
+        with open(name, "w") as file:
+            file.write(text)
+
+
+def answer(program, command="infer"):
+    done = subprocess.run([*program, command, "main"], capture_output=True)
     return done.stdout, done.returncode
 
 
@@ -227,7 +351,11 @@ def verdict(plain, text, said):
     if said[0] == said[1]:
         if status == 3:
             return "fault " + first.split(b": fault ")[1].split(b":")[0].decode()
-        return {0: "signature, same text", 1: "no scheme, same kind"}.get(status, f"status {status}")
+        return {0: "done, same text", 1: "no scheme, same kind", 2: "mismatch, same line"}.get(status, f"status {status}")
+    unlike = [SPECIAL.fullmatch(output) for output, _ in said]
+    if (status, other) == (2, 2) and None not in unlike and unlike[0].group(1) == unlike[1].group(1):
+        print("paths differ:", repr(text), [match.group(2).decode() for match in unlike])
+        return "too special, other path"
     if (status, other) == (0, 0) and are_equivalent(plain, said):
         return "signature, other text"
     refused = [REFUSED.fullmatch(output) for output, _ in said]
@@ -240,19 +368,33 @@ def verdict(plain, text, said):
 def main():
     programs = [program_of(words) for words in sys.argv[1:3]]
     pick = random.Random(int(sys.argv[3]))
-    make = module_of_forms if sys.argv[5:] == ["forms"] else text_of
+    mode = (sys.argv[5:] or ["texts"])[0]
     counts = collections.Counter()
     os.chdir(tempfile.mkdtemp())
-    for _ in range(int(sys.argv[4])):
-        text = make(pick)
-        with open("main.ml", "w") as file:
-            file.write(text)
-        said = [answer(program) for program in programs]
+
+    def compare(text, command):
+        said = [answer(program, command) for program in programs]
         found = verdict(programs[1], text, said)
-        counts[found or "differ"] += 1
+        counts[f"{command}: {found}" if found else "differ"] += 1
         if not found:
             print("differ:", repr(text), said)
-    print(dict(counts))
+
+    for _ in range(int(sys.argv[4])):
+        if mode == "projects":
+            files = project(pick, lambda: answer(programs[1])[0])
+            for command in ["infer", "check"]:
+                write(files)
+                compare(files, command)
+        elif mode == "pairs":
+            files = pair(pick)
+            write(files)
+            compare(files, "check")
+        else:
+            text = (module_of_forms if mode == "forms" else text_of)(pick)
+            write({"main.ml": text})
+            compare(text, "infer")
+    for found, count in sorted(counts.items()):
+        print(f"{count:6} {found}")
     return 1 if counts["differ"] else 0
 
 

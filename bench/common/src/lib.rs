@@ -1,6 +1,10 @@
 //! What the unverified programs share: their arguments, and tokens.
 use std::env;
 
+mod colliding;
+
+pub use colliding::{colliding_names, counted_names};
+
 /// The arguments, without the program's own name.
 pub fn arguments() -> Vec<String> {
     env::args().skip(1).collect()

@@ -17,6 +17,8 @@ pub struct Known<'a> {
     pub operators: &'a Operators,
     /// The schemes of the earlier bindings.
     pub globals: &'a [Scheme],
+    /// The schemes of the declarations of imports that are used.
+    pub declared: &'a HashMap<usize, Scheme>,
     pub labels: &'a HashMap<&'a [u8], Label>,
     /// Whether the first parts of lets are simplified.
     pub simplifies: bool,
@@ -115,6 +117,7 @@ impl Run<'_> {
                     Ok(Part { env: vec![(binder, negative)], root })
                 }
                 Meaning::Global(number) => Ok(self.copy(&self.known.globals[number])),
+                Meaning::Declared(number) => Ok(self.copy(&self.known.declared[&number])),
                 Meaning::Let(_) => unreachable!("a use of a let is copied before"),
             },
             Form::Operator(operator) => Ok(self.copy(self.known.operators.scheme(*operator))),

@@ -11,6 +11,8 @@ pub enum Meaning {
     Let(usize),
     /// The earlier binding of this number.
     Global(usize),
+    /// The declaration of this number among those of all imports.
+    Declared(usize),
 }
 
 /// What each name among the nodes means, from the last node to the first; or the first name without a meaning.

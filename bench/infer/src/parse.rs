@@ -298,14 +298,15 @@ impl<'a> Parser<'a> {
         told
     }
 
-    pub fn module(&mut self) -> Result<(Option<usize>, Vec<Binding<'a>>), Fault> {
-        let mut first_import = None;
-        let mut imports = HashSet::new();
+    /// The names of the imports, and the bindings.
+    pub fn module(&mut self) -> Result<(Vec<&'a [u8]>, Vec<Binding<'a>>), Fault> {
+        let mut imports = Vec::new();
+        let mut imported = HashSet::new();
         while self.kind() == Some(Kind::Word("import")) {
             self.at += 1;
             let (name, at) = self.name()?;
-            first_import.get_or_insert(at);
-            if !imports.insert(name) {
+            imports.push(name);
+            if !imported.insert(name) {
                 self.doubled(9, at);
             }
         }
@@ -329,7 +330,7 @@ impl<'a> Parser<'a> {
         }
         match self.doubled {
             Some(fault) => Err(fault),
-            None => Ok((first_import, bindings)),
+            None => Ok((imports, bindings)),
         }
     }
 }

@@ -1,5 +1,6 @@
 //! Whether one closed scheme has all instances of another.
-use crate::automaton::{Automaton, Head, Polarity, Scheme, StateId};
+use crate::automaton::{Automaton, Head, Label, Polarity, Scheme, StateId};
+use crate::biunify::HeadKind;
 use crate::flow::{admissible, only};
 use crate::simplify::determinise;
 use std::collections::{HashMap, HashSet};
@@ -73,6 +74,105 @@ fn deterministic_subsumes(general: &Scheme, special: &Scheme) -> bool {
         heads_fit(state.polarity, &state.head, special.automaton.head(pair.1))
     });
     fit && admissible(&special.automaton, &flows_needed(&general.automaton, &pairs)).into_iter().all(|holds| holds)
+}
+
+/// A step from a pair of states to a pair of parts.
+#[derive(Clone, Copy)]
+pub enum Step {
+    Domain,
+    Codomain,
+    Field(Label),
+}
+
+pub enum Reason {
+    Head(HeadKind),
+    Label(Label),
+    Flow,
+}
+
+/// The steps from a pair, in the order of paths.
+fn steps(general: &Head, special: &Head) -> Vec<(Step, Pair)> {
+    let mut found = Vec::new();
+    if let (Some(function), Some(other)) = (&general.function, &special.function) {
+        found.push((Step::Domain, (only(&function.domain), only(&other.domain))));
+        found.push((Step::Codomain, (only(&function.codomain), only(&other.codomain))));
+    }
+    for field in general.fields.iter().flatten() {
+        if let Some(set) = special.field(field.label) {
+            found.push((Step::Field(field.label), (only(&field.set), only(set))));
+        }
+    }
+    found
+}
+
+fn failure_by_head(polarity: Polarity, general: &Head, special: &Head) -> Option<Reason> {
+    let lacks = [
+        (general.boolean && !special.boolean, HeadKind::Bool),
+        (general.integer && !special.integer, HeadKind::Int),
+        (general.function.is_some() && special.function.is_none(), HeadKind::Function),
+        (general.fields.is_some() && special.fields.is_none(), HeadKind::Record),
+    ];
+    if let Some((_, kind)) = lacks.into_iter().find(|lack| lack.0) {
+        return Some(Reason::Head(kind));
+    }
+    let (Some(fields), Some(others)) = (&general.fields, &special.fields) else { return None };
+    let (wanted, there) = match polarity {
+        Polarity::Positive => (others, general),
+        Polarity::Negative => (fields, special),
+    };
+    wanted.iter().find(|field| there.field(field.label).is_none()).map(|field| Reason::Label(field.label))
+}
+
+/// The first failure of the first of two closed schemes to subsume the second, if it does not: the least path to a pair
+/// that fails by its heads, or else the least to one that fails by an edge.
+pub fn first_failure(general: &Scheme, special: &Scheme) -> Option<(Vec<Step>, Reason)> {
+    let (general, special) = (determinise(general), determinise(special));
+    let mut met: Vec<(Pair, Option<(usize, Step)>)> = vec![((general.part.root, special.part.root), None)];
+    let mut known = HashSet::from([met[0].0]);
+    let mut next = 0;
+    while let Some((pair, _)) = met.get(next).copied() {
+        for (step, below) in steps(general.automaton.head(pair.0), special.automaton.head(pair.1)) {
+            if known.insert(below) {
+                met.push((below, Some((next, step))));
+            }
+        }
+        next += 1;
+    }
+    let path = |number: usize| {
+        let mut steps = Vec::new();
+        let mut at = number;
+        while let Some((before, step)) = met[at].1 {
+            steps.push(step);
+            at = before;
+        }
+        steps.reverse();
+        steps
+    };
+    for (number, (pair, _)) in met.iter().enumerate() {
+        let state = general.automaton.state(pair.0);
+        if let Some(reason) = failure_by_head(state.polarity, &state.head, special.automaton.head(pair.1)) {
+            return Some((path(number), reason));
+        }
+    }
+    let mut partners: HashMap<StateId, Vec<StateId>> = HashMap::new();
+    for ((state, other), _) in &met {
+        partners.entry(*state).or_default().push(*other);
+    }
+    for (number, (pair, _)) in met.iter().enumerate() {
+        if general.automaton.state(pair.0).polarity == Polarity::Negative {
+            continue;
+        }
+        let edges = general.automaton.state(pair.0).edges.as_slice();
+        let needed: Vec<Pair> = edges
+            .iter()
+            .flat_map(|negative| partners.get(negative).into_iter().flatten())
+            .map(|source| (*source, pair.1))
+            .collect();
+        if !admissible(&special.automaton, &needed).into_iter().all(|holds| holds) {
+            return Some((path(number), Reason::Flow));
+        }
+    }
+    None
 }
 
 /// Whether each of two closed schemes subsumes the other.

@@ -1,6 +1,7 @@
 //! What the program says of some modules.
 use crate::subsume::{are_equivalent, subsumes};
 use crate::types::{compare, entries, labels_of, numbered};
+use crate::project::{self, Said, Ways};
 use crate::{answer, generate};
 use bench_common::tokens;
 
@@ -128,4 +129,33 @@ val v3 : int -> int
 ";
     assert_eq!(answer("generated", text.as_bytes(), true), (said.to_string(), 0));
     assert_eq!((text.len(), said.len()), (182, 120));
+}
+
+/// What is said of a module over the interface `k` and its own, and the status.
+fn checked(text: &str, imported: &str, own: &str) -> (String, i32) {
+    let files = [("main.ml", text), ("k.mli", imported), ("main.mli", own)];
+    let read = |file: &str| files.iter().find(|each| each.0 == file).map(|each| each.1.as_bytes().to_vec());
+    let ways = Ways { simplifies: true, is_slow: true };
+    let Said(said, status) = project::answer(&read, "check", "main", ways);
+    (said, status)
+}
+
+#[test]
+fn promises() {
+    let not_general = |path: &str| (format!("main: val f is not general enough at {path}\n"), 2);
+    let rows = [
+        ("let f = fun x -> x", "", "val f : int -> int", ("main matches main.mli\n".to_string(), 0)),
+        ("let f = 1", "", "val g : int", ("main: val g is declared and not bound\n".to_string(), 2)),
+        ("let f = fun x -> x + 1", "", "val f : a -> a", not_general("root.dom (int)")),
+        ("let f = fun x -> x", "", "val f : a -> b", not_general("root.cod (flow)")),
+        ("let f = fun r -> r.l", "", "val f : {k: int} -> int", not_general("root.dom (field l)")),
+        ("let f = {a = 1}", "", "val f : {a: int, b: int}", not_general("root (field b)")),
+        ("import k let f = fun x -> g (g x)", "val g : {l: int} -> {l: int}", "val f : {l: int} -> {}",
+            ("main matches main.mli\n".to_string(), 0)),
+        ("import k let f = 1", "val g : a & b", "", ("k.mli:1:11: fault 12: not a polar type\n".to_string(), 3)),
+        ("import q let f = 1", "", "", ("q.mli: not found\n".to_string(), 4)),
+    ];
+    for (text, imported, own, said) in rows {
+        assert_eq!(checked(text, imported, own), said, "{text} {own}");
+    }
 }

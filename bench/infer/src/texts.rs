@@ -1,5 +1,6 @@
 //! The texts that both programs are measured on.
 use crate::generate::generate;
+use bench_common::{colliding_names, counted_names};
 use std::fmt::Write as _;
 use std::fs;
 use std::path::Path;
@@ -42,11 +43,47 @@ fn texts_of_inference() -> Vec<(&'static str, String)> {
     ]
 }
 
+/// Writes the module `uses` with 100 imports of 1,000 declarations each, of which it uses 1,000, and its interface.
+fn write_project(folder: &str) -> std::io::Result<()> {
+    let mut text = String::new();
+    let mut promise = String::new();
+    for import in 0..100 {
+        let declared = joined(1_000, "", |number| {
+            format!("val v{import}_{number} : (a -> b) -> {{first: a, next: {{l{number}: int}}}} -> b\n")
+        });
+        fs::write(format!("{folder}/m{import}.mli"), declared)?;
+        let _ = writeln!(text, "import m{import}");
+    }
+    for number in 0..1_000 {
+        let _ = writeln!(text, "let u{number} = fun f -> v{}_{number} (fun x -> f x)", number % 100);
+        let _ = writeln!(promise, "val u{number} : (int -> b) -> {{first: int, next: {{l{number}: int}}}} -> b");
+    }
+    fs::write(format!("{folder}/uses.ml"), text)?;
+    fs::write(format!("{folder}/uses.mli"), promise)
+}
+
+/// Texts of 60,000 names, of which a map with a hash may look for each among all before it, each with its name.
+fn texts_of_names(kind: &str, names: &[String]) -> [(String, String); 3] {
+    let lines = |word: &str, rest: &str| names.iter().map(|name| format!("{word} {name}{rest}\n")).collect::<String>();
+    let parts = names.iter().map(|name| format!("{name}=1")).collect::<Vec<_>>().join(",");
+    [
+        (format!("{kind}_lets"), lines("let", "=1")),
+        (format!("{kind}_imports"), lines("import", "")),
+        (format!("{kind}_record"), format!("let a={{{parts}}}")),
+    ]
+}
+
 /// Writes the texts that both programs are measured on into a folder.
 pub fn write_texts(folder: &str) -> std::io::Result<()> {
+    for (kind, names) in [("colliding", colliding_names(60_000)), ("counted", counted_names(60_000))] {
+        for (name, text) in texts_of_names(kind, &names) {
+            fs::write(Path::new(folder).join(format!("{name}.ml")), text)?;
+        }
+    }
     for (name, text) in texts_of_inference() {
         fs::write(Path::new(folder).join(format!("{name}.ml")), text)?;
     }
+    write_project(folder)?;
     for count in [2_500, 5_000, 10_000, 20_000] {
         let mut text = String::new();
         for number in 0..count {

@@ -1,19 +1,36 @@
-//! Signature texts are read: types become schemes. Whether a type is polar and guarded is not looked at.
+//! Texts of interfaces and signatures are read: declarations with their types, or the first fault; and types become
+//! schemes.
 use crate::automaton::{Automaton, Field, Head, Label, Part, Polarity, Scheme, Set, StateId};
-use bench_common::{tokens, Kind, Token};
-use std::collections::HashMap;
+use bench_common::{tokens, Fault, Kind, Token};
+use std::collections::{HashMap, HashSet};
 
-enum Type<'a> {
-    Name(&'a [u8]),
+/// A type; what may be a fault has its place.
+pub enum Type<'a> {
+    Name(&'a [u8], usize),
     Boolean,
     Integer,
-    /// `top` or `bot`.
-    Nothing,
+    Bot(usize),
+    Top(usize),
     Function(Box<Type<'a>>, Box<Type<'a>>),
-    Record(Vec<(&'a [u8], Type<'a>)>),
-    /// The operands of joins or meets.
-    Several(Vec<Type<'a>>),
+    Record(Vec<Member<'a>>),
+    /// The operands, and the places of the signs between them.
+    Join(Vec<Type<'a>>, Vec<usize>),
+    Meet(Vec<Type<'a>>, Vec<usize>),
     Rec(&'a [u8], Box<Type<'a>>),
+}
+
+/// A label with its place, and the type of the field.
+pub struct Member<'a> {
+    label: &'a [u8],
+    at: usize,
+    part: Type<'a>,
+}
+
+/// A declaration: a name with its place, and its type.
+pub struct Declaration<'a> {
+    pub name: &'a [u8],
+    pub at: usize,
+    pub read: Type<'a>,
 }
 
 struct Reader<'a> {
@@ -27,70 +44,188 @@ impl<'a> Reader<'a> {
         self.tokens.get(self.at).is_some_and(|token| token.kind == kind)
     }
 
-    fn eat(&mut self, kind: Kind) -> Option<&'a [u8]> {
-        let token = self.tokens.get(self.at).filter(|token| token.kind == kind)?;
+    fn unexpected(&self) -> Fault {
+        match self.tokens.get(self.at) {
+            Some(token) => Fault(10, token.start),
+            None => Fault(11, self.text.len()),
+        }
+    }
+
+    fn eat(&mut self, kind: Kind) -> Result<Token, Fault> {
+        let Some(token) = self.tokens.get(self.at).filter(|token| token.kind == kind) else {
+            return Err(self.unexpected());
+        };
         self.at += 1;
-        Some(&self.text[token.start..token.end])
+        Ok(*token)
     }
 
-    fn whole(&mut self) -> Option<Type<'a>> {
-        if self.eat(Kind::Word("rec")).is_some() {
-            let name = self.eat(Kind::Name)?;
+    fn name(&mut self) -> Result<(&'a [u8], usize), Fault> {
+        let token = self.eat(Kind::Name)?;
+        Ok((&self.text[token.start..token.end], token.start))
+    }
+
+    fn whole(&mut self) -> Result<Type<'a>, Fault> {
+        if self.is(Kind::Word("rec")) {
+            self.at += 1;
+            let (name, _) = self.name()?;
             self.eat(Kind::Symbol("."))?;
-            return Some(Type::Rec(name, Box::new(self.whole()?)));
+            return Ok(Type::Rec(name, Box::new(self.whole()?)));
         }
-        let domain = self.operands("|", |reader| reader.operands("&", Reader::atom))?;
-        if self.eat(Kind::Symbol("->")).is_none() {
-            return Some(domain);
+        let domain = self.operands("|", Type::Join, |reader| reader.operands("&", Type::Meet, Reader::atom))?;
+        if !self.is(Kind::Symbol("->")) {
+            return Ok(domain);
         }
-        Some(Type::Function(Box::new(domain), Box::new(self.whole()?)))
+        self.at += 1;
+        Ok(Type::Function(Box::new(domain), Box::new(self.whole()?)))
     }
 
-    fn operands(&mut self, sign: &'static str, read: impl Fn(&mut Self) -> Option<Type<'a>>) -> Option<Type<'a>> {
+    fn operands(
+        &mut self,
+        sign: &'static str,
+        of: fn(Vec<Type<'a>>, Vec<usize>) -> Type<'a>,
+        read: impl Fn(&mut Self) -> Result<Type<'a>, Fault>,
+    ) -> Result<Type<'a>, Fault> {
         let first = read(self)?;
         if !self.is(Kind::Symbol(sign)) {
-            return Some(first);
+            return Ok(first);
         }
         let mut operands = vec![first];
-        while self.eat(Kind::Symbol(sign)).is_some() {
+        let mut places = Vec::new();
+        while self.is(Kind::Symbol(sign)) {
+            places.push(self.eat(Kind::Symbol(sign))?.start);
             operands.push(read(self)?);
         }
-        Some(Type::Several(operands))
+        Ok(of(operands, places))
     }
 
-    fn atom(&mut self) -> Option<Type<'a>> {
-        let token = self.tokens.get(self.at)?;
-        self.at += 1;
-        match token.kind {
-            Kind::Name => Some(Type::Name(&self.text[token.start..token.end])),
-            Kind::Word("bool") => Some(Type::Boolean),
-            Kind::Word("int") => Some(Type::Integer),
-            Kind::Word("top" | "bot") => Some(Type::Nothing),
+    fn atom(&mut self) -> Result<Type<'a>, Fault> {
+        let Some(token) = self.tokens.get(self.at) else { return Err(self.unexpected()) };
+        let found = match token.kind {
+            Kind::Name => Type::Name(&self.text[token.start..token.end], token.start),
+            Kind::Word("bool") => Type::Boolean,
+            Kind::Word("int") => Type::Integer,
+            Kind::Word("top") => Type::Top(token.start),
+            Kind::Word("bot") => Type::Bot(token.start),
             Kind::Symbol("(") => {
+                self.at += 1;
                 let inner = self.whole()?;
                 self.eat(Kind::Symbol(")"))?;
-                Some(inner)
+                return Ok(inner);
             }
-            Kind::Symbol("{") => self.record(),
-            _ => None,
+            Kind::Symbol("{") => {
+                self.at += 1;
+                return self.record();
+            }
+            _ => return Err(self.unexpected()),
+        };
+        self.at += 1;
+        Ok(found)
+    }
+
+    fn record(&mut self) -> Result<Type<'a>, Fault> {
+        let mut parts = Vec::new();
+        if self.is(Kind::Symbol("}")) {
+            self.at += 1;
+            return Ok(Type::Record(parts));
+        }
+        loop {
+            let (label, at) = self.name()?;
+            self.eat(Kind::Symbol(":"))?;
+            parts.push(Member { label, at, part: self.whole()? });
+            if !self.is(Kind::Symbol(",")) {
+                self.eat(Kind::Symbol("}"))?;
+                return Ok(Type::Record(parts));
+            }
+            self.at += 1;
+        }
+    }
+}
+
+/// Looks for the faults of types behind the grammar, of which the one with the least place counts.
+#[derive(Default)]
+struct Faults<'a> {
+    first: Option<Fault>,
+    /// The latest `rec` of each name around, with the number of constructors around it and its place's polarity.
+    recursive: HashMap<&'a [u8], (usize, Polarity)>,
+    depth: usize,
+}
+
+impl<'a> Faults<'a> {
+    fn note(&mut self, number: usize, at: usize) {
+        if self.first.is_none_or(|first| at < first.1) {
+            self.first = Some(Fault(number, at));
         }
     }
 
-    fn record(&mut self) -> Option<Type<'a>> {
-        let mut parts = Vec::new();
-        if self.eat(Kind::Symbol("}")).is_some() {
-            return Some(Type::Record(parts));
-        }
-        loop {
-            let label = self.eat(Kind::Name)?;
-            self.eat(Kind::Symbol(":"))?;
-            parts.push((label, self.whole()?));
-            if self.eat(Kind::Symbol(",")).is_none() {
-                self.eat(Kind::Symbol("}"))?;
-                return Some(Type::Record(parts));
+    fn look(&mut self, read: &Type<'a>, polarity: Polarity) {
+        match read {
+            Type::Boolean | Type::Integer => {}
+            Type::Name(name, at) => match self.recursive.get(name) {
+                Some((depth, _)) if *depth == self.depth => self.note(13, *at),
+                Some((_, other)) if *other != polarity => self.note(14, *at),
+                _ => {}
+            },
+            Type::Bot(at) if polarity == Polarity::Negative => self.note(12, *at),
+            Type::Top(at) if polarity == Polarity::Positive => self.note(12, *at),
+            Type::Bot(_) | Type::Top(_) => {}
+            Type::Join(operands, places) | Type::Meet(operands, places) => {
+                let is_join = matches!(read, Type::Join(..));
+                if is_join != (polarity == Polarity::Positive) {
+                    self.note(12, places[0]);
+                }
+                operands.iter().for_each(|operand| self.look(operand, polarity));
+            }
+            Type::Rec(name, body) => {
+                let old = self.recursive.insert(name, (self.depth, polarity));
+                self.look(body, polarity);
+                match old {
+                    Some(old) => self.recursive.insert(name, old),
+                    None => self.recursive.remove(name),
+                };
+            }
+            Type::Function(domain, codomain) => {
+                self.depth += 1;
+                self.look(domain, polarity.other());
+                self.look(codomain, polarity);
+                self.depth -= 1;
+            }
+            Type::Record(parts) => {
+                self.depth += 1;
+                let mut labels = HashSet::new();
+                for part in parts {
+                    if !labels.insert(part.label) {
+                        self.note(15, part.at);
+                    }
+                    self.look(&part.part, polarity);
+                }
+                self.depth -= 1;
             }
         }
     }
+}
+
+/// The declarations of an interface, or its first fault.
+pub fn read_interface<'a>(text: &'a [u8], tokens: &'a [Token]) -> Result<Vec<Declaration<'a>>, Fault> {
+    let mut reader = Reader { text, tokens, at: 0 };
+    let mut declarations = Vec::new();
+    while reader.at < tokens.len() {
+        reader.eat(Kind::Word("val"))?;
+        let (name, at) = reader.name()?;
+        reader.eat(Kind::Symbol(":"))?;
+        declarations.push(Declaration { name, at, read: reader.whole()? });
+    }
+    let mut faults = Faults::default();
+    let mut names = HashSet::new();
+    for declaration in &declarations {
+        if !names.insert(declaration.name) {
+            faults.note(16, declaration.at);
+        }
+        faults.look(&declaration.read, Polarity::Positive);
+        if let Some(fault) = faults.first {
+            return Err(fault);
+        }
+    }
+    Ok(declarations)
 }
 
 /// Gives each part of a type the states that stand for it. A recursive name has a state of its own, which at last gets
@@ -106,9 +241,9 @@ struct Builder<'a, 'b> {
 impl<'a> Builder<'a, '_> {
     fn set(&mut self, read: &Type<'a>, polarity: Polarity) -> Set {
         let head = match read {
-            Type::Name(name) => return self.name(name, polarity),
-            Type::Nothing => return Set::Empty,
-            Type::Several(operands) => {
+            Type::Name(name, _) => return self.name(name, polarity),
+            Type::Bot(_) | Type::Top(_) => return Set::Empty,
+            Type::Join(operands, _) | Type::Meet(operands, _) => {
                 let mut all = Set::Empty;
                 for operand in operands {
                     let set = self.set(operand, polarity);
@@ -131,11 +266,13 @@ impl<'a> Builder<'a, '_> {
                 Head::function(domain, self.set(codomain, polarity))
             }
             Type::Record(parts) => {
-                let field = |(label, part): &(&'a [u8], Type<'a>)| {
-                    let set = self.set(part, polarity);
-                    Field { label: self.labels[label], set }
+                let field = |field: &Member<'a>| {
+                    let set = self.set(&field.part, polarity);
+                    Field { label: self.labels[field.label], set }
                 };
-                Head::record(parts.iter().map(field).collect())
+                let mut fields: Vec<Field> = parts.iter().map(field).collect();
+                fields.sort_by_key(|field| field.label);
+                Head::record(fields)
             }
         };
         Set::One(self.automaton.add(polarity, head))
@@ -198,30 +335,27 @@ pub fn numbered<'a>(labels: &[&'a [u8]]) -> HashMap<&'a [u8], Label> {
     labels.iter().enumerate().map(|(number, label)| (*label, number as Label)).collect()
 }
 
+/// The scheme of a type.
+pub fn scheme_of<'a>(read: &Type<'a>, labels: &HashMap<&'a [u8], Label>) -> Scheme {
+    let mut builder = Builder {
+        automaton: Automaton::default(),
+        labels,
+        variables: HashMap::new(),
+        recursive: Vec::new(),
+        meanings: HashMap::new(),
+    };
+    let root = builder.set(read, Polarity::Positive);
+    builder.scheme(root)
+}
+
 /// The entries of a signature text, each with its scheme.
 pub fn entries<'a>(
     text: &'a [u8],
     tokens: &'a [Token],
     labels: &HashMap<&'a [u8], Label>,
 ) -> Option<Vec<(&'a [u8], Scheme)>> {
-    let mut reader = Reader { text, tokens, at: 0 };
-    let mut found = Vec::new();
-    while reader.at < tokens.len() {
-        reader.eat(Kind::Word("val"))?;
-        let name = reader.eat(Kind::Name)?;
-        reader.eat(Kind::Symbol(":"))?;
-        let read = reader.whole()?;
-        let mut builder = Builder {
-            automaton: Automaton::default(),
-            labels,
-            variables: HashMap::new(),
-            recursive: Vec::new(),
-            meanings: HashMap::new(),
-        };
-        let root = builder.set(&read, Polarity::Positive);
-        found.push((name, builder.scheme(root)));
-    }
-    Some(found)
+    let declarations = read_interface(text, tokens).ok()?;
+    Some(declarations.iter().map(|each| (each.name, scheme_of(&each.read, labels))).collect())
 }
 
 /// Says for each entry of two signature texts whether their types are equivalent; answers whether all are.

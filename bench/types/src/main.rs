@@ -1,5 +1,5 @@
 //! An unverified reader of the texts of types, to be measured beside `mls_typetext::read_type`; and the texts for both.
-use bench_common::{arguments, tokens, Fault, Kind, Token};
+use bench_common::{arguments, colliding_names, counted_names, tokens, Fault, Kind, Token};
 use std::collections::{HashMap, HashSet};
 use std::time::Instant;
 use std::{fs, process, thread};
@@ -301,7 +301,21 @@ fn write(folder: &str) -> std::io::Result<()> {
     }
     fs::write(format!("{folder}/variables"), variables)?;
     let fields: Vec<String> = (0..70_000).map(|number| format!("l{}: int", (number * 7_919) % 70_000)).collect();
-    fs::write(format!("{folder}/fields"), format!("{{{}}}", fields.join(", ")))
+    fs::write(format!("{folder}/fields"), format!("{{{}}}", fields.join(", ")))?;
+    for (kind, names) in [("colliding", colliding_names(60_000)), ("counted", counted_names(60_000))] {
+        let fields: Vec<String> = names.iter().map(|name| format!("{name}: int")).collect();
+        fs::write(format!("{folder}/{kind}_record"), format!("{{{}}}", fields.join(", ")))?;
+        fs::write(format!("{folder}/{kind}_variables"), names.join(" | "))?;
+        let nested: String = names.iter().map(|name| format!("rec {name}. {{l: ")).collect();
+        fs::write(format!("{folder}/{kind}_recs"), format!("{nested}int{}", "}".repeat(names.len())))?;
+    }
+    // the labels have six letters, so that the text is of about a mebibyte
+    let wide = |inner: &str| {
+        let fields: Vec<String> = counted_names(100_000).iter().map(|name| format!("{}:{inner}", &name[1..])).collect();
+        format!("{{{}}}", fields.join(","))
+    };
+    fs::write(format!("{folder}/wide_record_of_records"), wide("{}"))?;
+    fs::write(format!("{folder}/wide_record_of_names"), wide("ab"))
 }
 
 fn work() {
