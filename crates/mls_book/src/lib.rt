@@ -5,3 +5,7 @@ pub mod book;
 pub mod laws;
 pub mod name;
 pub mod test;
+
+pub use book::{Book, Field, Fields, Node, NodeId};
+pub use mls_base::memory::Memory;
+pub use name::Name;

@@ -1,9 +1,8 @@
 -- All places of a module lie within its text.
-use Rattle.std.proofs.Common.{ℕ, zero, suc, ◌+◌, ◌≤◌, Bool, true, false, if◌then◌else◌, List, [], ◌∷◌, ◌++◌, length, arith}
-use Rattle.std.specs.Prelude.{slice_get, bytes_eq, option_map, unwrap_or}
+pub use Rattle.mls_lexer.proofs.TokensWithin.{place-within}
+use Rattle.std.proofs.Common.{ℕ, ◌+◌, ◌≤◌, Bool, true, false, if◌then◌else◌, List, [], ◌∷◌, ◌++◌}
+use Rattle.std.specs.Prelude.{bytes_eq}
 use Rattle.std.specs.List.{list_any}
-use Rattle.mls_lexer.specs.declared.token.Token.{Token}
-use Rattle.mls_lexer.specs.Tokens.{IsTokens, Follow, place_of}
 use Rattle.mls_grammar.specs.declared.fault.Fault.{Fault}
 use Rattle.mls_grammar.specs.declared.fault.Fault.TheVariants.{DuplicateBinding, DuplicateLabel, DuplicateImport}
 use Rattle.mls_grammar.specs.Phrases.{Sort, source, imports, bindings, bind_rest, expr, let_rest, compare_tail, sum, sum_tail, product, product_tail, apply, arguments, post, dots, atom, parts, more_parts, Phrase, whole, no_import, importing, no_binding, binding, simple, recursive, fun, fix, local, choice, plain, simple_in, recursive_in, no_compare, less, equal, summed, no_sum, plus, minus, multiplied, no_product, times, applied, no_argument, argument, posted, no_dot, dot, variable, literal, truth, parens, braces, no_part, first_part, last_part, next_part, width}
@@ -165,16 +164,3 @@ module _ (n : ℕ) (place : ℕ → ℕ) (low : (k : ℕ) → place k ≤ n) whe
   doubles-within seen k last_part = tt
   doubles-within seen k (next_part label e p) =
       both _ _ (seen-within seen label (DuplicateLabel (place (k + 1))) (low (k + 1))) (both _ _ (doubles-within [] (k + 3) e) (doubles-within (label ∷ seen) (k + 3 + width e) p))
-
--- the tokens of a text lie within it
-token-within : (text : List ℕ) (tokens : List Token) (from : ℕ) (Rest : ℕ → Type 0) → Follow text from tokens Rest → (k : ℕ) → unwrap_or (option_map (λ token. token.start) (slice_get tokens k)) 0 ≤ length text
-token-within text [] from Rest h k = omega arith
-token-within text (t ∷ ts) from Rest h zero =
-    let within = h.2.within in
-    let a = within.0 in
-    let b = within.1 in
-    omega arith
-token-within text (t ∷ ts) from Rest h (suc k) = token-within text ts t.end Rest h.3 k
-
-pub place-within : (text : List ℕ) (tokens : List Token) → IsTokens text tokens → (k : ℕ) → place_of tokens k ≤ length text
-place-within text tokens h k = token-within text tokens 0 _ h k

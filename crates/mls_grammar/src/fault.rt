@@ -41,6 +41,47 @@ pub enum Fault {
     Memory,
 }
 
+impl Fault {
+    ghost use Rattle.mls_grammar.specs.Faults.{fault_number, fault_place};
+
+    /// Its number in messages; want of memory has none, and gives 0.
+    pub fn number(&self) -> usize
+        ensures { result ≡ fault_number self.now }
+    {
+        match self {
+            Fault::BadByte(_) => 1,
+            Fault::BigNumber(_) => 2,
+            Fault::Unexpected(_, _) => 3,
+            Fault::Ended => 4,
+            Fault::TooDeep(_) => 5,
+            Fault::UnknownName(_) => 6,
+            Fault::DuplicateBinding(_) => 7,
+            Fault::DuplicateLabel(_) => 8,
+            Fault::DuplicateImport(_) => 9,
+            Fault::Memory => 0,
+        }
+    }
+
+    /// Its place in a text of this length, in bytes: that of the variant, and the end of the text for one that ends too
+    /// early. For want of memory it is 0.
+    pub fn place(&self, length: usize) -> usize
+        ensures { result ≡ fault_place length self.now }
+    {
+        match self {
+            Fault::BadByte(at) => *at,
+            Fault::BigNumber(at) => *at,
+            Fault::Unexpected(at, _) => *at,
+            Fault::Ended => length,
+            Fault::TooDeep(at) => *at,
+            Fault::UnknownName(at) => *at,
+            Fault::DuplicateBinding(at) => *at,
+            Fault::DuplicateLabel(at) => *at,
+            Fault::DuplicateImport(at) => *at,
+            Fault::Memory => 0,
+        }
+    }
+}
+
 impl From<Memory> for Fault {
     ghost use Rattle.mls_grammar.specs.declared.fault.Fault.{Fault};
 

@@ -9,6 +9,7 @@ pub mod ReadAutomata
 pub mod DeclaredTypes
 pub mod InterfaceTotal
 pub mod LeastDeclarationFaults
+pub mod FaultsWithin
 pub mod MatchLaws
 pub mod TwoEntries
 pub mod EntryNumbers

@@ -1,5 +1,5 @@
 -- Laws of the texts of interfaces, of signatures and of matching.
-use Rattle.std.specs.Prelude.{◌≡◌, ◌⊎◌, ℕ, ◌≤◌, List, [], ◌∷◌, map, All}
+use Rattle.std.specs.Prelude.{◌≡◌, ◌⊎◌, ℕ, ◌≤◌, List, [], ◌∷◌, length, map, All}
 use Rattle.mls_lexer.specs.declared.token.Token.{Token}
 use Rattle.mls_lexer.specs.Tokens.{IsTokens, terminals, place_of}
 use Rattle.mls_iface.specs.declared.interface.IfaceFault.{IfaceFault}
@@ -10,6 +10,7 @@ use Rattle.mls_iface.specs.declared.matching.MatchAnswer.TheVariants as answer
 use Rattle.mls_iface.specs.declared.signature.SigEntry.{SigEntry}
 use Rattle.mls_iface.specs.Declarations.{Declaration, spelled}
 use Rattle.mls_iface.specs.Faults.{declaration_place, faults_of}
+use Rattle.mls_iface.specs.FaultPlaces.{fault_place}
 use Rattle.mls_iface.specs.Interfaces.{IsInterfaceText, HasInterfaceFault}
 use Rattle.mls_iface.specs.Signatures.{AreEntries, signature_text}
 use Rattle.mls_iface.specs.Matches.{AreDeclarations, IsMatchAnswer}
@@ -72,3 +73,8 @@ abbrev pub OneMatchAnswer : Type 0
 OneMatchAnswer =
     (entries : List SigEntry) (vals : List Val) (reason other : MatchAnswer) → AreEntries entries
     → IsMatchAnswer entries vals reason → IsMatchAnswer entries vals other → IsSameAnswer reason other
+
+-- the first fault of a text stands in it, or at its end
+abbrev pub FaultIsInText : Type 0
+FaultIsInText =
+    (text : List ℕ) (fault : IfaceFault) → HasInterfaceFault text fault → fault_place (length text) fault ≤ length text

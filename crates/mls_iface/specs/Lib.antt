@@ -1,5 +1,6 @@
 pub mod Declarations
 pub mod Faults
+pub mod FaultPlaces
 pub mod Interfaces
 pub mod Laws
 pub mod Matches

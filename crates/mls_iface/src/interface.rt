@@ -58,6 +58,47 @@ pub enum IfaceFault {
     Memory,
 }
 
+impl IfaceFault {
+    ghost use Rattle.mls_iface.specs.FaultPlaces.{fault_number, fault_place};
+
+    /// Its number in messages; want of memory has none, and gives 0.
+    pub fn number(&self) -> usize
+        ensures { result ≡ fault_number self.now }
+    {
+        match self {
+            IfaceFault::BadByte(_) => 1,
+            IfaceFault::BigNumber(_) => 2,
+            IfaceFault::Unexpected(_, _) => 10,
+            IfaceFault::Ended => 11,
+            IfaceFault::NotPolar(_) => 12,
+            IfaceFault::Unguarded(_) => 13,
+            IfaceFault::Contravariant(_) => 14,
+            IfaceFault::DuplicateLabel(_) => 15,
+            IfaceFault::DuplicateVal(_) => 16,
+            IfaceFault::Memory => 0,
+        }
+    }
+
+    /// Its place in a text of this length, in bytes: that of the variant, and the end of the text for one that ends too
+    /// early. For want of memory it is 0.
+    pub fn place(&self, length: usize) -> usize
+        ensures { result ≡ fault_place length self.now }
+    {
+        match self {
+            IfaceFault::BadByte(at) => *at,
+            IfaceFault::BigNumber(at) => *at,
+            IfaceFault::Unexpected(at, _) => *at,
+            IfaceFault::Ended => length,
+            IfaceFault::NotPolar(at) => *at,
+            IfaceFault::Unguarded(at) => *at,
+            IfaceFault::Contravariant(at) => *at,
+            IfaceFault::DuplicateLabel(at) => *at,
+            IfaceFault::DuplicateVal(at) => *at,
+            IfaceFault::Memory => 0,
+        }
+    }
+}
+
 impl From<Memory> for IfaceFault {
     ghost use Rattle.mls_iface.specs.declared.interface.IfaceFault.TheVariants.{Memory as WantOfMemory};
 

@@ -1,6 +1,7 @@
 //! Laws of the texts of interfaces, of signatures and of matching, each the contract of a function that does nothing.
 ghost use Rattle.mls_iface.specs.Laws.{OneInterface, NoFaultBesideInterface, OneFirstFault, PrintedIsInterface};
 ghost use Rattle.mls_iface.specs.Laws.{InterfaceIsValid, InterfaceOrFault, FirstIsLeast, OneMatchAnswer};
+ghost use Rattle.mls_iface.specs.Laws.{FaultIsInText};
 
 /// A text is one interface at most.
 pub fn one_interface()
@@ -40,4 +41,9 @@ pub fn interface_is_valid()
 /// A signature has one answer to an interface, but for the path.
 pub fn one_match_answer()
     ensures { OneMatchAnswer }
+{}
+
+/// The first fault of a text stands in it, or at its end: `mls_lexer::locate` takes it.
+pub fn fault_is_in_text()
+    ensures { FaultIsInText }
 {}

@@ -10,6 +10,7 @@ pub mod Shapes
 pub mod Shifts
 pub mod Terminals
 pub mod TextOrder
+pub mod TokensWithin
 pub mod Total
 pub mod Values
 pub mod Writings

@@ -1,9 +1,15 @@
 //! Modules and their terms: the grammar, the reader, the meaning of names, and the rules of typing, under one name.
 #![tactic(auto)]
 
-pub use mls_grammar::{grammar_laws, laws, module};
+pub use mls_grammar::{
+    Binding, Expr, ExprNode, Fault, Form, Import, Kind, List, Memory, Module, Name, Op,
+    grammar_laws, laws, module,
+};
+pub use mls_names::resolve::NameList;
 pub use mls_names::{resolution_laws, resolve};
 pub use mls_reader::parse;
+pub use mls_reader::parse::parse_module;
+pub use mls_term::term::{Resolved, ResolvedBinding, Term};
 pub use mls_term::{term, typing_laws};
 
 #[cfg(test)]
