@@ -19,7 +19,7 @@ pub fn counts(alloc: Global, nodes: &[ExprNode]) -> Result<Vec<Count>, Memory>
     ensures counts { IfOk result (λ counts. AreCounts nodes.now counts.items) }
     ensures room { IfOk result (λ counts. length counts.items < 2 ^ 62) }
 {
-    let mut counts = Vec::new(alloc);
+    let mut counts = Vec::with_capacity(alloc, nodes.len().saturating_add(1))?;
     let mut count = Count {
         binders: 0,
         lets: 0,

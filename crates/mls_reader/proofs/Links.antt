@@ -160,12 +160,22 @@ pub linked-source : (tree : SourceTree) → module_linked (linked link_start (ar
 linked-source tree = ap module_linked (linked-imports tree.imported [] (arranged_bindings tree.bound) ∙ linked-bindings tree.bound (map import_of tree.imported) [])
 
 -- one piece
-pub linked-step : (old new made : Linked) (pieces rest : List Piece) (p : Piece) → pieces ≡ rest ++ p ∷ [] → new ≡ joined p old
+pub linked-step : (old new made : Linked) (pieces rest : List Piece) (p : Piece) → pieces ≡ p ∷ rest → new ≡ joined p old
+    → made ≡ linked old pieces → made ≡ linked new rest
+unfolding linked
+linked-step old new made pieces rest p e f same = same ∙ (ap (linked old) e ∙ ap (λ s. linked s rest) (sym f))
+
+pub linked-end : (last made : Linked) (m : Module) (pieces : List Piece) → pieces ≡ [] → m ≡ module_linked last → made ≡ linked last pieces → m ≡ module_linked made
+unfolding linked
+linked-end last made m pieces e f same = f ∙ ap module_linked (sym (same ∙ ap (linked last) e))
+
+-- the same from the last piece to the first
+pub linked-step-back : (old new made : Linked) (pieces rest : List Piece) (p : Piece) → pieces ≡ rest ++ p ∷ [] → new ≡ joined p old
     → linked old (reverse pieces) ≡ made → linked new (reverse rest) ≡ made
 unfolding linked
-linked-step old new made pieces rest p e f same =
+linked-step-back old new made pieces rest p e f same =
     ap (λ s. linked s (reverse rest)) f ∙ (sym (ap (linked old) (reverse-last rest pieces p e)) ∙ same)
 
-pub linked-end : (last made : Linked) (m : Module) (pieces : List Piece) → pieces ≡ [] → m ≡ module_linked last → linked last (reverse pieces) ≡ made → m ≡ module_linked made
+pub linked-end-back : (last made : Linked) (m : Module) (pieces : List Piece) → pieces ≡ [] → m ≡ module_linked last → linked last (reverse pieces) ≡ made → m ≡ module_linked made
 unfolding linked
-linked-end last made m pieces e f same = f ∙ ap module_linked (ap (λ l. linked last (reverse l)) (sym e) ∙ same)
+linked-end-back last made m pieces e f same = f ∙ ap module_linked (ap (λ l. linked last (reverse l)) (sym e) ∙ same)

@@ -13,18 +13,21 @@ use std::alloc::Global;
 use std::collections::BTreeSet;
 use std::marker::Model;
 
-// Names that were given, each once. Contracts see them in their order.
+// Names that were given, each once. Contracts see them in a list. The first one stands alone, since most records have
+// few labels, and a set takes memory for more than one.
 #[derive(Drop)]
 struct Names {
-    set: BTreeSet<Name>,
+    first: Option<Name>,
+    others: BTreeSet<Name>,
 }
 
 impl Model for Names {
     ghost use Rattle.std.specs.Prelude.{List, ℕ};
+    ghost use Rattle.mls_reader.specs.steps.GivenTwice.{names_of};
 
     ghost Value = { List (List ℕ) };
 
-    ghost view = { λ names. names.set.keys };
+    ghost view = { λ names. names_of names.first names.others.keys };
 }
 
 impl Names {
@@ -33,7 +36,8 @@ impl Names {
         ensures { result ≡ [] }
     {
         Names {
-            set: BTreeSet::new(alloc),
+            first: None,
+            others: BTreeSet::new(alloc),
         }
     }
 
@@ -42,8 +46,22 @@ impl Names {
         ensures new { IfOk result (λ new. new ≡ not (list_any (bytes_eq name) self.old)) }
         ensures names { OnOk result (HasSameNames (name ∷ self.old) self.new) }
     {
-        let new = self.set.insert(name)?;
-        Ok(new)
+        if self.others.contains(&name) {
+            return Ok(false);
+        }
+        match &self.first {
+            None => {
+                self.first = Some(name);
+                Ok(true)
+            }
+            Some(first) => {
+                if *first == name {
+                    return Ok(false);
+                }
+                self.others.insert(name)?;
+                Ok(true)
+            }
+        }
     }
 }
 

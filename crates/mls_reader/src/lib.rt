@@ -7,3 +7,7 @@ pub mod parse;
 mod piece;
 mod read;
 mod todo;
+
+pub use mls_grammar::fault::Fault;
+pub use mls_grammar::module::Module;
+pub use parse::parse_module;

@@ -1,6 +1,8 @@
 //! From the pieces that tell a module to the module, with the nodes of each binding in order.
 ghost use Rattle.std.specs.Prelude.{◌≡◌, ◌∷◌, ◌++◌, [], reverse, IfOk, OnOk};
+ghost use Rattle.std.specs.List.{list_any};
 ghost use Rattle.mls_reader.specs.steps.Arranging.{node_piece, fronts, told, left, part_count, parts, arrangement};
+ghost use Rattle.mls_reader.specs.steps.Arranging.{is_operator};
 ghost use Rattle.mls_reader.specs.steps.Linking.{grown, root_of, without_root, parts_of, without_parts, with_record};
 ghost use Rattle.mls_reader.specs.steps.Linking.{joined, linked, link_start, module_linked};
 ghost use Rattle.mls_grammar.specs.Modules.{module_of};
@@ -34,8 +36,26 @@ enum Later {
 pub fn module_of(alloc: Global, pieces: Vec<Piece>) -> Result<Module, Memory>
     ensures { IfOk result (λ m. (tree : SourceTree) → TellsSource pieces.items tree → m ≡ module_of tree) }
 {
-    let backward = arrange(alloc, pieces)?;
-    link(alloc, backward)
+    if has_operators(&pieces) {
+        let backward = arrange(alloc, pieces)?;
+        link_backward(alloc, backward)
+    } else {
+        link(alloc, pieces)
+    }
+}
+
+// Whether an operator is among the pieces. Without one they are in the order of the nodes.
+fn has_operators(pieces: &[Piece]) -> bool
+    ensures { result ≡ list_any is_operator (reverse pieces.now) }
+{
+    pieces.iter().rev().any(|piece| is_operator(piece))
+}
+
+// Whether the piece is an operator behind its operands.
+fn is_operator(piece: &Piece) -> bool
+    ensures { result ≡ is_operator piece.now }
+{
+    matches!(piece, Piece::Binary(..))
 }
 
 // The pieces in the order of the nodes, from the last to the first: there an operator stands before its operands.
@@ -44,7 +64,8 @@ fn arrange(alloc: Global, pieces: Vec<Piece>) -> Result<Vec<Piece>, Memory>
 {
     let mut pieces = pieces;
     let mut later = Vec::new(alloc);
-    let mut backward = Vec::new(alloc);
+    // An operator alone and its applications take three places of one.
+    let mut backward = Vec::with_capacity(alloc, pieces.len().saturating_mul(2))?;
     while let Some(piece) = pieces.pop() {
         tell(&mut later, &mut backward)?;
         place(&mut later, &mut backward, piece)?;
@@ -139,8 +160,19 @@ impl Model for Linker {
     } };
 }
 
+// The module of the pieces in the order of the nodes.
+fn link(alloc: Global, pieces: Vec<Piece>) -> Result<Module, Memory>
+    ensures { IfOk result (λ m. m ≡ module_linked (linked link_start pieces.items)) }
+{
+    let mut linker = Linker::new(alloc);
+    for piece in pieces {
+        linker.join(alloc, piece)?;
+    }
+    Ok(linker.module())
+}
+
 // The module of the pieces in the order of the nodes, which are given from the last to the first.
-fn link(alloc: Global, backward: Vec<Piece>) -> Result<Module, Memory>
+fn link_backward(alloc: Global, backward: Vec<Piece>) -> Result<Module, Memory>
     ensures { IfOk result (λ m. m ≡ module_linked (linked link_start (reverse backward.items))) }
 {
     let mut backward = backward;
@@ -201,6 +233,7 @@ impl Linker {
     }
 
     // Adds a node, which is the root of an expression.
+    #[inline(always)]
     fn grow(&mut self, at: usize, form: Form) -> Result<(), Memory>
         ensures { OnOk result (self.new ≡ grown at form self.old) }
     {

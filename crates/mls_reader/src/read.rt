@@ -45,7 +45,7 @@ pub fn read(alloc: Global, text: &[u8], tokens: &[Token]) -> Result<SourcePieces
     ensures read { IfOk result (λ r. ReadsSource text.now tokens.now r.pieces.items r.events.items) }
     ensures fault { IfErr result (λ fault. fault ≢ Fault.Memory → HasGrammarFault text.now tokens.now fault) }
 {
-    let mut reader = ModuleReader::new(alloc)?;
+    let mut reader = ModuleReader::new(alloc, tokens.len())?;
     for token in tokens {
         reader.read_token(alloc, text, *token)?;
     }
@@ -61,8 +61,8 @@ pub fn read(alloc: Global, text: &[u8], tokens: &[Token]) -> Result<SourcePieces
 }
 
 impl ModuleReader {
-    // A reader before the first token.
-    fn new(alloc: Global) -> Result<ModuleReader, Memory>
+    // A reader before the first of so many tokens. Most of them tell one piece or less.
+    fn new(alloc: Global, tokens: usize) -> Result<ModuleReader, Memory>
         ensures { IfOk result IsNew }
     {
         let mut stack = Vec::new(alloc);
@@ -70,7 +70,7 @@ impl ModuleReader {
         stack.push(Todo::Read(PiecePart::Imports))?;
         Ok(ModuleReader {
             stack,
-            pieces: Vec::new(alloc),
+            pieces: Vec::with_capacity(alloc, tokens)?,
             events: Vec::new(alloc),
         })
     }
@@ -151,6 +151,7 @@ impl ModuleReader {
     }
 
     // Puts a row on the stack, the next one last.
+    #[inline(always)]
     fn put<const N: usize>(&mut self, row: [Todo; N]) -> Result<(), Memory>
         requires { N ≤ 6 }
         ensures { OnOk result (Puts row.entry self.old self.new) }
@@ -162,6 +163,7 @@ impl ModuleReader {
     }
 
     // Tells a piece, and puts the row that follows it on the stack, the next one last.
+    #[inline(always)]
     fn tell<const N: usize>(&mut self, row: [Todo; N], piece: Piece) -> Result<(), Memory>
         requires { N ≤ 6 }
         ensures { OnOk result (PutsAndTells row.entry piece self.old self.new) }

@@ -33,4 +33,5 @@ pub mod SchemesRead
 pub mod TextsRead
 pub mod Total
 pub mod LeastFaults
+pub mod FaultsWithin
 pub mod ReadingsFrom

@@ -10,7 +10,7 @@ use Rattle.mls_typetext.specs.declared.scheme.ReadScheme.{ReadScheme}
 use Rattle.mls_typetext.specs.declared.scheme.TypeFault.{TypeFault}
 use Rattle.mls_typetext.specs.Phrases.{Phrase, whole, yields}
 use Rattle.mls_typetext.specs.Faults.{faults}
-use Rattle.mls_typetext.specs.Stops.{EndsBefore, HasStop, HasTypeFault, tree_place}
+use Rattle.mls_typetext.specs.Stops.{EndsBefore, HasStop, HasTypeFault, fault_place, tree_place}
 use Rattle.mls_typetext.specs.Trees.{TypeTree, meaning}
 use Rattle.mls_typetext.specs.Books.{Ty, type_of}
 use Rattle.mls_typetext.specs.Values.{HasValue}
@@ -91,3 +91,12 @@ pub record HasOneEnd (text : List ℕ) (tokens : List Token) (from : ℕ) : Type
 
 abbrev pub OneEnd : Type 0
 OneEnd = (text : List ℕ) (tokens : List Token) (from : ℕ) → HasOneEnd text tokens from
+
+-- the first fault of a text, or of the type that begins at a token of it, stands in the text, or at its end
+pub record IsInText (text : List ℕ) : Type 0 where
+  pub of_text : (fault : TypeFault) → HasTypeFault text fault → fault_place (length text) fault ≤ length text
+  pub from_token : (tokens : List Token) (from : ℕ) (fault : TypeFault) → IsTokens text tokens
+      → HasFaultFrom text tokens from fault → fault_place (length text) fault ≤ length text
+
+abbrev pub FaultIsInText : Type 0
+FaultIsInText = (text : List ℕ) → IsInText text

@@ -1,6 +1,7 @@
 pub mod Phrases
 pub mod Trees
 pub mod Faults
+pub mod FaultNumbers
 pub mod Books
 pub mod Schemes
 pub mod Values

@@ -1,6 +1,6 @@
 //! Laws of the texts of types, each the contract of a function that does nothing.
 ghost use Rattle.mls_typetext.specs.Laws.{NoFaultBesideReading, OneFirstFault, OneEnd, ReadingOrFault, FirstIsLeast};
-ghost use Rattle.mls_typetext.specs.Laws.{OneReadingFrom};
+ghost use Rattle.mls_typetext.specs.Laws.{OneReadingFrom, FaultIsInText};
 ghost use Rattle.mls_typetext.specs.Laws.{OneReading, ReadIsClosed, ReadHasValue};
 
 /// A text is read as a type in one way at most.
@@ -46,4 +46,10 @@ pub fn read_is_closed()
 /// Its root passes what the type passes, by what its parts pass: for each reading of the variables one predicate.
 pub fn read_has_value()
     ensures { ReadHasValue }
+{}
+
+/// The first fault of a text, or of the type that begins at a token of it, stands in the text, or at its end:
+/// `mls_lexer::locate` takes it.
+pub fn fault_is_in_text()
+    ensures { FaultIsInText }
 {}

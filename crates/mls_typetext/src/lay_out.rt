@@ -250,7 +250,7 @@ pub fn lay_out(alloc: Global, members: Vec<Member>, size: Size) -> Result<Vec<No
         recs: Vec::new(alloc),
         held: Vec::new(alloc),
         fields: Vec::new(alloc),
-        nodes: Vec::new(alloc),
+        nodes: Vec::with_capacity(alloc, members.len())?,
     };
     let mut left = members;
     while let Some(member) = left.pop() {

@@ -18,4 +18,8 @@ mod variables;
 
 pub use end::type_end;
 pub use from_text::{read_type, read_type_from};
+pub use mls_base::memory::Memory;
+pub use mls_book::book::{Book, Field, Fields, Node, NodeId};
+pub use mls_book::name::Name;
+pub use mls_lexer::token::{Kind, LexFault, Token};
 pub use scheme::{ReadScheme, TypeFault};

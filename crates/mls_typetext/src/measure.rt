@@ -231,7 +231,7 @@ pub fn measure(alloc: Global, items: Vec<Item>) -> Result<Measured, Memory>
         names: Variables::new(alloc),
         sizes: Vec::new(alloc),
         totals: Vec::new(alloc),
-        members: Vec::new(alloc),
+        members: Vec::with_capacity(alloc, items.len())?,
     };
     let mut left = items;
     while let Some(item) = left.pop() {

@@ -52,7 +52,7 @@ pub fn read_pieces(alloc: Global, text: &[u8], tokens: &[Token]) -> Result<Vec<P
     requires { All (IsToken text.now) tokens.now }
     ensures { IfOk result (λ pieces. pieces.items ≡ told_of (placed text.now tokens.now)) }
 {
-    let mut reader = PieceReader::new(alloc)?;
+    let mut reader = PieceReader::new(alloc, tokens.len())?;
     for token in tokens {
         reader.read_token(alloc, text, *token)?;
     }
@@ -69,15 +69,15 @@ fn name_of(alloc: Global, text: &[u8], token: Token) -> Result<Name, Memory>
 }
 
 impl PieceReader {
-    // A reader before the first token.
-    fn new(alloc: Global) -> Result<PieceReader, Memory>
+    // A reader before the first of so many tokens. Most of them tell one piece or less.
+    fn new(alloc: Global, tokens: usize) -> Result<PieceReader, Memory>
         ensures { IfOk result IsNew }
     {
         let mut stack = Vec::new(alloc);
         stack.push(Todo::Read(PiecePart::Whole))?;
         Ok(PieceReader {
             stack,
-            pieces: Vec::new(alloc),
+            pieces: Vec::with_capacity(alloc, tokens)?,
         })
     }
 
@@ -117,6 +117,7 @@ impl PieceReader {
     }
 
     // Puts a row on the stack, the next one last.
+    #[inline(always)]
     fn put<const N: usize>(&mut self, row: [Todo; N]) -> Result<(), Memory>
         requires { N ≤ 5 }
         ensures { OnOk result (Puts row.entry self.old self.new) }
@@ -237,6 +238,7 @@ impl PieceReader {
     }
 
     // Tells a piece, and puts the row that follows it on the stack, the next one last.
+    #[inline(always)]
     fn tell<const N: usize>(&mut self, row: [Todo; N], piece: Piece) -> Result<bool, Memory>
         requires { N ≤ 5 }
         ensures { IfOk result (λ begun. (begun ≡ true) × Tells row.entry piece self.old self.new) }

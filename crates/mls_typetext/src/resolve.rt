@@ -55,7 +55,7 @@ pub fn resolve(alloc: Global, pieces: Vec<Piece>) -> Result<Vec<Item>, TypeFault
     ensures fault { IfErr result (λ fault. fault ≢ TypeFault.Memory → GivesFault pieces.items fault) }
 {
     let mut left = pieces;
-    let mut reader = NameReader::new(alloc)?;
+    let mut reader = NameReader::new(alloc, left.len())?;
     while let Some(task) = reader.tasks.pop() {
         match task {
             // There is a piece for each part.
@@ -154,8 +154,8 @@ fn fault_if(is_wrong: bool, fault: TypeFault) -> Option<TypeFault>
 }
 
 impl NameReader {
-    // At the end of a whole type.
-    fn new(alloc: Global) -> Result<NameReader, Memory>
+    // At the end of a whole type of so many pieces.
+    fn new(alloc: Global, pieces: usize) -> Result<NameReader, Memory>
         ensures { IfOk result (λ reader. (tasks_of reader ≡ task.Part whole_place ∷ [])
             × (known_of reader ≡ nothing_known)) }
     {
@@ -166,7 +166,7 @@ impl NameReader {
             recs: BTreeMap::new(alloc),
             labels: BTreeSet::new(alloc),
             fault: None,
-            items: Vec::new(alloc),
+            items: Vec::with_capacity(alloc, pieces)?,
         })
     }
 

@@ -55,6 +55,46 @@ pub enum TypeFault {
     Memory,
 }
 
+impl TypeFault {
+    ghost use Rattle.mls_typetext.specs.FaultNumbers.{fault_number};
+    ghost use Rattle.mls_typetext.specs.Stops.{fault_place};
+
+    /// Its number in messages; want of memory has none, and gives 0.
+    pub fn number(&self) -> usize
+        ensures { result ≡ fault_number self.now }
+    {
+        match self {
+            TypeFault::BadByte(_) => 1,
+            TypeFault::BigNumber(_) => 2,
+            TypeFault::Unexpected(_, _) => 10,
+            TypeFault::Ended => 11,
+            TypeFault::NotPolar(_) => 12,
+            TypeFault::Unguarded(_) => 13,
+            TypeFault::Contravariant(_) => 14,
+            TypeFault::DuplicateLabel(_) => 15,
+            TypeFault::Memory => 0,
+        }
+    }
+
+    /// Its place in a text of this length, in bytes: that of the variant, and the end of the text for one that ends too
+    /// early. For want of memory it is 0.
+    pub fn place(&self, length: usize) -> usize
+        ensures { result ≡ fault_place length self.now }
+    {
+        match self {
+            TypeFault::BadByte(at) => *at,
+            TypeFault::BigNumber(at) => *at,
+            TypeFault::Unexpected(at, _) => *at,
+            TypeFault::Ended => length,
+            TypeFault::NotPolar(at) => *at,
+            TypeFault::Unguarded(at) => *at,
+            TypeFault::Contravariant(at) => *at,
+            TypeFault::DuplicateLabel(at) => *at,
+            TypeFault::Memory => 0,
+        }
+    }
+}
+
 impl From<Memory> for TypeFault {
     ghost use Rattle.mls_typetext.specs.declared.scheme.TypeFault.TheVariants.{Memory as WantOfMemory};
 

@@ -1,10 +1,15 @@
 -- The machine that puts the pieces of a module into the order of the nodes. It reads them and tells them from the last
 -- to the first.
-use Rattle.std.specs.Prelude.{ℕ, zero, suc, List, [], ◌∷◌, ◌++◌}
+use Rattle.std.specs.Prelude.{ℕ, zero, suc, Bool, true, false, List, [], ◌∷◌, ◌++◌}
 use Rattle.mls_reader.specs.declared.piece.Piece.{Piece}
 use Rattle.mls_reader.specs.declared.piece.Piece.TheVariants as piece
 use Rattle.mls_reader.specs.declared.nodes.Later.{Later}
 use Rattle.mls_reader.specs.declared.nodes.Later.TheVariants.{Part, Tell}
+
+-- an operator behind both of its operands
+abbrev pub is_operator : Piece → Bool
+is_operator (piece.Binary at o) = true
+is_operator p = false
 
 -- a piece as the nodes have it: behind both of its operands an operator is applied
 abbrev pub node_piece : Piece → Piece

@@ -661,6 +661,7 @@ impl ModuleReader {
     }
 
     // Reads the token as the first of an atom, if it is one; this row follows the atom, the next one last.
+    #[inline(always)]
     fn begin_atom<const N: usize>(
         &mut self,
         alloc: Global,

@@ -15,4 +15,4 @@ returns c = λ t is.
     measure-end (state_of c.loop-item.measuring) c.loop-item.left.items _ none c.loop-item.invariant in
     let it : IsMeasured t c.last_size-size.result (state_of c.last_size-size.new.self) =
     measured-whole t c.args.items.items c.last_size-size.result (state_of c.loop-item.measuring) (state_of c.last_size-size.new.self) end is c.last_size-size.ensures.size c.last_size-size.ensures.others in
-    record { pieces = it.pieces; whole = it.whole; count = c.len.ensures ∙ ap length it.names }
+    record { pieces = it.pieces; whole = it.whole; count = c.len-2.ensures ∙ ap length it.names }
