@@ -4,10 +4,10 @@ use Rattle.std.specs.Prelude.{◌≢◌, ◌↔◌, Option, Some, None, IfSome}
 use Rattle.std.proofs.lemmas.List.{map-append, take_more, take_more_set, take-set, drop_more, drop-set, drop-set-lt, take-append-drop}
 use Rattle.std.proofs.Math.Seq.{take-length}
 use Rattle.mls_base.specs.Files.{Files, bytes_at}
-use Rattle.mls_io.specs.Stores.{Holdings}
+use Rattle.mls_io.specs.Stores.{Holdings, IsAsked}
 use Rattle.mls_io.specs.declared.store.Fetch.{Fetch}
 use Rattle.mls_io.specs.declared.store.Fetch.TheVariants.{Missing, Failed, Memory}
-use Rattle.mls_io.specs.steps.Asking.{IsAsked, Misses, AllMiss, StopsEarly}
+use Rattle.mls_io.specs.Paths.{Misses, EachMisses, StopsEarly}
 
 -- a member that answered that it has no such file
 pub asked-Misses : {old new : Holdings} {name : List ℕ} {limit : ℕ} {before after : List ℕ} {answer : Fetch} → IsAsked old new name limit before after answer → answer ≡ Missing → Misses name old new
@@ -22,11 +22,11 @@ asked-Misses {old} {new} {name} {limit} {before} {after} {answer} asked is = rec
     by (Some files) told = (told (λ failed. absurd (cc)) (λ memory. absurd (cc))).0 is
 
 -- one member more
-AllMiss-snoc : (name : List ℕ) (olds news : List Holdings) (old new : Holdings) → AllMiss name olds news → Misses name old new → AllMiss name (olds ++ old ∷ []) (news ++ new ∷ [])
-AllMiss-snoc name [] [] old new all next = (next, tt)
-AllMiss-snoc name [] (n ∷ news) old new all next = absurd all
-AllMiss-snoc name (o ∷ olds) [] old new all next = absurd all
-AllMiss-snoc name (o ∷ olds) (n ∷ news) old new all next = (all.0, AllMiss-snoc name olds news old new all.1 next)
+EachMisses-snoc : (name : List ℕ) (olds news : List Holdings) (old new : Holdings) → EachMisses name olds news → Misses name old new → EachMisses name (olds ++ old ∷ []) (news ++ new ∷ [])
+EachMisses-snoc name [] [] old new all next = (next, tt)
+EachMisses-snoc name [] (n ∷ news) old new all next = absurd all
+EachMisses-snoc name (o ∷ olds) [] old new all next = absurd all
+EachMisses-snoc name (o ∷ olds) (n ∷ news) old new all next = (all.0, EachMisses-snoc name olds news old new all.1 next)
 
 -- the member that is asked next is as it was
 same_next : {B : Type 0} (olds news : List B) (i : ℕ) (d : B) → i < length olds → i < length news → drop i news ≡ drop i olds → get_or olds i d ≡ get_or news i d
@@ -46,20 +46,20 @@ rest_more {B} olds news i b d in_olds in_news rest =
 module _ {B : Type 0} (held : B → Holdings) where
   -- one more member answered that it has no such file
   pub front_more : (name : List ℕ) (olds news : List B) (i : ℕ) (b d : B) → i < length olds → i < length news → drop i news ≡ drop i olds
-      → AllMiss name (map held (take i olds)) (map held (take i news)) → Misses name (held (get_or news i d)) (held b)
-      → AllMiss name (map held (take (i + 1) olds)) (map held (take (i + 1) (set news i b)))
+      → EachMisses name (map held (take i olds)) (map held (take i news)) → Misses name (held (get_or news i d)) (held b)
+      → EachMisses name (map held (take (i + 1) olds)) (map held (take (i + 1) (set news i b)))
   front_more name olds news i b d in_olds in_news rest front next =
       let olds_are : map held (take (i + 1) olds) ≡ map held (take i olds) ++ held (get_or news i d) ∷ [] =
       ap (map held) (take_more olds i d in_olds ∙ ap (λ (x : B). take i olds ++ x ∷ []) (same_next olds news i d in_olds in_news rest)) ∙ map-append held (take i olds) (get_or news i d ∷ []) in
       let news_are : map held (take (i + 1) (set news i b)) ≡ map held (take i news) ++ held b ∷ [] =
       ap (map held) (take_more_set news i b in_news) ∙ map-append held (take i news) (b ∷ []) in
-      subst (λ (xs : List Holdings). AllMiss name xs (map held (take (i + 1) (set news i b)))) (sym olds_are)
-      (subst (λ (ys : List Holdings). AllMiss name (map held (take i olds) ++ held (get_or news i d) ∷ []) ys) (sym news_are)
-      (AllMiss-snoc name (map held (take i olds)) (map held (take i news)) (held (get_or news i d)) (held b) front next))
+      subst (λ (xs : List Holdings). EachMisses name xs (map held (take (i + 1) (set news i b)))) (sym olds_are)
+      (subst (λ (ys : List Holdings). EachMisses name (map held (take i olds) ++ held (get_or news i d) ∷ []) ys) (sym news_are)
+      (EachMisses-snoc name (map held (take i olds)) (map held (take i news)) (held (get_or news i d)) (held b) front next))
 
   -- the next member answered otherwise
   pub stops : (name : List ℕ) (limit : ℕ) (before start after : List ℕ) (answer : Fetch) (olds news : List B) (i : ℕ) (b d : B) → i < length olds → i < length news → drop i news ≡ drop i olds
-      → AllMiss name (map held (take i olds)) (map held (take i news)) → start ≡ before → IsAsked (held (get_or news i d)) (held b) name limit start after answer → answer ≢ Missing
+      → EachMisses name (map held (take i olds)) (map held (take i news)) → start ≡ before → IsAsked (held (get_or news i d)) (held b) name limit start after answer → answer ≢ Missing
       → StopsEarly (map held olds) (map held (set news i b)) name limit before after answer
   stops name limit before start after answer olds news i b d in_olds in_news rest front same asked other = record {
     front = map held (take i olds);
@@ -75,7 +75,7 @@ module _ {B : Type 0} (held : B → Holdings) where
   }
 
   -- all members were asked
-  pub all_asked : (name : List ℕ) (olds news : List B) (i : ℕ) → i ≡ length olds → length news ≡ length olds → AllMiss name (map held (take i olds)) (map held (take i news)) → AllMiss name (map held olds) (map held news)
+  pub all_asked : (name : List ℕ) (olds news : List B) (i : ℕ) → i ≡ length olds → length news ≡ length olds → EachMisses name (map held (take i olds)) (map held (take i news)) → EachMisses name (map held olds) (map held news)
   all_asked name olds news i at_end lengths front =
-      subst (λ (xs : List B). AllMiss name (map held xs) (map held news)) (ap (λ (n : ℕ). take n olds) at_end ∙ take-length olds)
-      (subst (λ (ys : List B). AllMiss name (map held (take i olds)) (map held ys)) (ap (λ (n : ℕ). take n news) (at_end ∙ sym lengths) ∙ take-length news) front)
+      subst (λ (xs : List B). EachMisses name (map held xs) (map held news)) (ap (λ (n : ℕ). take n olds) at_end ∙ take-length olds)
+      (subst (λ (ys : List B). EachMisses name (map held (take i olds)) (map held ys)) (ap (λ (n : ℕ). take n news) (at_end ∙ sym lengths) ∙ take-length news) front)

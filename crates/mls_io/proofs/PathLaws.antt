@@ -5,11 +5,11 @@ use Rattle.std.proofs.Math.Seq.{take-length}
 use Rattle.std.specs.Prelude.{◌≢◌, ◌↔◌, ◌||◌, IsTrue, Option, Some, None, IfSome, option_map, find, bytes_eq, cond, length}
 use Rattle.mls_base.specs.Files.{Files, bytes_at}
 use Rattle.mls_io.specs.Counts.{Count, Grows, Rose, no_count}
-use Rattle.mls_io.specs.Stores.{Holdings, Follows}
-use Rattle.mls_io.specs.Paths.{plus, total, then_files, files_in_turn, joined}
+use Rattle.mls_io.specs.Stores.{Holdings, Follows, IsAsked}
+use Rattle.mls_io.specs.Paths.{EachMisses, plus, total, then_files, files_in_turn, joined}
 use Rattle.mls_io.specs.declared.store.Fetch.{Fetch}
 use Rattle.mls_io.specs.declared.store.Fetch.TheVariants.{Missing, Failed, Memory}
-use Rattle.mls_io.specs.steps.Asking.{IsAsked, AllMiss, AskedInTurn}
+use Rattle.mls_io.specs.steps.Asking.{AskedInTurn}
 use Rattle.mls_io.proofs.CountLaws.{Grows-refl}
 
 or-left : (x y : Bool) → IsTrue x → IsTrue (x || y)
@@ -36,20 +36,20 @@ plus-Rose-second : (a b c d : Count) → Grows a b → Rose c d → Rose (plus a
 plus-Rose-second a b c d first second = elim second [ inl rose ↦ inl (omega (arith, first.value, rose)) | inr worn ↦ inr (or-right b.is_worn d.is_worn worn) ]
 
 module _ (count : Holdings → Count) (grow : (old new : Holdings) → Follows old new → Grows (count old) (count new)) (name : List ℕ) where
-  total-Grows : (olds news rest later : List Holdings) → AllMiss name olds news → Grows (total (map count rest)) (total (map count later)) → Grows (total (map count (olds ++ rest))) (total (map count (news ++ later)))
+  total-Grows : (olds news rest later : List Holdings) → EachMisses name olds news → Grows (total (map count rest)) (total (map count later)) → Grows (total (map count (olds ++ rest))) (total (map count (news ++ later)))
   total-Grows [] [] rest later all behind = behind
   total-Grows [] (n ∷ news) rest later all behind = absurd all
   total-Grows (o ∷ olds) [] rest later all behind = absurd all
   total-Grows (o ∷ olds) (n ∷ news) rest later all behind = plus-Grows (count o) (count n) (total (map count (olds ++ rest))) (total (map count (news ++ later))) (grow o n all.0.follows) (total-Grows olds news rest later all.1 behind)
 
-  total-Rose : (olds news rest later : List Holdings) → AllMiss name olds news → Rose (total (map count rest)) (total (map count later)) → Rose (total (map count (olds ++ rest))) (total (map count (news ++ later)))
+  total-Rose : (olds news rest later : List Holdings) → EachMisses name olds news → Rose (total (map count rest)) (total (map count later)) → Rose (total (map count (olds ++ rest))) (total (map count (news ++ later)))
   total-Rose [] [] rest later all behind = behind
   total-Rose [] (n ∷ news) rest later all behind = absurd all
   total-Rose (o ∷ olds) [] rest later all behind = absurd all
   total-Rose (o ∷ olds) (n ∷ news) rest later all behind = plus-Rose-second (count o) (count n) (total (map count (olds ++ rest))) (total (map count (news ++ later))) (grow o n all.0.follows) (total-Rose olds news rest later all.1 behind)
 
 -- the files stay
-files-same : (name : List ℕ) (olds news rest later : List Holdings) → AllMiss name olds news → files_in_turn later ≡ files_in_turn rest → files_in_turn (news ++ later) ≡ files_in_turn (olds ++ rest)
+files-same : (name : List ℕ) (olds news rest later : List Holdings) → EachMisses name olds news → files_in_turn later ≡ files_in_turn rest → files_in_turn (news ++ later) ≡ files_in_turn (olds ++ rest)
 files-same name [] [] rest later all behind = behind
 files-same name [] (n ∷ news) rest later all behind = absurd all
 files-same name (o ∷ olds) [] rest later all behind = absurd all
@@ -83,7 +83,7 @@ module _ (name : List ℕ) (P : Option (List ℕ) → Type 0) where
   told-behind (Some first) None absent told = tt
   told-behind (Some first) (Some rest) absent told = subst P (sym (bytes_at-append-none first rest name absent)) told
 
-  told-missed : (olds news rest : List Holdings) → AllMiss name olds news → IfSome (files_in_turn rest) (λ files. P (bytes_at files name)) → IfSome (files_in_turn (olds ++ rest)) (λ files. P (bytes_at files name))
+  told-missed : (olds news rest : List Holdings) → EachMisses name olds news → IfSome (files_in_turn rest) (λ files. P (bytes_at files name)) → IfSome (files_in_turn (olds ++ rest)) (λ files. P (bytes_at files name))
   told-missed [] [] rest all told = told
   told-missed [] (n ∷ news) rest all told = absurd all
   told-missed (o ∷ olds) [] rest all told = absurd all
@@ -99,7 +99,7 @@ module _ (name : List ℕ) (P : Option (List ℕ) → Type 0) where
       by None _ p = absurd (some p)
       by (Some bytes) found p = subst P (sym (bytes_at-append-some first rest name bytes found)) p
 
-  pub told-stopped : (P None → ⊥) → (olds news : List Holdings) (o : Holdings) (rest : List Holdings) → AllMiss name olds news → IfSome o.files (λ files. P (bytes_at files name)) → IfSome (files_in_turn (olds ++ o ∷ rest)) (λ files. P (bytes_at files name))
+  pub told-stopped : (P None → ⊥) → (olds news : List Holdings) (o : Holdings) (rest : List Holdings) → EachMisses name olds news → IfSome o.files (λ files. P (bytes_at files name)) → IfSome (files_in_turn (olds ++ o ∷ rest)) (λ files. P (bytes_at files name))
   told-stopped some olds news o rest all told = told-missed olds news (o ∷ rest) all (told-first some o.files (files_in_turn rest) told)
 
 -- a premise more or less, where something is told
@@ -119,7 +119,7 @@ none_told (Some files) name answer is told = λ _ _. ((λ _. told), (λ _. is))
 
 -- no member had the file
 none_asked : (m later_m : Count) (olds news : List Holdings) (name : List ℕ) (limit : ℕ) (before after : List ℕ) (answer : Fetch)
-    → AllMiss name olds news → after ≡ before → answer ≡ Missing → Grows m later_m → Rose m later_m
+    → EachMisses name olds news → after ≡ before → answer ≡ Missing → Grows m later_m → Rose m later_m
     → IsAsked (joined m (olds ++ [])) (joined later_m (news ++ [])) name limit before after answer
 none_asked m later_m olds news name limit before after answer missed unchanged answers grows rose = record {
   follows = record {
@@ -140,7 +140,7 @@ none_asked m later_m olds news name limit before after answer missed unchanged a
 
 -- a member answered otherwise
 stopped_asked : (m later_m : Count) (front later_front : List Holdings) (old new : Holdings) (rest : List Holdings) (name : List ℕ) (limit : ℕ) (before after : List ℕ) (answer : Fetch)
-    → AllMiss name front later_front → IsAsked old new name limit before after answer → answer ≢ Missing → Grows m later_m
+    → EachMisses name front later_front → IsAsked old new name limit before after answer → answer ≢ Missing → Grows m later_m
     → IsAsked (joined m (front ++ old ∷ rest)) (joined later_m (later_front ++ new ∷ rest)) name limit before after answer
 stopped_asked m later_m front later_front old new rest name limit before after answer missed asked other grows = record {
   follows = record {

@@ -1,6 +1,8 @@
 -- What a map of files has, read as a list of files.
 use Rattle.std.proofs.Common.{◌≡◌, ℕ, Bool, true, false, List, [], ◌∷◌, ◌++◌, refl, ap, subst, sym, ◌∙◌, append_assoc, true≢false}
 use Rattle.std.specs.Prelude.{Some, None, is_some, option_map, bytes_eq, cond, map, find}
+use Rattle.std.specs.Prelude.{◌↔◌, ◌||◌, IsTrue}
+use Rattle.std.specs.List.{list_any}
 use Rattle.std.specs.Map.{lookup}
 use Rattle.std.proofs.lemmas.Cmp.{nat_list_eq_equiv}
 use Rattle.indexmap.specs.IndexMap.{insert_entry}
@@ -70,3 +72,22 @@ module _ {K X : Type 0} (name_of : K → List ℕ) (bytes_of : X → List ℕ) w
 -- taking the next file leaves the files that were taken and those that are left
 pub split_next : (front behind rest all : Files) (file : List ℕ × List ℕ) → behind ≡ file ∷ rest → front ++ behind ≡ all → front ++ file ∷ [] ++ rest ≡ all
 split_next front behind rest all file next split = append_assoc front (file ∷ []) rest ∙ (λ i. front ++ sym next i) ∙ split
+
+-- a name is under none of the files where no file has it
+any-absent : (files : Files) (name : List ℕ) → (list_any (λ file. bytes_eq file.0 name) files ≡ false) ↔ (bytes_at files name ≡ None)
+any-absent [] name = ((λ _. refl), (λ _. refl))
+any-absent (file ∷ files) name = by (any-absent files name) (bytes_eq file.0 name)
+  where
+    by : (list_any (λ file. bytes_eq file.0 name) files ≡ false) ↔ (bytes_at files name ≡ None) → (b : Bool) → ((b || list_any (λ file. bytes_eq file.0 name) files) ≡ false) ↔ (option_map (λ (f : List ℕ × List ℕ). f.1) (cond b (Some file) (find (λ (f : List ℕ × List ℕ). bytes_eq f.0 name) files)) ≡ None)
+    by rest true = ((λ h. absurd (cc)), (λ h. absurd (cc)))
+    by rest false = rest
+
+-- one file more
+pub distinct_more : (files rest : Files) (file : List ℕ × List ℕ) → files ≡ file ∷ rest → list_any (λ other. bytes_eq other.0 file.0) rest ≡ false → (b : Bool) → IsTrue b ↔ HasDistinctNames rest → IsTrue b ↔ HasDistinctNames files
+distinct_more files rest file split apart b h = subst (λ (files : Files). IsTrue b ↔ HasDistinctNames files) (sym split) ((λ is. ((any-absent rest file.0).0 apart, h.0 is)), (λ is. h.1 is.1))
+
+pub not_distinct : (files rest : Files) (file : List ℕ × List ℕ) → files ≡ file ∷ rest → list_any (λ other. bytes_eq other.0 file.0) rest ≡ true → HasDistinctNames files → ⊥
+not_distinct files rest file split among is =
+    let P : Files → Type 0 = λ files. HasDistinctNames files in
+    let apart = (any-absent rest file.0).1 (subst P split is).0 in
+    absurd (cc)

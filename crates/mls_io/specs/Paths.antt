@@ -1,8 +1,10 @@
 -- What a search path over stores holds.
-use Rattle.std.specs.Prelude.{◌+◌, ◌||◌, List, [], ◌∷◌, ◌++◌, map, Option, Some, None}
-use Rattle.mls_base.specs.Files.{Files}
-use Rattle.mls_io.specs.Counts.{Count, no_count}
-use Rattle.mls_io.specs.Stores.{Holdings}
+use Rattle.std.specs.Prelude.{◌≡◌, ◌≢◌, ◌+◌, ◌||◌, ℕ, List, [], ◌∷◌, ◌++◌, map, Option, Some, None, IfSome}
+use Rattle.mls_base.specs.Files.{Files, bytes_at}
+use Rattle.mls_io.specs.Counts.{Count, Rose, no_count}
+use Rattle.mls_io.specs.Stores.{Holdings, Follows, IsAsked}
+use Rattle.mls_io.specs.declared.store.Fetch.{Fetch}
+use Rattle.mls_io.specs.declared.store.Fetch.TheVariants.{Missing}
 
 -- the sum of two counts, which is worn where one of them is
 abbrev pub plus : Count → Count → Count
@@ -32,3 +34,30 @@ joined misses members = record {
   misses = misses;
   longs = total (map (λ member. member.longs) members);
 }
+
+-- a member answered that it has no such file
+pub record Misses (name : List ℕ) (old new : Holdings) : Type 0 where
+  pub follows : Follows old new
+  pub counted : Rose old.misses new.misses
+  pub told : IfSome old.files (λ files. bytes_at files name ≡ None)
+
+-- each of these members answered so, in turn
+abbrev pub EachMisses : List ℕ → List Holdings → List Holdings → Type 0
+EachMisses name [] [] = Unit {0}
+EachMisses name [] (new ∷ news) = ⊥
+EachMisses name (old ∷ olds) [] = ⊥
+EachMisses name (old ∷ olds) (new ∷ news) = Misses name old new × EachMisses name olds news
+
+-- Some members answered that they have no such file, the next one answered otherwise, and those behind it were not
+-- asked.
+pub record StopsEarly (olds news : List Holdings) (name : List ℕ) (limit : ℕ) (before after : List ℕ) (answer : Fetch) : Type 0 where
+  pub front : List Holdings
+  pub later_front : List Holdings
+  pub old : Holdings
+  pub new : Holdings
+  pub rest : List Holdings
+  pub olds_are : olds ≡ front ++ old ∷ rest
+  pub news_are : news ≡ later_front ++ new ∷ rest
+  pub missed : EachMisses name front later_front
+  pub asked : IsAsked old new name limit before after answer
+  pub other : answer ≢ Missing

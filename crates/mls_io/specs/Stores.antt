@@ -3,7 +3,7 @@ use Rattle.std.specs.Prelude.{◌≡◌, ◌≢◌, ◌↔◌, ℕ, ◌<◌, ◌
 use Rattle.mls_base.specs.Files.{Files, bytes_at}
 pub use Rattle.mls_io.specs.Counts.{Count, Grows, Rose}
 use Rattle.mls_io.specs.declared.store.Fetch.{Fetch}
-use Rattle.mls_io.specs.declared.store.Fetch.TheVariants.{Found, Missing, Failed, Memory}
+use Rattle.mls_io.specs.declared.store.Fetch.TheVariants.{Found, Missing, Long, Failed, Memory}
 
 -- the files, where the store tells them, and how often a file could not be read, was missing, or was too long
 pub record Holdings : Type 0 where
@@ -45,3 +45,12 @@ GivesFailed old new = Rose old.faults new.faults
 -- nothing was added, unless the file was found
 abbrev pub KeepsUnlessFound : Fetch → List ℕ → List ℕ → Type 0
 KeepsUnlessFound answer before after = answer ≢ Found → after ≡ before
+
+-- all that a store says of an answer
+pub record IsAsked (old new : Holdings) (name : List ℕ) (limit : ℕ) (before after : List ℕ) (answer : Fetch) : Type 0 where
+  pub follows : Follows old new
+  pub found : answer ≡ Found → GivesFound old name limit before after
+  pub missing : GivesMissing old new name answer
+  pub long : answer ≡ Long → GivesLong old new name limit
+  pub failed : answer ≡ Failed → GivesFailed old new
+  pub unchanged : KeepsUnlessFound answer before after

@@ -1,5 +1,6 @@
 //! A store and a sink in memory, which never fail.
-ghost use Rattle.std.specs.Prelude.{◌≡◌, [], IfOk, option_copied};
+ghost use Rattle.std.specs.Prelude.{◌≡◌, ◌↔◌, [], bytes_eq, IfOk, IsTrue, option_copied};
+ghost use Rattle.std.specs.List.{list_any};
 ghost use Rattle.mls_base.specs.Files.{bytes_at};
 ghost use Rattle.mls_io.specs.Memory.{HasDistinctNames, new_shelf};
 
@@ -26,6 +27,23 @@ impl Model for FileEntry {
     ghost Value = { List ℕ × List ℕ };
 
     ghost view = { λ file. (string_bytes file.name, file.bytes.items) };
+}
+
+/// Whether no two of these files have the same name, as the stores in memory want it. It takes no memory.
+pub fn have_distinct_names(files: &[FileEntry]) -> bool
+    ensures { IsTrue result ↔ HasDistinctNames files.now }
+{
+    match files.split_first() {
+        None => true,
+        Some((first, rest)) => !is_among(rest, first.name.as_str()) && have_distinct_names(rest),
+    }
+}
+
+// Whether one of these files has this name.
+fn is_among(files: &[FileEntry], name: &str) -> bool
+    ensures { result ≡ list_any (λ file. bytes_eq file.0 name.now) files.now }
+{
+    files.iter().any(|file| file.name.as_str() == name)
 }
 
 /// Files in memory. It tells them, and no call of it answers Failed.
@@ -161,7 +179,9 @@ mod tests {
             name: String::from_str(alloc, "b.ml")?,
             bytes: Vec::new(alloc),
         };
-        let mut store = SureStore::new(alloc, vec![in alloc; first, second]?)?;
+        let files = vec![in alloc; first, second]?;
+        assert!(rt; have_distinct_names(files.as_slice()));
+        let mut store = SureStore::new(alloc, files)?;
         let mut text = Vec::from_slice(alloc, b"> ")?;
         assert_eq!(rt; store.fetch("b.ml", 0, &mut text), Fetch::Found);
         assert_eq!(rt; text.as_slice(), b"> ".as_slice());

@@ -1,8 +1,9 @@
 //! A store over several stores.
-ghost use Rattle.std.specs.Prelude.{◌≡◌, map};
+ghost use Rattle.std.specs.Prelude.{◌≡◌, ◌≢◌, map};
 ghost use Rattle.mls_io.specs.Counts.{no_count, Rose, Grows};
 ghost use Rattle.mls_io.specs.Paths.{joined};
-ghost use Rattle.mls_io.specs.steps.Asking.{IsAsked, AskedInTurn};
+ghost use Rattle.mls_io.specs.Stores.{IsAsked};
+ghost use Rattle.mls_io.specs.steps.Asking.{AskedInTurn};
 
 use crate::count::Counter;
 use crate::store::{Fetch, Store};
@@ -10,7 +11,8 @@ use crate::store::{Fetch, Store};
 /// Stores that are asked in turn, and a count of the files that none of them had.
 #[derive(Drop)]
 pub struct SearchPath {
-    members: Vec<Box<dyn Store>>,
+    /// The stores, the one that is asked first in front.
+    pub members: Vec<Box<dyn Store>>,
     misses: Counter,
 }
 
@@ -64,12 +66,34 @@ fn count(misses: &mut Counter, answer: Fetch)
 
 impl Store for SearchPath {
     ghost use Rattle.std.specs.Prelude.{map};
-    ghost use Rattle.mls_io.specs.Paths.{joined};
+    ghost use Rattle.mls_io.specs.Paths.{joined, EachMisses, StopsEarly};
+    ghost use Rattle.mls_io.specs.Stores.{Follows, GivesFound, GivesMissing, GivesLong, GivesFailed};
+    ghost use Rattle.mls_io.specs.Stores.{KeepsUnlessFound};
 
     ghost holdings = { λ path. joined path.misses (map (λ b. (Store-box b).holdings b.value) path.members.items) };
 
     /// Asks the members in turn. Missing goes on to the next one, and any other answer is that of the path.
-    fn fetch(&mut self, name: &str, limit: usize, into: &mut Vec<u8>) -> Fetch {
+    fn fetch(&mut self, name: &str, limit: usize, into: &mut Vec<u8>) -> Fetch
+        ensures follows { Follows (⟦<SearchPath as Store>⟧.holdings self.old) (⟦<SearchPath as Store>⟧.holdings self.new) }
+        ensures found { result ≡ Fetch.Found → GivesFound
+            (⟦<SearchPath as Store>⟧.holdings self.old) name.now limit into.old.items into.new.items }
+        ensures missing { GivesMissing
+            (⟦<SearchPath as Store>⟧.holdings self.old) (⟦<SearchPath as Store>⟧.holdings self.new) name.now result }
+        ensures long { result ≡ Fetch.Long → GivesLong
+            (⟦<SearchPath as Store>⟧.holdings self.old) (⟦<SearchPath as Store>⟧.holdings self.new) name.now limit }
+        ensures failed { result ≡ Fetch.Failed → GivesFailed
+            (⟦<SearchPath as Store>⟧.holdings self.old) (⟦<SearchPath as Store>⟧.holdings self.new) }
+        ensures unchanged { KeepsUnlessFound result into.old.items into.new.items }
+
+        // Missing comes only where each member answered so, and the count of its misses rose.
+        ensures each_missed { result ≡ Fetch.Missing → EachMisses name.now
+            (map (λ b. holdings b) self.old.members.items) (map (λ b. holdings b) self.new.members.items) }
+
+        // Any other answer is that of the first member that answered so, and no member behind it was asked.
+        ensures stopped { result ≢ Fetch.Missing → StopsEarly
+            (map (λ b. holdings b) self.old.members.items) (map (λ b. holdings b) self.new.members.items)
+            name.now limit into.old.items into.new.items result }
+    {
         let answer = ask_in_turn(&mut self.members, name, limit, into);
         count(&mut self.misses, answer);
         answer
