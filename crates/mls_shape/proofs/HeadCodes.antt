@@ -107,7 +107,7 @@ module _ (class : ℕ → ℕ) where
   )
 
   -- the parts of two codes of fields
-  fields_split : (f g : FieldSet) (us vs : List ℕ) → field_code class f ++ us ≡ field_code class g ++ vs → (f.label ≡ g.label) × (class (one_of f.set) ≡ class (one_of g.set)) × (us ≡ vs)
+  pub fields_split : (f g : FieldSet) (us vs : List ℕ) → field_code class f ++ us ≡ field_code class g ++ vs → (f.label ≡ g.label) × (class (one_of f.set) ≡ class (one_of g.set)) × (us ≡ vs)
   fields_split f g us vs e =
       let size : length f.label ≡ length g.label = ap first_of e in
       let x : ℕ = class (one_of f.set) in
@@ -198,7 +198,7 @@ module _ (class : ℕ → ℕ) where
       let second : set_at gs label ≡ None = none_at g gs rising' label (sym same ∙ at) (set_at gs label) refl in
       subst (λ o. AreFieldsAlike Same o (set_at gs label)) (sym first) (subst (λ q. AreFieldsAlike Same None q) (sym second) tt)
 
-  fields_code : (fs gs : List FieldSet) → AreRising fs → AreRising gs → All (λ (f : FieldSet). IsSingle f.set) fs → All (λ (f : FieldSet). IsSingle f.set) gs → ((label : List ℕ) → AreFieldsAlike Same (set_at fs label) (set_at gs label)) → flat_map (field_code class) fs ≡ flat_map (field_code class) gs
+  pub fields_code : (fs gs : List FieldSet) → AreRising fs → AreRising gs → All (λ (f : FieldSet). IsSingle f.set) fs → All (λ (f : FieldSet). IsSingle f.set) gs → ((label : List ℕ) → AreFieldsAlike Same (set_at fs label) (set_at gs label)) → flat_map (field_code class) fs ≡ flat_map (field_code class) gs
   fields_code [] [] rising rising' x y alike = refl
   fields_code [] (g ∷ gs) rising rising' x y alike =
       let at : set_at (g ∷ gs) g.label ≡ Some g.set = found_at (g ∷ gs) rising' 0 g (omega arith) in

@@ -12,6 +12,9 @@ pub mod Built
 pub mod HeadCodes
 pub mod StateKeys
 pub mod Numberings
+pub mod Partitions
+pub mod Refining
+pub mod Graphs
 pub mod Settled
 pub mod ClassedSchemes
 pub mod Spreading
@@ -19,6 +22,8 @@ pub mod Determinising
 pub mod Dropping
 pub mod HeadsAlike
 pub mod AlikeStates
+pub mod ChildrenAlike
+pub mod NodePairs
 pub mod Naming
 pub mod Minimising
 pub mod Keeping

@@ -6,3 +6,5 @@ pub mod Entries
 pub mod Built
 pub mod Classes
 pub mod Classed
+pub mod Partitions
+pub mod Graphs

@@ -2,12 +2,14 @@
 ghost use Rattle.std.specs.Prelude.{◌≡◌, ◌<◌, ◌++◌, ◌∷◌, length, IfOk, OnOk};
 ghost use Rattle.std.specs.List.{flat_map};
 ghost use Rattle.mls_automaton.specs.Models.{IsClosed, IsDeterministic};
-ghost use Rattle.mls_shape.specs.steps.Classes.{AreClasses, AreClassesBy, IsKeyOf, LookAlike};
+ghost use Rattle.mls_shape.specs.steps.Classes.{AreClasses, AreClassesBy, IsKeyOf, KeepsAlike, LookAlike};
 ghost use Rattle.mls_shape.specs.steps.Classes.{bit_code, class_in, field_code, function_code, head_code};
 ghost use Rattle.mls_shape.specs.steps.Classes.{one_of, record_code};
 
+use crate::graph::{colours_of, edges_of, parents_of};
 use crate::key::{Key, sign};
 use crate::numbering::Numbering;
+use crate::partition::Partition;
 use mls_automaton::automaton::{Arms, Automaton, FieldSet, FieldSets, Head};
 use mls_automaton::state_set::{StateId, StateSet};
 use mls_base::memory::Memory;
@@ -21,8 +23,8 @@ pub struct Classes {
     pub chosen: Vec<usize>,
 }
 
-/// The classes of alike states. Each round takes time linear in heads and edges, with the binary digits of the number
-/// of states, and splits some class but in the last.
+/// The classes of alike states. The rounds begin with the blocks of a refinement, so that there are few of them. Each
+/// takes time linear in heads and edges, with the binary digits of the number of states.
 ///
 /// # Errors
 ///
@@ -32,7 +34,7 @@ pub fn classes_of(alloc: Global, a: &Automaton) -> Result<Classes, Memory>
     requires deterministic { IsDeterministic a.now }
     ensures { IfOk result (AreClasses a.now) }
 {
-    let mut classes = Vec::new(alloc);
+    let mut classes = parted(alloc, a)?;
     for _ in 0..usize::MAX {
         let finer = refined(alloc, a, classes.as_slice())?;
         if finer.numbers.as_slice() == classes.as_slice() {
@@ -42,6 +44,23 @@ pub fn classes_of(alloc: Global, a: &Automaton) -> Result<Classes, Memory>
     }
     // No memory holds states of so many classes.
     Err(Memory)
+}
+
+// Classes by a refinement that splits off the smaller part of each block. Alike states are together.
+fn parted(alloc: Global, a: &Automaton) -> Result<Vec<usize>, Memory>
+    requires closed { IsClosed a.now }
+    requires deterministic { IsDeterministic a.now }
+    ensures { IfOk result (λ classes. KeepsAlike a.now classes.items) }
+{
+    let none = Vec::new(alloc);
+    let first = refined(alloc, a, none.as_slice())?;
+    let edges = edges_of(alloc, a)?;
+    let parents = parents_of(alloc, a.len(), edges.as_slice())?;
+    let count = first.chosen.len();
+    let colours = colours_of(alloc, first.numbers.as_slice(), count, edges.as_slice())?;
+    let mut partition = Partition::new(alloc, colours)?;
+    partition.refine(alloc, parents.as_slice())?;
+    Ok(partition.blocks)
 }
 
 // The classes of states that look alike by the classes so far.
@@ -169,8 +188,15 @@ pub fn class_of(classes: &[usize], s: usize) -> usize
 pub fn class_of_set(classes: &[usize], set: &StateSet) -> usize
     ensures { result ≡ class_in classes.now (one_of set.now) }
 {
+    class_of(classes, member_of(set))
+}
+
+/// The member of a set of one member.
+pub fn member_of(set: &StateSet) -> usize
+    ensures { result ≡ one_of set.now }
+{
     match set.as_slice().get(0) {
-        Some(s) => class_of(classes, *s),
-        None => class_of(classes, 0),
+        Some(s) => *s,
+        None => 0,
     }
 }

@@ -132,7 +132,7 @@ fn add_partners(
 }
 
 // Adds the sets that have one of these states.
-fn add_holders(
+pub fn add_holders(
     targets: &mut Vec<usize>,
     holders: &[List<usize>],
     states: &[usize],
@@ -160,7 +160,7 @@ fn holders_of(alloc: Global, sets: &[SetState], count: usize) -> Result<Vec<List
 }
 
 // So many empty lists.
-fn no_holders(alloc: Global, count: usize) -> Result<Vec<List<usize>>, Memory>
+pub fn no_holders(alloc: Global, count: usize) -> Result<Vec<List<usize>>, Memory>
     ensures len { IfOk result (λ holders. length holders.items ≡ count) }
     ensures empty { IfOk result (λ holders. All (λ list. list ≡ []) holders.items) }
 {
@@ -172,7 +172,7 @@ fn no_holders(alloc: Global, count: usize) -> Result<Vec<List<usize>>, Memory>
 }
 
 // Notes a set with each of its members.
-fn add_holder(
+pub fn add_holder(
     holders: &mut Vec<List<usize>>,
     holder: usize,
     members: &[usize],

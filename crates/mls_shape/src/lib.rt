@@ -1,6 +1,7 @@
 //! Simpler automata for schemes.
 #![tactic(auto)]
 
+mod agenda;
 mod classed;
 mod classes;
 pub mod determinise;
@@ -9,10 +10,12 @@ pub mod drop;
 mod edge_tests;
 mod edges;
 mod environment;
+mod graph;
 mod heads;
 mod key;
 pub mod minimise;
 mod numbering;
+mod partition;
 mod register;
 pub mod simplify;
 mod states;

@@ -127,6 +127,10 @@ fn alike_states_are_one(rt: HostRuntime) -> Result<(), Fail> {
             "+{a:1;b:3} +{n:2} +i +{n:4} +i *0",
             "+{a:1;b:1} +{n:2} +i *0",
         ),
+        (
+            "+{a:1;b:4} +{l:2;r:3} +{l:3;r:3} +i +{l:5;r:6} +{l:3;r:6} +i *0",
+            "+{a:1;b:1} +{l:2;r:3} +{l:3;r:3} +i *0",
+        ),
         ("+{n:1} +{n:2} +{n:0} *0", "+{n:0} *0"),
         ("+{n:1} +i{n:2} +{n:3} +i{n:0} *0", "+{n:1} +i{n:0} *0"),
         ("-i +f0>2 +f3>2 -i *1", "-i +f0>1 *1"),
@@ -152,7 +156,8 @@ fn other_states_stay_apart(rt: HostRuntime) -> Result<(), Fail> {
     let alloc = rt.alloc();
     for text in [
         "+{a:1;b:2} +f3>5 +f4>5 - - + 3~5 *0",
-        "+{a:1;b:2} +b +i *0",
+        // States that their places alone tell apart.
+        "+{a:1;b:2} +{a:3;b:4} +{a:4;b:3} +{a:5;b:6} +{a:6;b:5} +i +b *0",
         "+{a:1;b:2} +{c:1} +{d:2} *0",
         "+{a:1;b:2} + +{c:1} *0",
         // Each part of a head, arms, and labels with the same bytes in a row.

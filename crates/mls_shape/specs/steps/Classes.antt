@@ -91,3 +91,7 @@ LookAlike a classes = IsAlikePair a (λ x y. class_in classes x ≡ class_in cla
 
 abbrev pub AreClasses : Automaton → Classes → Type 0
 AreClasses a = AreClassesBy a (IsAlike a)
+
+-- alike states are in one class
+abbrev pub KeepsAlike : Automaton → List ℕ → Type 0
+KeepsAlike a classes = (x y : ℕ) → x < length a.states → y < length a.states → IsAlike a x y → class_in classes x ≡ class_in classes y

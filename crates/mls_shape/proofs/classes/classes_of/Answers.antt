@@ -1,10 +1,10 @@
-use Rattle.std.proofs.Common.{◌≡◌, List, rules, refl, sym, subst, ℕ}
-use Rattle.mls_shape.specs.steps.Classes.{class_in, AreClassesBy, LookAlike}
+use Rattle.std.proofs.Common.{◌≡◌, List, rules, subst, ℕ}
+use Rattle.mls_shape.specs.steps.Classes.{AreClassesBy, LookAlike}
 use Rattle.mls_shape.proofs.Settled.{finer_keeps, settled}
 use Rattle.mls_shape.proofs.classes.classes_of.Goals as goal
 
 pub loop-init : goal.loop-init
-loop-init c = λ x y low low' alike. subst (λ (xs : List ℕ). class_in xs x ≡ class_in xs y) (sym c.new-classes.ensures.items) refl
+loop-init c = c.in_ok-classes.ensures
 
 pub loop-preserved : goal.loop-preserved
 loop-preserved c =

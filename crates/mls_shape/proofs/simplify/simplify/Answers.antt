@@ -1,4 +1,3 @@
-use Rattle.mls_shape.specs.Simplified.{Simplifies}
 use Rattle.mls_shape.proofs.Equivalences.{simplified-equivalent, simplified-binders}
 use Rattle.mls_shape.proofs.Simplifying.{simplified}
 use Rattle.mls_shape.proofs.simplify.simplify.Goals as goal
