@@ -335,3 +335,41 @@ flows-added a n p flows e m q = rw e (
     | inr new ↦ subst (λ i. Contains (a.flows ++ flow n p ∷ []) (flow i q)) (sym new.0) (subst (λ j. Contains (a.flows ++ flow n p ∷ []) (flow n j)) (sym new.1) (Contains-append_right a.flows (flow n p ∷ []) (flow n p) (Contains-here (flow n p) [])))
   ],
 )
+
+-- a state with another head has the same polarity
+pub polarity-set : (a : Automaton) (s : ℕ) (state : State) → polarity_at a s ≡ state.polarity → (j : ℕ) → polarity_at (record { states = set a.states s state; flows = a.flows }) j ≡ polarity_at a j
+polarity-set a s state same j = go (cases_eq j s) (cases_lt s (length a.states))
+  where
+    at : (s < length a.states) → get_or (set a.states s state) s past-default ≡ state
+    at low = get_or-set_same a.states s state past-default low
+
+    go : (j ≡ s) ⊎ (j ≢ s) → (s < length a.states) ⊎ (length a.states ≤ s) → (get_or (set a.states s state) j past-default).polarity ≡ polarity_at a j
+    go (inl is) (inl low) = ap (λ k. (get_or (set a.states s state) k past-default).polarity) is ∙ (ap (λ (x : State). x.polarity) (at low) ∙ (sym same ∙ ap (polarity_at a) (sym is)))
+    go (inl is) (inr high) =
+        let size : length (set a.states s state) ≡ length a.states = length-set a.states s state in
+        ap (λ (x : State). x.polarity) (get_or_past (set a.states s state) j past-default (omega arith) ∙ sym (get_or_past a.states j past-default (omega arith)))
+    go (inr apart) _ = ap (λ (x : State). x.polarity) (get_or-set_other a.states s j state past-default apart)
+
+-- after heads have changed
+pub indexed-same : (a b : Automaton) (partners : List (List ℕ)) → b.flows ≡ a.flows → length b.states ≡ length a.states → ((j : ℕ) → polarity_at b j ≡ polarity_at a j) → IsIndexed a partners → IsIndexed b partners
+indexed-same a b partners flows size polarity it = record {
+  one_for_each = it.one_for_each ∙ sym size;
+  rising = λ s low. it.rising s (omega arith);
+  members = λ s low j. (
+    λ there. elim ((it.members s (omega arith) j).0 there) [ inl edge ↦ inl (to s j edge) | inr edge ↦ inr (to j s edge) ],
+    λ partner. (it.members s (omega arith) j).1 (elim partner [ inl edge ↦ inl (from s j edge) | inr edge ↦ inr (from j s edge) ]),
+  );
+  flows = record {
+    negative = λ f there. state Negative f.negative.0 (it.flows.negative f (subst (λ (flows : List Flow). Contains flows f) flows there));
+    positive = λ f there. state Positive f.positive.0 (it.flows.positive f (subst (λ (flows : List Flow). Contains flows f) flows there));
+  };
+}
+  where
+    to : (n p : ℕ) → HasFlow a n p → HasFlow b n p
+    to n p edge = subst (λ (flows : List Flow). Contains flows (flow n p)) (sym flows) edge
+
+    from : (n p : ℕ) → HasFlow b n p → HasFlow a n p
+    from n p edge = subst (λ (flows : List Flow). Contains flows (flow n p)) flows edge
+
+    state : (p : Polarity) (s : ℕ) → IsState a p s → IsState b p s
+    state p s is = let low : s < length a.states = is.in_range in record { in_range = omega arith; polarity = polarity s ∙ is.polarity }

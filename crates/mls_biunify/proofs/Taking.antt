@@ -130,19 +130,8 @@ module _ (a : Automaton) where
       inr (subst (λ o. ByRecords o (head_at a n).fields q m) (sym left.2)
       (subst (λ o. ByRecords (Some left.0) o q m) (sym right.2) by))
 
-  -- the heads of one pair
-  module _ (closed : IsClosed a) (old : Room) (p n : ℕ) (held : Holds old p n) (is_p : IsState a Positive p) (is_n : IsState a Negative n) (room_of : IsRoomOf a old) where
-    abbrev IsPair : ℕ → ℕ → Type 0
-    IsPair q m = (q ≡ p) × (m ≡ n)
-
-    are_states : (q m : ℕ) → IsPair q m → IsState a Positive q × IsState a Negative m
-    are_states q m it = (subst (IsState a Positive) (sym it.0) is_p, subst (IsState a Negative) (sym it.1) is_n)
-
-    pub heads_in_range : (q m : ℕ) → ByHeads (head_at a p) (head_at a n) q m → Contains old.rows q × Contains old.columns m
-    heads_in_range q m by =
-        let states = related_states a IsPair closed are_states q m (by_heads-related IsPair closed p n (goal (refl, refl)) q m by) in
-        (room_of.row q states.0, room_of.column m states.1)
-
+  -- what follows from the heads of one pair
+  module _ (closed : IsClosed a) (old : Room) (p n : ℕ) (held : Holds old p n) where
     pub heads-follow : (new : Room) → Relates old new (ByHeads (head_at a p) (head_at a n)) → Follows a old new
     heads-follow new it =
         Follows-by old new (ByHeads (head_at a p) (head_at a n)) it
@@ -158,6 +147,19 @@ module _ (a : Automaton) where
             before = λ q m there edge. before q m (Follows-kept one two first q m (Follows-kept old one start q m there)) edge;
           },
         )
+
+  -- the heads of one pair
+  module _ (closed : IsClosed a) (old : Room) (p n : ℕ) (held : Holds old p n) (is_p : IsState a Positive p) (is_n : IsState a Negative n) (room_of : IsRoomOf a old) where
+    abbrev IsPair : ℕ → ℕ → Type 0
+    IsPair q m = (q ≡ p) × (m ≡ n)
+
+    are_states : (q m : ℕ) → IsPair q m → IsState a Positive q × IsState a Negative m
+    are_states q m it = (subst (IsState a Positive) (sym it.0) is_p, subst (IsState a Negative) (sym it.1) is_n)
+
+    pub heads_in_range : (q m : ℕ) → ByHeads (head_at a p) (head_at a n) q m → Contains old.rows q × Contains old.columns m
+    heads_in_range q m by =
+        let states = related_states a IsPair closed are_states q m (by_heads-related IsPair closed p n (goal (refl, refl)) q m by) in
+        (room_of.row q states.0, room_of.column m states.1)
 
   -- along the edges from the negative state of a pair, and to its positive state
   module _ (closed : IsClosed a) (old : Room) (p n : ℕ) (held : Holds old p n) where

@@ -4,4 +4,5 @@ pub mod Solved
 pub mod Rooms
 pub mod Solutions
 pub mod Laws
+pub mod Live
 pub mod steps

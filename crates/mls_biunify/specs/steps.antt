@@ -9,3 +9,13 @@ pub mod Kinds
 pub mod FirstClashes
 pub mod Solving
 pub mod Links
+pub mod Finding
+pub mod FoundParts
+pub mod Settling
+pub mod TwoWay
+pub mod LiveParts
+pub mod Relating
+pub mod Tables
+pub mod TableParts
+pub mod Settlement
+pub mod Copying

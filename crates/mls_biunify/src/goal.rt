@@ -30,6 +30,15 @@ pub struct Clash {
     pub kind: ClashKind,
 }
 
+/// Why a table has no solution of its goals.
+#[derive(Clone, Copy, Debug, PartialEq, Eq)]
+pub enum Refusal {
+    /// A related pair clashes.
+    Clashing(Clash),
+    /// Memory was wanting.
+    NoMemory,
+}
+
 /// Whether each goal goes from a positive state of the automaton to a negative one.
 pub fn are_goals(a: &Automaton, goals: &[Goal]) -> bool
     ensures { IsTrue result ↔ All (λ g. IsState a.now Polarity.Positive g.positive.0 × IsState a.now Polarity.Negative g.negative.0) goals.now }

@@ -157,7 +157,7 @@ fn marked(alloc: Global, marks: &Cells) -> Result<Vec<usize>, Memory>
 
 // The combined old head of these states. It is put together by halves, so that each head is gone through as often as
 // the number of states has binary digits; the calls are as deep.
-fn combined_head(
+pub(crate) fn combined_head(
     alloc: Global,
     a: &Automaton,
     polarity: Polarity,
@@ -180,7 +180,7 @@ fn combined_head(
     combine_heads(alloc, polarity, &first, &second)
 }
 
-fn copied_head(head: &Head) -> Result<Head, Memory>
+pub(crate) fn copied_head(head: &Head) -> Result<Head, Memory>
     ensures { IfOk result (λ copy. copy ≡ head.now) }
 {
     let copy = head.clone()?;
@@ -271,7 +271,11 @@ fn mark_all(marks: &mut Cells, numbers: &[usize])
 }
 
 // Adds an edge to each of these states.
-fn add_flows_to(solved: &mut Automaton, n: StateId, targets: &[usize]) -> Result<(), Memory>
+pub(crate) fn add_flows_to(
+    solved: &mut Automaton,
+    n: StateId,
+    targets: &[usize],
+) -> Result<(), Memory>
     requires negative { IsState solved.old Negative n.0 }
     requires positive { All (IsState solved.old Positive) targets.now }
     ensures { OnOk result (AddsFlows solved.old solved.new (λ m q. (m ≡ n.0) × Contains targets.now q)) }

@@ -1,0 +1,116 @@
+-- Pairs by each of their states.
+--     put_members      a member more in the set of a key
+--     found_none, found_more      a pair more
+use Rattle.std.proofs.Common.{◌≡◌, ◌≢◌, ◌⊎◌, inl, inr, true, ℕ, ◌<◌, List, [], ◌∷◌, ◌++◌, sym, ap, ◌∙◌, subst, arith, Contains, Some}
+use Rattle.std.specs.Prelude.{◌↔◌, Result, Ok, Err, OnOk, is_ok}
+use Rattle.std.specs.BTreeMap.{BTreeMap, get}
+use Rattle.std.specs.Ordering.{nat_cmp}
+use Rattle.std.proofs.lemmas.Bool.{cases_eq}
+use Rattle.std.proofs.lemmas.List.Elements.{Contains-append_cases, Contains-append_left, Contains-append_right}
+use Rattle.mls_automaton.proofs.Lists.{Contains-cases, Contains-here}
+use Rattle.mls_biunify.specs.Rooms.{Room, Holds}
+use Rattle.mls_biunify.specs.steps.Finding.{HasMember, IsIndexOf}
+use Rattle.mls_biunify.specs.steps.Growth.{Relates}
+use Rattle.mls_biunify.proofs.Relating.{Relates-none}
+
+same_member : (sets : BTreeMap ℕ (List ℕ)) (k m : ℕ) (set : List ℕ) → get nat_cmp sets k ≡ Some set → HasMember sets k m → Contains set m
+same_member sets k m set is it =
+    let both : Some it.0 ≡ Some set = sym it.1 ∙ is in
+    let same : it.0 ≡ set = cc in
+    subst (λ (xs : List ℕ). Contains xs m) same it.2
+
+module _ (old mid new : BTreeMap ℕ (List ℕ)) (key member : ℕ) (set more : List ℕ) (members : (m : ℕ) → Contains set m ↔ HasMember old key m) (others : (k : ℕ) → k ≢ key → get nat_cmp mid k ≡ get nat_cmp old k) (added : (j : ℕ) → Contains more j ↔ (j ≡ member) ⊎ Contains set j) (here : get nat_cmp new key ≡ Some more) (others' : (k : ℕ) → k ≢ key → get nat_cmp new k ≡ get nat_cmp mid k) where
+  elsewhere : (k : ℕ) → k ≢ key → get nat_cmp new k ≡ get nat_cmp old k
+  elsewhere k apart = others' k apart ∙ others k apart
+
+  pub put_members : (k m : ℕ) → HasMember new k m ↔ HasMember old k m ⊎ ((k ≡ key) × (m ≡ member))
+  put_members k m = go (cases_eq k key)
+    where
+      go : (k ≡ key) ⊎ (k ≢ key) → HasMember new k m ↔ HasMember old k m ⊎ ((k ≡ key) × (m ≡ member))
+      go (inl same) = (
+        λ it. elim ((added m).0 (same_member new key m more here (subst (λ j. HasMember new j m) same it))) [
+          | inl is ↦ inr (same, is)
+          | inr there ↦ inl (subst (λ j. HasMember old j m) (sym same) ((members m).0 there))
+        ],
+        λ both. subst (λ j. HasMember new j m) (sym same) (
+          more,
+          here,
+          elim both [
+            | inl before ↦ (added m).1 (inr ((members m).1 (subst (λ j. HasMember old j m) same before)))
+            | inr is ↦ (added m).1 (inl is.1)
+          ],
+        ),
+      )
+      go (inr apart) = (
+        λ it. inl (it.0, sym (elsewhere k apart) ∙ it.1, it.2),
+        λ both. elim both [
+          | inl before ↦ (before.0, elsewhere k apart ∙ before.1, before.2)
+          | inr is ↦ absurd (apart is.0)
+        ],
+      )
+
+-- a pair more
+module _ (pairs : List (ℕ × ℕ)) (forward backward forward' backward' : BTreeMap ℕ (List ℕ)) (p n : ℕ) (are : IsIndexOf pairs forward backward) (more : (k m : ℕ) → HasMember forward' k m ↔ HasMember forward k m ⊎ ((k ≡ p) × (m ≡ n))) (more' : (k m : ℕ) → HasMember backward' k m ↔ HasMember backward k m ⊎ ((k ≡ n) × (m ≡ p))) where
+  abbrev longer : List (ℕ × ℕ)
+  longer = pairs ++ (p, n) ∷ []
+
+  pair_cases : (q m : ℕ) → Contains longer (q, m) → Contains pairs (q, m) ⊎ ((q ≡ p) × (m ≡ n))
+  pair_cases q m it =
+      elim (Contains-append_cases pairs ((p, n) ∷ []) (q, m) it) [
+        | inl before ↦ inl before
+        | inr last ↦
+            elim (Contains-cases (p, n) [] (q, m) last) [
+              | inl same ↦ inr (λ i. (sym same i).0, λ i. (sym same i).1)
+              | inr none ↦ let low : none.0 < 0 = none.1 in absurd (omega arith)
+            ]
+      ]
+
+  cases_pair : (q m : ℕ) → Contains pairs (q, m) ⊎ ((q ≡ p) × (m ≡ n)) → Contains longer (q, m)
+  cases_pair q m (inl before) = Contains-append_left pairs ((p, n) ∷ []) (q, m) before
+  cases_pair q m (inr same) =
+      let pair : (q, m) ≡ (p, n) = λ i. (same.0 i, same.1 i) in
+      Contains-append_right pairs ((p, n) ∷ []) (q, m) (subst (λ (x : ℕ × ℕ). Contains ((p, n) ∷ []) x) (sym pair) (Contains-here (p, n) []))
+
+  pub found_more : IsIndexOf longer forward' backward'
+  found_more = record {
+    below = λ q m. (
+      λ it. cases_pair q m (elim ((more q m).0 it) [ inl before ↦ inl ((are.below q m).0 before) | inr same ↦ inr same ]),
+      λ it. (more q m).1 (elim (pair_cases q m it) [ inl before ↦ inl ((are.below q m).1 before) | inr same ↦ inr same ]),
+    );
+    above = λ q m. (
+      λ it. cases_pair q m (elim ((more' m q).0 it) [ inl before ↦ inl ((are.above q m).0 before) | inr same ↦ inr (same.1, same.0) ]),
+      λ it. (more' m q).1 (elim (pair_cases q m it) [ inl before ↦ inl ((are.above q m).1 before) | inr same ↦ inr (same.1, same.0) ]),
+    );
+  }
+
+  pub relates_more : (old new : Room) → old.pairs ≡ pairs → new.pairs ≡ longer → new.positives ≡ old.positives → new.negatives ≡ old.negatives → new.rows ≡ old.rows → new.columns ≡ old.columns → Relates old new (λ q m. (q ≡ p) × (m ≡ n))
+  relates_more old new is is' positives negatives rows columns = record {
+    positives = positives;
+    negatives = negatives;
+    rows = rows;
+    columns = columns;
+    behind = ((p, n) ∷ [], is' ∙ ap (λ xs. xs ++ (p, n) ∷ []) (sym is));
+    sound = λ q m it. elim (pair_cases q m (subst (λ xs. Contains xs (q, m)) is' it)) [
+      | inl before ↦ inl (subst (λ xs. Contains xs (q, m)) (sym is) before)
+      | inr same ↦ inr same
+    ];
+    complete = λ q m same. subst (λ xs. Contains xs (q, m)) (sym is') (cases_pair q m (inr same));
+  }
+
+-- what an index finds is what the pairs of a room hold
+pub by_pairs : (pairs pairs' : List (ℕ × ℕ)) → pairs ≡ pairs' → (p n : ℕ) (Found There : Type 0) → Found ↔ There → There ↔ Contains pairs (p, n) → Found ↔ Contains pairs' (p, n)
+by_pairs pairs pairs' is p n Found There one two = (
+  λ it. subst (λ (xs : List (ℕ × ℕ)). Contains xs (p, n)) is (two.0 (one.0 it)),
+  λ it. one.1 (two.1 (subst (λ (xs : List (ℕ × ℕ)). Contains xs (p, n)) (sym is) it)),
+)
+
+-- a pair that is there is not added again
+pub held_already : (room : Room) (pairs : List (ℕ × ℕ)) → pairs ≡ room.pairs → (p n : ℕ) → Contains pairs (p, n) → Relates room room (λ q m. (q ≡ p) × (m ≡ n))
+held_already room pairs is p n there =
+    let held : Holds room p n = subst (λ (xs : List (ℕ × ℕ)). Contains xs (p, n)) is there in
+    Relates-none room (λ q m. (q ≡ p) × (m ≡ n)) (λ q m same. subst (λ k. Holds room k m) (sym same.0) (subst (λ k. Holds room p k) (sym same.1) held))
+
+-- what a call ensures on success
+pub on_ok : {E : Type 0} {X : Type 0} (result : Result X E) (P : Type 0) → is_ok result ≡ true → OnOk result P → P
+on_ok (Ok x) P same it = it
+on_ok (Err e) P same it = absurd (cc)

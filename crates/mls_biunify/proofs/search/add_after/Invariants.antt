@@ -1,0 +1,10 @@
+use Rattle.std.proofs.Common.{ℕ, take, Contains}
+use Rattle.mls_biunify.specs.Rooms.{Holds}
+use Rattle.mls_biunify.specs.steps.Consequences.{Follows}
+use Rattle.mls_biunify.proofs.search.add_after.Given as goal
+
+abbrev pub invariant-loop-q : goal.invariant-loop-q
+invariant-loop-q l = record {
+  follows : Follows l.a l.initial.found l.found;
+  has : (q m : ℕ) → Contains (take l.q-index l.q-items) q → Holds l.initial.found q m → Holds l.found l.positive.0 m;
+}

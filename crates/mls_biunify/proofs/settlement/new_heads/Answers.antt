@@ -1,0 +1,17 @@
+use Rattle.std.proofs.Common.{ℕ, List, subst}
+use Rattle.mls_biunify.specs.Rooms.{Holds}
+use Rattle.mls_biunify.specs.steps.Settlement.{AreNewHeads}
+use Rattle.mls_biunify.proofs.Relating.{take-all}
+use Rattle.mls_biunify.proofs.SettledHeads.{heads-none, heads-more}
+use Rattle.mls_biunify.proofs.settlement.new_heads.Goals as goal
+
+pub loop-s-init : goal.loop-s-init
+loop-s-init c = heads-none c.args.table.now (Holds c.args.relation.now) c.args.states.now c.new-heads.result.items c.new-heads.ensures.items
+
+pub loop-s-preserved : goal.loop-s-preserved
+loop-s-preserved c =
+    heads-more c.args.table.now (Holds c.args.relation.now) c.args.states.now c.loop-s.s-index c.loop-s-test.true c.loop-s.heads.items c.push.new.self.items c.in_ok-head.head
+    (c.requires.there c.loop-s.s-index 0 c.loop-s-test.true) c.in_ok-head.ensures c.loop-s.invariant c.in_ok-push.ensures.items
+
+pub returns : goal.returns
+returns c = subst (λ (xs : List ℕ). AreNewHeads c.args.table.now (Holds c.args.relation.now) xs c.loop-s.heads.items) (take-all c.args.states.now c.loop-s.s-index c.loop-s-test.false) c.loop-s.invariant

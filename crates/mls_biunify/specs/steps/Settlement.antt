@@ -1,0 +1,73 @@
+-- The heads and edges that settle a table.
+use Rattle.std.specs.Prelude.{◌≡◌, ◌↔◌, ◌⊎◌, ℕ, true, false, List, length, Contains, get_or}
+use Rattle.mls_automaton.specs.declared.automaton.Head.{Head}
+use Rattle.mls_automaton.specs.Automata.{Automaton, HasFlow, polarity_at, state_at}
+use Rattle.mls_automaton.specs.declared.automaton.Polarity.TheVariants.{Negative}
+use Rattle.mls_automaton.specs.Models.{HasRisingLabels, HasStatesIn}
+use Rattle.mls_biunify.specs.Live.{IsStateIn}
+use Rattle.mls_biunify.specs.Solved.{IsNewFlow}
+use Rattle.mls_biunify.specs.steps.Solving.{IsSolvedState, IsSolvedFlow}
+use Rattle.mls_biunify.specs.steps.Tables.{Numbered}
+
+-- some element of the list gives it
+abbrev pub GivenBy : {X Y : Type 0} → List X → (X → Y → Type 0) → Y → Type 0
+GivenBy {X} xs By y = (x : X) × Contains xs x × By x y
+
+-- the state has an edge to or from a state of the pair
+abbrev pub TouchedBy : Automaton → ℕ × ℕ → ℕ → Type 0
+TouchedBy a pair s = HasFlow a s pair.0 ⊎ HasFlow a pair.1 s
+
+abbrev pub IsTouched : Automaton → List (ℕ × ℕ) → ℕ → Type 0
+IsTouched a pairs s = GivenBy pairs (TouchedBy a) s
+
+-- the new heads of these states
+pub record AreNewHeads (t : Numbered) (R : ℕ → ℕ → Type 0) (states : List ℕ) (heads : List (ℕ × Head)) : Type 0 where
+  pub each : (s : ℕ) (h : Head) → Contains heads (s, h) → (get_or t.there s false ≡ true) × IsSolvedState t.automaton R s (record { polarity = polarity_at t.automaton s; head = h })
+  pub all : (s : ℕ) → Contains states s → (h : Head) × Contains heads (s, h)
+
+-- all new edges and no others but some old ones
+pub record AreNewEdges (a : Automaton) (R : ℕ → ℕ → Type 0) (edges : List (ℕ × ℕ)) : Type 0 where
+  pub sound : (n q : ℕ) → Contains edges (n, q) → IsSolvedFlow a R n q
+  pub complete : (n q : ℕ) → IsNewFlow a R n q → Contains edges (n, q)
+
+-- Just these edges came. States and numbers are the same.
+pub record AddsEdges (old new : Numbered) (IsNew : ℕ → ℕ → Type 0) : Type 0 where
+  pub states : new.automaton.states ≡ old.automaton.states
+  pub there : new.there ≡ old.there
+  pub limit : new.limit ≡ old.limit
+  pub flows : (n q : ℕ) → HasFlow new.automaton n q ↔ (HasFlow old.automaton n q ⊎ IsNew n q)
+
+-- Each state for which the list has heads has one of these, and the others are the same.
+pub record StoresHeads (old new : Numbered) (heads : List (ℕ × Head)) : Type 0 where
+  pub there : new.there ≡ old.there
+  pub flows : new.automaton.flows ≡ old.automaton.flows
+  pub size : length new.automaton.states ≡ length old.automaton.states
+  pub limit : new.limit ≡ old.limit
+  pub stored : (s : ℕ) → ((h : Head) × Contains heads (s, h) × (state_at new.automaton s ≡ record { polarity = polarity_at old.automaton s; head = h })) ⊎ (((h : Head) → Contains heads (s, h) → ⊥) × (state_at new.automaton s ≡ state_at old.automaton s))
+
+-- the edges of the solved automaton from a state, and from one that is negative
+abbrev pub IsEdgeFrom : Automaton → (ℕ → ℕ → Type 0) → ℕ → ℕ × ℕ → Type 0
+IsEdgeFrom a R n x = (x.0 ≡ n) × IsSolvedFlow a R n x.1
+
+abbrev pub IsEdgeAt : Automaton → (ℕ → ℕ → Type 0) → ℕ → ℕ × ℕ → Type 0
+IsEdgeAt a R s x = (polarity_at a s ≡ Negative) × IsEdgeFrom a R s x
+
+-- The edge is there, and it is noted if it is new.
+pub record Links (old new : Numbered) (noted more : List (ℕ × ℕ)) (n p : ℕ) : Type 0 where
+  pub adds : AddsEdges old new (λ i j. (i ≡ n) × (j ≡ p))
+  pub kept : (x : ℕ × ℕ) → Contains noted x → Contains more x
+  pub new_noted : (x : ℕ × ℕ) → Contains more x → Contains noted x ⊎ ((x ≡ (n, p)) × (HasFlow old.automaton n p → ⊥))
+  pub either : HasFlow old.automaton n p ⊎ Contains more (n, p)
+
+-- the edges are gone
+pub record Unlinks (old : Numbered) (edges : List (ℕ × ℕ)) (new : Numbered) : Type 0 where
+  pub states : new.automaton.states ≡ old.automaton.states
+  pub there : new.there ≡ old.there
+  pub limit : new.limit ≡ old.limit
+  pub flows : (i j : ℕ) → HasFlow new.automaton i j ↔ (HasFlow old.automaton i j × (Contains edges (i, j) → ⊥))
+
+-- each of these states is there, and the head that goes to it names states that are there
+abbrev pub AreFit : Numbered → List (ℕ × Head) → Type 0
+AreFit t heads =
+    (s : ℕ) (h : Head) → Contains heads (s, h)
+    → (get_or t.there s false ≡ true) × HasStatesIn (IsStateIn t.automaton t.there) (polarity_at t.automaton s) h × HasRisingLabels h.fields

@@ -1,0 +1,293 @@
+//! Tables of states that are updated in place.
+ghost use Rattle.std.specs.Prelude.{◌≡◌, ◌↔◌, ◌⊎◌, ℕ, List, true, All, Contains, Err, IfErr, IfOk, IsOk, IsSome, IsTrue, None, OnErr, OnOk};
+ghost use Rattle.mls_automaton.specs.declared.automaton.Polarity.TheVariants.{Positive, Negative};
+ghost use Rattle.mls_automaton.specs.declared.scheme.EnvEntry.{EnvEntry};
+ghost use Rattle.mls_automaton.specs.Automata.{HasFlow, polarity_at, head_at};
+ghost use Rattle.mls_automaton.specs.Environments.{BindersRise};
+ghost use Rattle.mls_automaton.specs.Reached.{KeepsReached};
+ghost use Rattle.mls_automaton.specs.Schemes.{AreEquivalentSchemes, IsScheme};
+ghost use Rattle.mls_automaton.specs.Models.{HasRisingLabels, HasStatesIn, IsClosed};
+ghost use Rattle.mls_biunify.specs.declared.goal.Clash.{Clash};
+ghost use Rattle.mls_biunify.specs.declared.goal.Goal.{Goal};
+ghost use Rattle.mls_biunify.specs.Relations.{IsGoal, IsRelated};
+ghost use Rattle.mls_biunify.specs.Clashes.{HasNoClash};
+ghost use Rattle.mls_biunify.specs.Solutions.{HasInstancesUnder, scheme_over};
+ghost use Rattle.mls_biunify.specs.Solved.{IsSolved};
+ghost use Rattle.mls_biunify.specs.Live.{AreRelated, HasRelation, Inserts, IsLive, IsLiveGoal, IsLiveState, IsRefusalOf, IsSameLive, IsSolvedFor, IsStateIn, IsThere, IsUnsolved};
+
+use crate::clash::first_clash_of;
+use crate::copy::{copied_env, copied_table};
+use crate::goal::{Clash, Goal, Refusal};
+use crate::relation::Relation;
+use crate::settlement::{link_all, new_edges, new_heads, store_heads, touched};
+use crate::table::Table;
+use crate::worklist::relate;
+use mls_automaton::automaton::{Head, Polarity};
+use mls_automaton::scheme::{EnvEntry, Scheme};
+use mls_automaton::state_set::{StateId, StateSet};
+use mls_base::memory::Memory;
+use std::alloc::Global;
+use std::marker::Model;
+
+/// States of a whole term side by side, with flow edges and, once they are solved, the least closed relation of goals.
+/// A state keeps its number as long as it is there; a number that is free is used again.
+#[derive(Drop)]
+pub struct Live {
+    table: Table,
+    relation: Relation,
+    is_solved: bool,
+    is_ready: bool,
+}
+
+impl Model for Live {
+    ghost use Rattle.mls_biunify.specs.Live.{Live};
+
+    ghost Value = { Live };
+
+    ghost use Rattle.mls_biunify.specs.steps.LiveParts.{live_view};
+
+    ghost view = { live_view };
+}
+
+impl Live {
+    /// A table without states. It allocates nothing.
+    pub fn new(alloc: Global) -> Live
+        ensures there { (s : ℕ) → IsThere result s → ⊥ }
+        ensures flows { (n p : ℕ) → HasFlow result.table n p → ⊥ }
+        ensures unsolved { IsUnsolved result }
+    {
+        Live {
+            table: Table::new(alloc),
+            relation: Relation::new(alloc),
+            is_solved: false,
+            is_ready: false,
+        }
+    }
+
+    /// The states that are there.
+    ///
+    /// # Errors
+    ///
+    /// `Memory` where memory is wanting.
+    pub fn states(&self) -> Result<StateSet, Memory>
+        ensures { IfOk result (λ set. (s : ℕ) → Contains set s ↔ IsThere self.now s) }
+    {
+        self.table.numbers(self.relation.allocator())
+    }
+
+    /// Whether the state is there and has the polarity.
+    pub fn is_state(&self, s: StateId, polarity: Polarity) -> bool
+        ensures { IsTrue result ↔ IsLiveState self.now polarity s.0 }
+    {
+        self.table.is_state(s, polarity)
+    }
+
+    /// Whether each goal goes from a positive state that is there to a negative one.
+    pub fn are_goals(&self, goals: &[Goal]) -> bool
+        ensures { IsTrue result ↔ All (IsLiveGoal self.now) goals.now }
+    {
+        are_goals_of(&self.table, goals)
+    }
+
+    /// The polarity of a state.
+    pub fn polarity(&self, s: StateId) -> Polarity
+        requires { IsThere self.now s.0 }
+        ensures polarity { result ≡ polarity_at self.now.table s.0 }
+        ensures live { IsLive self.now }
+    {
+        self.table.polarity(s)
+    }
+
+    /// The head of a state.
+    pub fn head(&self, s: StateId) -> &Head
+        requires { IsThere self.now s.0 }
+        ensures head { result.now ≡ head_at self.now.table s.0 }
+        ensures live { IsLive self.now }
+    {
+        self.table.head(s)
+    }
+
+    /// Whether there is an edge between the two states.
+    pub fn has_flow(&self, negative: StateId, positive: StateId) -> bool
+        requires negative { IsThere self.now negative.0 }
+        requires positive { IsThere self.now positive.0 }
+        ensures { IsTrue result ↔ HasFlow self.now.table negative.0 positive.0 }
+    {
+        self.table.has_flow(negative, positive)
+    }
+
+    /// Whether the two states are related.
+    pub fn holds(&self, positive: StateId, negative: StateId) -> bool
+        requires solved { IsSome self.now.related }
+        requires positive { IsThere self.now positive.0 }
+        requires negative { IsThere self.now negative.0 }
+        ensures { IsTrue result ↔ AreRelated self.now positive.0 negative.0 }
+    {
+        self.relation.holds(positive, negative)
+    }
+
+    /// Adds a state, whose head names states that are there.
+    ///
+    /// # Errors
+    ///
+    /// `Memory` where memory is wanting; the table is then as before.
+    pub fn insert(&mut self, polarity: Polarity, head: Head) -> Result<StateId, Memory>
+        requires states { HasStatesIn (IsLiveState self.old) polarity head }
+        requires labels { HasRisingLabels head.fields }
+        ensures inserts { IfOk result (λ id. Inserts self.old self.new id.0 (record { polarity = polarity; head = head })) }
+        ensures unsolved { OnOk result (IsUnsolved self.new) }
+        ensures err { OnErr result (self.new ≡ self.old) }
+    {
+        let id = self.table.insert(polarity, head)?;
+        self.is_solved = false;
+        self.is_ready = false;
+        Ok(id)
+    }
+
+    /// Adds a flow edge. One that is there stays, once.
+    ///
+    /// # Errors
+    ///
+    /// `Memory` where memory is wanting; the table is then as before.
+    pub fn edge(&mut self, negative: StateId, positive: StateId) -> Result<(), Memory>
+        requires negative { IsLiveState self.old Negative negative.0 }
+        requires positive { IsLiveState self.old Positive positive.0 }
+        ensures flows { OnOk result ((n p : ℕ) → HasFlow self.new.table n p ↔ HasFlow self.old.table n p ⊎ ((n ≡ negative.0) × (p ≡ positive.0))) }
+        ensures there { HasFlow self.old.table negative.0 positive.0 → self.new.table ≡ self.old.table }
+        ensures states { self.new.table.states ≡ self.old.table.states }
+        ensures numbers { self.new.there ≡ self.old.there }
+        ensures unsolved { OnOk result (IsUnsolved self.new) }
+        ensures err { OnErr result (IsSameLive self.old self.new) }
+    {
+        self.table.edge(negative, positive)?;
+        self.is_solved = false;
+        self.is_ready = false;
+        Ok(())
+    }
+
+    /// Makes the table ready for `solve`: each state has its place in the relation. The pairs themselves take memory as they
+    /// are found.
+    ///
+    /// # Errors
+    ///
+    /// `Memory` where memory is wanting; the table is then as before.
+    pub fn reserve(&mut self) -> Result<(), Memory>
+        ensures ok { OnOk result (self.new ≡ record self.old { is_ready = true }) }
+        ensures err { OnErr result (self.new ≡ self.old) }
+    {
+        self.relation.grow(self.table.limit())?;
+        self.is_ready = true;
+        Ok(())
+    }
+
+    /// Whether the table is ready for `solve`.
+    pub fn ready(&self) -> bool
+        ensures ready { result ≡ self.now.is_ready }
+        ensures live { IsLive self.now }
+        ensures closed { IsClosed self.now.table }
+    {
+        let _limit = self.table.limit();
+        self.is_ready
+    }
+
+    /// Makes the relation the least closed one of the goals, and tells whether a pair of it clashes.
+    ///
+    /// # Errors
+    ///
+    /// The first clash, where related states clash; the relation is there all the same. `NoMemory` where memory is
+    /// wanting for the pairs; the relation is then absent.
+    pub fn solve(&mut self, goals: &[Goal]) -> Result<(), Refusal>
+        requires ready { IsTrue self.old.is_ready }
+        requires goals { All (IsLiveGoal self.old) goals.now }
+        ensures relation { OnOk result (HasRelation self.new (IsRelated self.old.table (IsGoal goals.now))) }
+        ensures free { OnOk result (HasNoClash self.old.table (IsRelated self.old.table (IsGoal goals.now))) }
+        ensures solved { OnOk result (IsSolvedFor self.new goals.now) }
+        ensures refusal { IfErr result (IsRefusalOf self.new (IsRelated self.old.table (IsGoal goals.now))) }
+        ensures table { self.new.table ≡ self.old.table }
+        ensures numbers { self.new.there ≡ self.old.there }
+        ensures ready_stays { self.new.is_ready ≡ self.old.is_ready }
+    {
+        let _limit = self.table.limit();
+        self.is_solved = false;
+        if relate(&mut self.relation, &self.table, goals).is_err() {
+            return Err(Refusal::NoMemory);
+        }
+        self.is_solved = true;
+        refusal_of(first_clash_of(&self.relation, &self.table))
+    }
+
+    /// Gives the states the heads and edges of the solved automaton.
+    ///
+    /// # Errors
+    ///
+    /// `Memory` where memory is wanting; the table is then as before.
+    pub fn settle(&mut self) -> Result<(), Memory>
+        requires { (goals : List Goal) × IsSolvedFor self.old goals }
+        ensures solved { OnOk result (IsSolved self.old.table (AreRelated self.old) self.new.table) }
+        ensures instances { OnOk result ((goals : List Goal) → IsSolvedFor self.old goals → HasInstancesUnder self.old.table (IsGoal goals) self.new.table) }
+        ensures numbers { self.new.there ≡ self.old.there }
+        ensures unsolved { OnOk result (IsUnsolved self.new) }
+        ensures err { OnErr result (IsSameLive self.old self.new) }
+    {
+        let alloc = self.relation.allocator();
+        self.relation.grow(self.table.limit())?;
+        let states = touched(alloc, &self.relation, &self.table)?;
+        let heads = new_heads(alloc, &self.relation, &self.table, states.as_slice())?;
+        let edges = new_edges(alloc, &self.relation, &self.table, states.as_slice())?;
+        link_all(&mut self.table, alloc, edges.as_slice())?;
+        store_heads(&mut self.table, heads);
+        let _settled = self.table.limit();
+        self.is_solved = false;
+        self.is_ready = false;
+        Ok(())
+    }
+
+    /// The scheme of the states that heads reach from the root and the binders, in the order of their numbers. It goes
+    /// over the whole table.
+    ///
+    /// # Errors
+    ///
+    /// `Memory` where memory is wanting.
+    pub fn freeze(&self, root: StateId, env: &[EnvEntry]) -> Result<Scheme, Memory>
+        requires root { IsLiveState self.now Positive root.0 }
+        requires env { All (λ (entry : EnvEntry). IsLiveState self.now Negative entry.state.0) env.now }
+        requires binders { BindersRise env.now }
+        ensures kept { IfOk result (λ scheme. KeepsReached scheme (scheme_over self.now.table root.0 env.now)) }
+        ensures scheme { IfOk result IsScheme }
+        ensures equivalent { IfOk result (AreEquivalentSchemes (scheme_over self.now.table root.0 env.now)) }
+    {
+        let alloc = self.relation.allocator();
+        let _limit = self.table.limit();
+        let scheme = Scheme {
+            automaton: copied_table(alloc, &self.table)?,
+            env: copied_env(alloc, env)?,
+            root,
+        };
+        let kept = scheme.keep_reachable()?;
+        Ok(kept)
+    }
+}
+
+// The answer of `solve` where the relation is there.
+fn refusal_of(found: Result<(), Clash>) -> Result<(), Refusal>
+    ensures ok { OnOk result (IsOk found) }
+    ensures err { IfErr result (λ refusal. (clash : Clash) × (found ≡ Err clash) × (refusal ≡ Refusal.Clashing clash)) }
+{
+    match found {
+        Ok(()) => Ok(()),
+        Err(clash) => Err(Refusal::Clashing(clash)),
+    }
+}
+
+// Whether each goal goes from a positive state that is there to a negative one.
+fn are_goals_of(table: &Table, goals: &[Goal]) -> bool
+    ensures { IsTrue result ↔ All (λ g. IsStateIn table.now.automaton table.now.there Positive g.positive.0 × IsStateIn table.now.automaton table.now.there Negative g.negative.0) goals.now }
+{
+    goals.iter().all(|goal| {
+        table.is_state(goal.positive, Polarity::Positive)
+            && table.is_state(goal.negative, Polarity::Negative)
+    })
+}
+
+#[cfg(test)]
+mod tests;

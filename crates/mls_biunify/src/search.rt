@@ -1,0 +1,271 @@
+//! The least closed relation of goals, found in time and space that grow with the pairs that are found.
+ghost use Rattle.std.specs.Prelude.{◌≡◌, ℕ, ◌<◌, ◌≤◌, [], length, All, Contains, IfOk, OnOk, IfErr};
+ghost use Rattle.mls_automaton.specs.declared.automaton.Polarity.TheVariants.{Positive, Negative};
+ghost use Rattle.mls_automaton.specs.Automata.{HasFlow, IsState, head_at};
+ghost use Rattle.mls_automaton.specs.Models.{IsClosed};
+ghost use Rattle.mls_biunify.specs.Clashes.{HasNoClash, IsFirstClash};
+ghost use Rattle.mls_biunify.specs.Relations.{IsGoal, IsGoalOf, IsRelated};
+ghost use Rattle.mls_biunify.specs.Rooms.{Holds, HoldsJust, HoldsStates};
+ghost use Rattle.mls_biunify.specs.steps.FirstClashes.{IsFirstOf, IsPairAt};
+ghost use Rattle.mls_biunify.specs.steps.Growth.{BySome, Relates};
+ghost use Rattle.mls_biunify.specs.steps.Consequences.{ByFunctions, ByField, ByRecords, ByHeads, Follows, HasConsequences};
+
+use crate::clash::{clash_of, earlier};
+use crate::found::Found;
+use crate::goal::{Clash, Goal};
+use mls_automaton::automaton::{Arms, Automaton, FieldSet, FieldSets, Head};
+use mls_automaton::state_set::StateId;
+use mls_base::memory::Memory;
+use std::alloc::Global;
+
+/// The least closed relation of the goals. Each pair is taken once, as by `saturate`.
+///
+/// # Errors
+///
+/// `Memory` where memory is wanting.
+pub fn search(alloc: Global, a: &Automaton, goals: &[Goal]) -> Result<Found, Memory>
+    requires closed { IsClosed a.now }
+    requires goals { All (IsGoalOf a.now) goals.now }
+    ensures relation { IfOk result (λ found. HoldsJust found (IsRelated a.now (IsGoal goals.now))) }
+    ensures states { IfOk result (HoldsStates a.now) }
+{
+    let mut found = Found::new(alloc);
+    add_goals(&mut found, goals)?;
+    close(alloc, &mut found, a)?;
+    Ok(found)
+}
+
+/// The first clash of the pairs.
+///
+/// # Errors
+///
+/// The first clash, where there is one.
+pub fn first_clash_of(found: &Found, a: &Automaton) -> Result<(), Clash>
+    requires closed { IsClosed a.now }
+    requires states { HoldsStates a.now found.now }
+    ensures ok { OnOk result (HasNoClash a.now (Holds found.now)) }
+    ensures clash { IfErr result (IsFirstClash a.now (Holds found.now)) }
+{
+    let mut first = None;
+    for i in 0..found.len() {
+        first = earlier(a, first, clash_at(found, a, i));
+    }
+    match first {
+        None => Ok(()),
+        Some(clash) => Err(clash),
+    }
+}
+
+// The first clash of the pair at this place.
+fn clash_at(found: &Found, a: &Automaton, i: usize) -> Option<Clash>
+    requires closed { IsClosed a.now }
+    requires in_range { i < length found.now.pairs }
+    requires states { (p n : ℕ) → Holds found.now p n → (p < length a.now.states) × (n < length a.now.states) }
+    ensures { IsFirstOf a.now (IsPairAt found.now i) result }
+{
+    let (positive, negative) = found.pair(i);
+    match clash_of(a.head(positive), a.head(negative)) {
+        None => None,
+        Some(kind) => Some(Clash {
+            positive,
+            negative,
+            kind,
+        }),
+    }
+}
+
+// Adds the goals.
+fn add_goals(found: &mut Found, goals: &[Goal]) -> Result<(), Memory>
+    ensures { OnOk result (Relates found.old found.new (IsGoal goals.now)) }
+{
+    for goal in goals {
+        found.add(goal.positive.0, goal.negative.0)?;
+    }
+    Ok(())
+}
+
+// Adds all that follows from the pairs. Each pair is taken once, in the order in which it was found.
+fn close(alloc: Global, found: &mut Found, a: &Automaton) -> Result<(), Memory>
+    requires closed { IsClosed a.now }
+    requires states { HoldsStates a.now found.old }
+    ensures { OnOk result (HoldsJust found.new (IsRelated a.now (Holds found.old))) }
+{
+    for next in 0..usize::MAX {
+        if next >= found.len() {
+            return Ok(());
+        }
+        let (positive, negative) = found.pair(next);
+        add_consequences(alloc, found, a, positive, negative)?;
+    }
+    Err(Memory)
+}
+
+// Adds what follows from one pair and the pairs that share a state with it along an edge.
+fn add_consequences(
+    alloc: Global,
+    found: &mut Found,
+    a: &Automaton,
+    positive: StateId,
+    negative: StateId,
+) -> Result<(), Memory>
+    requires closed { IsClosed a.now }
+    requires held { Holds found.old positive.0 negative.0 }
+    requires positive { IsState a.now Positive positive.0 }
+    requires negative { IsState a.now Negative negative.0 }
+    ensures follows { OnOk result (Follows a.now found.old found.new) }
+    ensures has { OnOk result (HasConsequences a.now positive.0 negative.0 found.old found.new) }
+{
+    add_by_heads(found, a.head(positive), a.head(negative))?;
+    add_after(alloc, found, a, positive, negative)?;
+    add_before(alloc, found, a, positive, negative)?;
+    Ok(())
+}
+
+// Adds what follows from the pair along the edges from its negative state.
+fn add_after(
+    alloc: Global,
+    found: &mut Found,
+    a: &Automaton,
+    positive: StateId,
+    negative: StateId,
+) -> Result<(), Memory>
+    requires closed { IsClosed a.now }
+    requires held { Holds found.old positive.0 negative.0 }
+    requires negative { IsState a.now Negative negative.0 }
+    ensures follows { OnOk result (Follows a.now found.old found.new) }
+    ensures has { OnOk result ((q m : ℕ) → HasFlow a.now negative.0 q → Holds found.old q m → Holds found.new positive.0 m) }
+{
+    for q in a.partners(negative).as_slice() {
+        add_row(alloc, found, *q, positive.0)?;
+    }
+    Ok(())
+}
+
+// Adds what follows from the pair along the edges to its positive state.
+fn add_before(
+    alloc: Global,
+    found: &mut Found,
+    a: &Automaton,
+    positive: StateId,
+    negative: StateId,
+) -> Result<(), Memory>
+    requires closed { IsClosed a.now }
+    requires held { Holds found.old positive.0 negative.0 }
+    requires positive { IsState a.now Positive positive.0 }
+    ensures follows { OnOk result (Follows a.now found.old found.new) }
+    ensures has { OnOk result ((q m : ℕ) → Holds found.old q m → HasFlow a.now m positive.0 → Holds found.new q negative.0) }
+{
+    for m in a.partners(positive).as_slice() {
+        add_column(alloc, found, *m, negative.0)?;
+    }
+    Ok(())
+}
+
+// Relates one positive state to all to which another is related.
+fn add_row(alloc: Global, found: &mut Found, from: usize, to: usize) -> Result<(), Memory>
+    ensures { OnOk result (Relates found.old found.new (λ p n. (p ≡ to) × Holds found.old from n)) }
+{
+    let negatives = copied(alloc, found.below(StateId(from)))?;
+    add_set(found, to, negatives.as_slice())?;
+    Ok(())
+}
+
+// Relates all positive states that are related to one negative state to another.
+fn add_column(alloc: Global, found: &mut Found, from: usize, to: usize) -> Result<(), Memory>
+    ensures { OnOk result (Relates found.old found.new (λ p n. (n ≡ to) × Holds found.old p from)) }
+{
+    let positives = copied(alloc, found.above(StateId(from)))?;
+    add_sets(found, positives.as_slice(), &[to])?;
+    Ok(())
+}
+
+fn copied(alloc: Global, numbers: &[usize]) -> Result<Vec<usize>, Memory>
+    ensures { IfOk result (λ copy. copy.items ≡ numbers.now) }
+{
+    let mut copy = Vec::new(alloc);
+    for number in numbers {
+        copy.push(*number)?;
+    }
+    Ok(copy)
+}
+
+// Adds what follows by the heads of a positive and a negative state.
+fn add_by_heads(found: &mut Found, upper: &Head, lower: &Head) -> Result<(), Memory>
+    ensures { OnOk result (Relates found.old found.new (ByHeads upper.now lower.now)) }
+{
+    add_by_functions(found, &upper.function, &lower.function)?;
+    add_by_records(found, &upper.fields, &lower.fields)?;
+    Ok(())
+}
+
+fn add_by_functions(
+    found: &mut Found,
+    upper: &Option<Arms>,
+    lower: &Option<Arms>,
+) -> Result<(), Memory>
+    ensures { OnOk result (Relates found.old found.new (ByFunctions upper.now lower.now)) }
+{
+    if let Some(arms) = upper {
+        if let Some(others) = lower {
+            add_sets(found, others.domain.as_slice(), arms.domain.as_slice())?;
+            add_sets(found, arms.codomain.as_slice(), others.codomain.as_slice())?;
+            return Ok(());
+        }
+    }
+    Ok(())
+}
+
+fn add_by_records(
+    found: &mut Found,
+    upper: &Option<FieldSets>,
+    lower: &Option<FieldSets>,
+) -> Result<(), Memory>
+    ensures { OnOk result (Relates found.old found.new (ByRecords upper.now lower.now)) }
+{
+    if let Some(fields) = upper {
+        if let Some(others) = lower {
+            add_fields(found, fields, others.as_slice())?;
+            return Ok(());
+        }
+    }
+    Ok(())
+}
+
+fn add_fields(found: &mut Found, fields: &FieldSets, others: &[FieldSet]) -> Result<(), Memory>
+    ensures { OnOk result (Relates found.old found.new (BySome others.now (ByField fields.now))) }
+{
+    for other in others {
+        add_field(found, fields, other)?;
+    }
+    Ok(())
+}
+
+fn add_field(found: &mut Found, fields: &FieldSets, other: &FieldSet) -> Result<(), Memory>
+    ensures { OnOk result (Relates found.old found.new (ByField fields.now other.now)) }
+{
+    if let Some(set) = fields.get(&other.label) {
+        add_sets(found, set.as_slice(), other.set.as_slice())?;
+        return Ok(());
+    }
+    Ok(())
+}
+
+// Relates each of the positive states to each of the negative ones.
+fn add_sets(found: &mut Found, positives: &[usize], negatives: &[usize]) -> Result<(), Memory>
+    ensures { OnOk result (Relates found.old found.new (λ p n. Contains positives.now p × Contains negatives.now n)) }
+{
+    for p in positives {
+        add_set(found, *p, negatives)?;
+    }
+    Ok(())
+}
+
+// Relates a positive state to each of the negative ones.
+fn add_set(found: &mut Found, positive: usize, negatives: &[usize]) -> Result<(), Memory>
+    ensures { OnOk result (Relates found.old found.new (BySome negatives.now (λ m p n. (p ≡ positive) × (n ≡ m)))) }
+{
+    for n in negatives {
+        found.add(positive, *n)?;
+    }
+    Ok(())
+}

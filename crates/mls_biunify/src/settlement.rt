@@ -1,0 +1,282 @@
+//! The heads and edges of the solved automaton, over states that keep their numbers.
+ghost use Rattle.std.specs.Prelude.{◌≡◌, ◌↔◌, ◌⊎◌, ℕ, ◌<◌, ◌≤◌, List, true, false, get_or, length, map, All, Contains, IfOk, OnErr, OnOk};
+ghost use Rattle.mls_automaton.specs.declared.automaton.Head.{Head};
+ghost use Rattle.mls_automaton.specs.declared.automaton.Polarity.TheVariants.{Positive, Negative};
+ghost use Rattle.mls_automaton.specs.Automata.{HasFlow, head_at, polarity_at};
+ghost use Rattle.mls_automaton.specs.Heads.{IsSameParts, combined, parts_of};
+ghost use Rattle.mls_automaton.specs.Models.{HasRisingLabels, HasStatesIn};
+ghost use Rattle.mls_biunify.specs.Live.{IsStateIn};
+ghost use Rattle.mls_biunify.specs.Rooms.{Holds};
+ghost use Rattle.mls_biunify.specs.Solved.{IsNewFlow};
+ghost use Rattle.mls_biunify.specs.steps.Settlement.{AddsEdges, AreFit, AreNewEdges, AreNewHeads, GivenBy, IsEdgeAt, IsEdgeFrom, IsTouched, Links, StoresHeads, Unlinks};
+ghost use Rattle.mls_biunify.specs.steps.Solving.{AreMembers, IsSolvedFlow, IsSolvedState};
+ghost use Rattle.mls_biunify.specs.steps.Tables.{HoldsThere, IsNumbered};
+
+use crate::materialise::copied_head;
+use crate::relation::Relation;
+use crate::table::Table;
+use mls_automaton::automaton::{Head, Polarity};
+use mls_automaton::combine::combine_heads;
+use mls_automaton::state_set::{StateId, StateSet};
+use mls_base::memory::Memory;
+use std::alloc::Global;
+
+// Puts the members of a set into another one.
+fn insert_all(set: &mut StateSet, more: &StateSet) -> Result<(), Memory>
+    ensures { OnOk result ((j : ℕ) → Contains set.new j ↔ (Contains set.old j ⊎ Contains more.now j)) }
+{
+    for s in more.as_slice() {
+        set.insert(StateId(*s))?;
+    }
+    Ok(())
+}
+
+// The states that have an edge to or from a related state.
+pub fn touched(alloc: Global, relation: &Relation, table: &Table) -> Result<StateSet, Memory>
+    requires { HoldsThere table.now relation.now }
+    ensures { IfOk result (λ set. (s : ℕ) → Contains set s ↔ IsTouched table.now.automaton relation.now.pairs s) }
+{
+    let mut set = StateSet::new(alloc);
+    for i in 0..relation.len() {
+        let (positive, negative) = relation.pair(i);
+        insert_all(&mut set, table.before(positive))?;
+        insert_all(&mut set, table.after(negative))?;
+    }
+    Ok(set)
+}
+
+// The states whose old heads go into the new head of a state, and whose edges go into its own.
+fn members(
+    alloc: Global,
+    relation: &Relation,
+    table: &Table,
+    s: StateId,
+) -> Result<StateSet, Memory>
+    requires states { HoldsThere table.now relation.now }
+    requires there { get_or table.now.there s.0 false ≡ true }
+    requires rows { table.now.limit ≤ relation.now.positives }
+    requires columns { table.now.limit ≤ relation.now.negatives }
+    ensures { IfOk result (AreMembers table.now.automaton (Holds relation.now) s.0) }
+{
+    let set = StateSet::one(alloc, s)?;
+    match table.polarity(s) {
+        Polarity::Positive => with_above(set, relation, table.before(s).as_slice()),
+        Polarity::Negative => with_below(set, relation, table.after(s).as_slice()),
+    }
+}
+
+// The set, and the positive states that are related to one of the negative ones.
+fn with_above(set: StateSet, relation: &Relation, negatives: &[usize]) -> Result<StateSet, Memory>
+    requires { All (λ n. n < relation.now.negatives) negatives.now }
+    ensures { IfOk result (λ all. (j : ℕ) → Contains all j ↔ (Contains set j ⊎ GivenBy negatives.now (λ n p. Holds relation.now p n) j)) }
+{
+    let mut all = set;
+    for n in negatives {
+        insert_all(&mut all, relation.above(StateId(*n)))?;
+    }
+    Ok(all)
+}
+
+// The set, and the negative states to which one of the positive ones is related.
+fn with_below(set: StateSet, relation: &Relation, positives: &[usize]) -> Result<StateSet, Memory>
+    requires { All (λ p. p < relation.now.positives) positives.now }
+    ensures { IfOk result (λ all. (j : ℕ) → Contains all j ↔ (Contains set j ⊎ GivenBy positives.now (λ p n. Holds relation.now p n) j)) }
+{
+    let mut all = set;
+    for p in positives {
+        insert_all(&mut all, relation.below(StateId(*p)))?;
+    }
+    Ok(all)
+}
+
+// The combined head of these states. It is put together by halves, so that each head is gone through as often as the
+// number of states has binary digits; the calls are as deep.
+fn combined_head(
+    alloc: Global,
+    table: &Table,
+    polarity: Polarity,
+    members: &[usize],
+) -> Result<Head, Memory>
+    requires { All (λ j. get_or table.now.there j false ≡ true) members.now }
+    ensures parts { IfOk result (λ head. IsSameParts (parts_of head) (combined polarity (map (λ j. parts_of (head_at table.now.automaton j)) members.now))) }
+    ensures labels { IfOk result (λ head. HasRisingLabels head.fields) }
+{
+    if members.is_empty() {
+        return Ok(Head::empty());
+    }
+    if members.len() == 1 {
+        return copied_head(table.head(StateId(members[0])));
+    }
+    let half = members.len() / 2;
+    let first = combined_head(alloc, table, polarity, &members[..half])?;
+    let second = combined_head(alloc, table, polarity, &members[half..])?;
+    combine_heads(alloc, polarity, &first, &second)
+}
+
+// The new head of a state.
+fn new_head(alloc: Global, relation: &Relation, table: &Table, s: StateId) -> Result<Head, Memory>
+    requires states { HoldsThere table.now relation.now }
+    requires there { get_or table.now.there s.0 false ≡ true }
+    requires rows { table.now.limit ≤ relation.now.positives }
+    requires columns { table.now.limit ≤ relation.now.negatives }
+    ensures { IfOk result (λ h. IsSolvedState table.now.automaton (Holds relation.now) s.0 (record { polarity = polarity_at table.now.automaton s.0; head = h })) }
+{
+    let polarity = table.polarity(s);
+    let members = members(alloc, relation, table, s)?;
+    let head = combined_head(alloc, table, polarity, members.as_slice())?;
+    Ok(head)
+}
+
+// The new heads of these states.
+pub fn new_heads(
+    alloc: Global,
+    relation: &Relation,
+    table: &Table,
+    states: &[usize],
+) -> Result<Vec<(usize, Head)>, Memory>
+    requires states { HoldsThere table.now relation.now }
+    requires there { All (λ s. get_or table.now.there s false ≡ true) states.now }
+    requires rows { table.now.limit ≤ relation.now.positives }
+    requires columns { table.now.limit ≤ relation.now.negatives }
+    ensures { IfOk result (λ heads. AreNewHeads table.now (Holds relation.now) states.now heads.items) }
+{
+    let mut heads = Vec::new(alloc);
+    for s in states {
+        let head = new_head(alloc, relation, table, StateId(*s))?;
+        heads.push((*s, head))?;
+    }
+    Ok(heads)
+}
+
+// Puts the edges from a state to these ones behind those of a list.
+fn push_edges(edges: &mut Vec<(usize, usize)>, n: usize, targets: &[usize]) -> Result<(), Memory>
+    ensures { OnOk result ((x : ℕ × ℕ) → Contains edges.new.items x ↔ (Contains edges.old.items x ⊎ GivenBy targets.now (λ q y. y ≡ (n, q)) x)) }
+{
+    for q in targets {
+        edges.push((n, *q))?;
+    }
+    Ok(())
+}
+
+// Puts the edges of the solved automaton from a negative state behind those of a list.
+fn push_edges_from(
+    edges: &mut Vec<(usize, usize)>,
+    alloc: Global,
+    relation: &Relation,
+    table: &Table,
+    n: StateId,
+) -> Result<(), Memory>
+    requires states { HoldsThere table.now relation.now }
+    requires negative { IsStateIn table.now.automaton table.now.there Negative n.0 }
+    requires rows { table.now.limit ≤ relation.now.positives }
+    requires columns { table.now.limit ≤ relation.now.negatives }
+    ensures { OnOk result ((x : ℕ × ℕ) → Contains edges.new.items x ↔ (Contains edges.old.items x ⊎ IsEdgeFrom table.now.automaton (Holds relation.now) n.0 x)) }
+{
+    let members = members(alloc, relation, table, n)?;
+    for m in members.as_slice() {
+        push_edges(edges, n.0, table.after(StateId(*m)).as_slice())?;
+    }
+    Ok(())
+}
+
+// The same, if the state is negative.
+fn push_edges_at(
+    edges: &mut Vec<(usize, usize)>,
+    alloc: Global,
+    relation: &Relation,
+    table: &Table,
+    s: StateId,
+) -> Result<(), Memory>
+    requires states { HoldsThere table.now relation.now }
+    requires there { get_or table.now.there s.0 false ≡ true }
+    requires rows { table.now.limit ≤ relation.now.positives }
+    requires columns { table.now.limit ≤ relation.now.negatives }
+    ensures { OnOk result ((x : ℕ × ℕ) → Contains edges.new.items x ↔ (Contains edges.old.items x ⊎ IsEdgeAt table.now.automaton (Holds relation.now) s.0 x)) }
+{
+    match table.polarity(s) {
+        Polarity::Positive => Ok(()),
+        Polarity::Negative => push_edges_from(edges, alloc, relation, table, s),
+    }
+}
+
+// The edges of the solved automaton from the negative ones of these states, which are all that have new ones.
+pub fn new_edges(
+    alloc: Global,
+    relation: &Relation,
+    table: &Table,
+    states: &[usize],
+) -> Result<Vec<(usize, usize)>, Memory>
+    requires states { HoldsThere table.now relation.now }
+    requires there { All (λ s. get_or table.now.there s false ≡ true) states.now }
+    requires all { (s : ℕ) → IsTouched table.now.automaton relation.now.pairs s → Contains states.now s }
+    requires rows { table.now.limit ≤ relation.now.positives }
+    requires columns { table.now.limit ≤ relation.now.negatives }
+    ensures { IfOk result (λ edges. AreNewEdges table.now.automaton (Holds relation.now) edges.items) }
+{
+    let _limit = table.limit();
+    let mut edges = Vec::new(alloc);
+    for s in states {
+        push_edges_at(&mut edges, alloc, relation, table, StateId(*s))?;
+    }
+    Ok(edges)
+}
+
+// Adds these edges. After an error there are the same edges as before.
+pub fn link_all(table: &mut Table, alloc: Global, edges: &[(usize, usize)]) -> Result<(), Memory>
+    requires { (n p : ℕ) → Contains edges.now (n, p) → IsStateIn table.old.automaton table.old.there Negative n × IsStateIn table.old.automaton table.old.there Positive p }
+    ensures ok { OnOk result (AddsEdges table.old table.new (λ n p. Contains edges.now (n, p))) }
+    ensures err { OnErr result (AddsEdges table.old table.new (λ n p. ⊥)) }
+{
+    let mut added = Vec::new(alloc);
+    for i in 0..edges.len() {
+        if link(table, &mut added, edges[i].0, edges[i].1).is_err() {
+            unlink_all(table, added.as_slice());
+            return Err(Memory);
+        }
+    }
+    Ok(())
+}
+
+// Adds an edge and notes it, if it is not there.
+fn link(
+    table: &mut Table,
+    added: &mut Vec<(usize, usize)>,
+    n: usize,
+    p: usize,
+) -> Result<(), Memory>
+    requires negative { IsStateIn table.old.automaton table.old.there Negative n }
+    requires positive { IsStateIn table.old.automaton table.old.there Positive p }
+    ensures ok { OnOk result (Links table.old table.new added.old.items added.new.items n p) }
+    ensures err { OnErr result (AddsEdges table.old table.new (λ i j. ⊥)) }
+    ensures noted { OnErr result (added.new.items ≡ added.old.items) }
+{
+    if table.has_flow(StateId(n), StateId(p)) {
+        return Ok(());
+    }
+    added.reserve(1)?;
+    table.edge(StateId(n), StateId(p))?;
+    // There is room for it.
+    added.push((n, p))?;
+    Ok(())
+}
+
+// Takes these edges out.
+fn unlink_all(table: &mut Table, edges: &[(usize, usize)])
+    requires { (n p : ℕ) → Contains edges.now (n, p) → (get_or table.old.there n false ≡ true) × (get_or table.old.there p false ≡ true) }
+    ensures { Unlinks table.old edges.now table.new }
+{
+    for i in 0..edges.len() {
+        table.unlink(StateId(edges[i].0), StateId(edges[i].1));
+    }
+}
+
+// Gives states these heads.
+pub fn store_heads(table: &mut Table, heads: Vec<(usize, Head)>)
+    requires { AreFit table.old heads.items }
+    ensures { StoresHeads table.old table.new heads.items }
+{
+    let mut heads = heads;
+    while let Some(change) = heads.pop() {
+        table.set_head(StateId(change.0), change.1);
+    }
+}
