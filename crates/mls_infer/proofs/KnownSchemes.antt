@@ -1,10 +1,12 @@
 -- The schemes of the environment, as automata.
 --     read_means             the automaton of a scheme that was read is read as this scheme
---     named_read, named_copy      a known name has its scheme
+--     scheme_read, named_read, named_again, named_copy      a known name has its scheme
+--     reads_more             one more scheme that was read
 --     names_are              what names mean are schemes that need nothing of any binder
-use Rattle.std.proofs.Common.{◌≡◌, ℕ, zero, suc, ◌<◌, List, [], ◌∷◌, map, length, get_or, All, refl, sym, ap, ◌∙◌, subst, arith, Some, slice_get}
+use Rattle.std.proofs.Common.{◌≡◌, ◌≢◌, ◌⊎◌, inl, inr, ℕ, zero, suc, ◌<◌, List, [], ◌∷◌, map, length, get_or, All, refl, sym, ap, ◌∙◌, subst, arith, Some, slice_get}
 use Rattle.std.specs.Prelude.{Option, None, option_map}
-use Rattle.std.specs.BTreeMap.{BTreeMap}
+use Rattle.std.specs.BTreeMap.{BTreeMap, get}
+use Rattle.std.proofs.lemmas.Bool.{cases_eq}
 use Rattle.std.specs.FinMap as finmap
 use Rattle.std.specs.FinMap.{get-empty}
 use Rattle.std.specs.Ordering.{nat_cmp}
@@ -24,7 +26,7 @@ use Rattle.mls_typing.proofs.Instances.{Allows-equivalent}
 use Rattle.mls_typing.proofs.Lists.{nothing_in}
 use Rattle.mls_typing.proofs.Rows.{both_ways}
 use Rattle.mls_infer.specs.Finished.{Finished, Has}
-use Rattle.mls_infer.specs.Finishing.{Scope, CanStep, IsNamedBy, is_copied, is_read, scope_of}
+use Rattle.mls_infer.specs.Finishing.{AreReads, IsRead, Scope, CanStep, IsNamedBy, is_copied, is_read, scope_of}
 use Rattle.mls_infer.specs.Inference.{AreNames}
 use Rattle.mls_infer.specs.Steps.{IsReadAs}
 use Rattle.mls_infer.proofs.FinishedParts.{one_scheme}
@@ -66,16 +68,40 @@ at_place (x ∷ xs) zero d low = refl
 at_place (x ∷ xs) (suc g) d low = at_place xs g d (omega arith)
 
 -- the scheme of a name of the environment
-pub named_read : (names : Names) (firsts : BTreeMap ℕ ℕ) (done : Finished) (g : ℕ) (read : ReadScheme) (s : Scheme) → AreNames names → g < length names.schemes → get_or names.schemes g read ≡ read → IsScheme s → s.env ≡ [] → IsEquivalentToRead read s
-    → IsNamedBy (scope_of names firsts) (form.Global g) done s
-named_read names firsts done g read s are low at is no_env equivalent =
+pub scheme_read : (names : Names) (g : ℕ) (read : ReadScheme) (s : Scheme) → AreNames names → g < length names.schemes → get_or names.schemes g read ≡ read → IsScheme s → s.env ≡ [] → IsEquivalentToRead read s → IsRead (map scheme_of names.schemes) g s
+scheme_read names g read s are low at is no_env equivalent =
     let read_is : IsReadScheme read = subst IsReadScheme at (are g read low).0 in
     let there : slice_get (map scheme_of names.schemes) g ≡ Some (scheme_of read) = slice_get-map scheme_of names.schemes g ∙ ap (option_map scheme_of) (at_place names.schemes g read low ∙ ap Some at) in
     record {
-      named = is_read g (scheme_of read) refl there (read_means read s read_is is no_env equivalent);
+      book = scheme_of read;
+      there = there;
+      read = read_means read s read_is is no_env equivalent;
       is = is;
       rise = subst BindersRise (sym no_env) (λ i j d less low. absurd (omega arith));
     }
+
+pub named_again : (names : Names) (firsts : BTreeMap ℕ ℕ) (done : Finished) (g : ℕ) (s copy : Scheme) → IsRead (map scheme_of names.schemes) g s → copy ≡ s → IsNamedBy (scope_of names firsts) (form.Global g) done copy
+named_again names firsts done g s copy it same = record {
+  named = is_read g it.book refl it.there (let R : Scheme → Type 0 = λ s. IsReadAs s it.book in subst R (sym same) it.read);
+  is = subst IsScheme (sym same) it.is;
+  rise = let R : Scheme → Type 0 = λ (s : Scheme). BindersRise s.env in subst R (sym same) it.rise;
+}
+
+pub named_read : (names : Names) (firsts : BTreeMap ℕ ℕ) (done : Finished) (g : ℕ) (read : ReadScheme) (s : Scheme) → AreNames names → g < length names.schemes → get_or names.schemes g read ≡ read → IsScheme s → s.env ≡ [] → IsEquivalentToRead read s
+    → IsNamedBy (scope_of names firsts) (form.Global g) done s
+named_read names firsts done g read s are low at is no_env equivalent = named_again names firsts done g s s (scheme_read names g read s are low at is no_env equivalent) refl
+
+-- one more scheme that was read
+pub reads_more : (globals : List book.Scheme) (old new : BTreeMap ℕ Scheme) (g : ℕ) (s : Scheme) → AreReads globals old → get nat_cmp new g ≡ Some s → ((k : ℕ) → k ≢ g → get nat_cmp new k ≡ get nat_cmp old k) → IsRead globals g s → AreReads globals new
+reads_more globals old new g s are here others one k t e = go (cases_eq k g)
+  where
+    go : (k ≡ g) ⊎ (k ≢ g) → IsRead globals k t
+    go (inl same) =
+        let both : Some s ≡ Some t = sym here ∙ (ap (get nat_cmp new) (sym same) ∙ e) in
+        let at : s ≡ t = cc in
+        let P : ℕ → Type 0 = λ k. IsRead globals k t in
+        subst P (sym same) (subst (IsRead globals g) at one)
+    go (inr apart) = are k t (sym (others k apart) ∙ e)
 
 -- and a copy of that of a let-bound name
 pub named_copy : (scope : Scope) (k : ℕ) (done : Finished) → CanStep scope (form.Inner k) done → (root : ℕ) (s copy : Scheme) → scope.first_of k ≡ Some root → Has done root s → copy ≡ s → BindersRise s.env → IsNamedBy scope (form.Inner k) done copy

@@ -33,3 +33,4 @@ pub mod Stepping
 pub mod TestTerms
 pub mod WellBuilt
 pub mod WholeTerms
+pub mod OnePart

@@ -2,18 +2,13 @@
 --     solvable_solution, solvable_none     over constraints in which each binder has one state
 --     solution_same, none_same             over constraints with the same types
 --     solvable_scheme, answer_none         and what solving answers over these
---     counts                               positive and negative states are all
+--     free_same, clash_same                equal relations clash alike
+--     without_goals                        without goals the constraints are a solution themselves
 --     solution_kept                        an equivalent scheme is a solution too
-use Rattle.std.proofs.Common.{◌≡◌, ℕ, suc, ◌+◌, ◌==◌, Bool, true, ◌&&◌, false, List, [], ◌∷◌, length, refl, subst, arith, Contains, All}
-use Rattle.std.specs.Prelude.{cond, count_by}
-use Rattle.std.proofs.lemmas.List.Sums.{sum_by-cons}
+use Rattle.std.proofs.Common.{◌≡◌, ◌↔◌, ℕ, ◌==◌, Bool, true, ◌&&◌, false, [], map, refl, sym, subst, arith, Contains, All}
 use Rattle.std.specs.List.{list_any}
 use Rattle.std.proofs.lemmas.Bool.{eqb-true}
 use Rattle.std.proofs.lemmas.Bool.Decides.{nat_tests}
-use Rattle.mls_automaton.specs.declared.automaton.Polarity.TheVariants.{Positive, Negative}
-use Rattle.mls_automaton.specs.declared.automaton.Polarity.{Polarity}
-use Rattle.mls_automaton.specs.declared.automaton.Head.{Head}
-use Rattle.mls_automaton.specs.declared.automaton.State.{State}
 use Rattle.mls_automaton.specs.declared.scheme.Scheme.{Scheme}
 use Rattle.mls_automaton.specs.Automata.{Automaton}
 use Rattle.mls_automaton.specs.Environments.{BindersRise}
@@ -23,9 +18,9 @@ use Rattle.mls_automaton.proofs.Instances.{AreGoals}
 use Rattle.mls_automaton.proofs.Lists.{any_found, found_any}
 use Rattle.mls_automaton.proofs.Reaching.{entry-found}
 use Rattle.mls_biunify.specs.declared.goal.Clash.{Clash}
-use Rattle.mls_biunify.specs.Clashes.{HasNoClash, IsClashOf}
+use Rattle.mls_biunify.specs.Clashes.{HasNoClash, IsClashOf, IsFirstClash}
 use Rattle.mls_biunify.specs.Relations.{IsGoal, IsGoalOf, IsRelated, IsTable, goal, domain, codomain, field, along}
-use Rattle.mls_biunify.specs.Rooms.{Room, HoldsJust, is_negative, is_positive}
+use Rattle.mls_biunify.specs.Rooms.{Room, HoldsJust}
 use Rattle.mls_biunify.specs.Solved.{IsSolved}
 use Rattle.mls_biunify.proofs.Following.{goals_between, related_states}
 use Rattle.mls_biunify.proofs.Solution.{Sources}
@@ -33,7 +28,8 @@ use Rattle.mls_biunify.proofs.SolvedInstances.{over, over_solved}
 use Rattle.mls_biunify.proofs.SolvedRooms.{solved-same}
 use Rattle.mls_biunify.proofs.SourceLists.{sources_from_table}
 use Rattle.mls_infer.specs.declared.merge.Solvable.{Solvable}
-use Rattle.mls_infer.specs.Constraints.{Constraint, HasStates}
+use Rattle.mls_infer.specs.Constraints.{Constraint, HasStates, HasTypes, no_goals}
+use Rattle.mls_infer.specs.Posed.{goal_pair}
 use Rattle.mls_infer.specs.Merges.{HaveSameTypes, solvable_constraint}
 use Rattle.mls_infer.specs.declared.solve.NoSolution.{NoSolution}
 use Rattle.mls_infer.specs.declared.solve.NoSolution.TheVariants as none
@@ -129,23 +125,25 @@ module _ (s : Solvable) (is : IsScheme s.scheme) (rise : BindersRise s.scheme.en
   answer_none d same (none.Clash m) it = λ types f h. solvable_none it.clash it.first.clash types f ((same types f).0 h)
   answer_none d same none.Memory it = tt
 
--- positive and negative states are all
-pub counts : (states : List State) → count_by is_positive states + count_by is_negative states ≡ length states
-counts [] = refl
-counts (x ∷ rest) = one x.polarity x.head (counts rest)
-  where
-    one : (p : Polarity) (h : Head) → count_by is_positive rest + count_by is_negative rest ≡ length rest
-        → count_by is_positive (record { polarity = p; head = h } ∷ rest) + count_by is_negative (record { polarity = p; head = h } ∷ rest) ≡ suc (length rest)
-    one Positive h later =
-        let x : State = record { polarity = Positive; head = h } in
-        let yes : count_by is_positive (x ∷ rest) ≡ 1 + count_by is_positive rest = sum_by-cons (λ y. cond (is_positive y) 1 0) x rest in
-        let no : count_by is_negative (x ∷ rest) ≡ 0 + count_by is_negative rest = sum_by-cons (λ y. cond (is_negative y) 1 0) x rest in
-        omega arith
-    one Negative h later =
-        let x : State = record { polarity = Negative; head = h } in
-        let no : count_by is_positive (x ∷ rest) ≡ 0 + count_by is_positive rest = sum_by-cons (λ y. cond (is_positive y) 1 0) x rest in
-        let yes : count_by is_negative (x ∷ rest) ≡ 1 + count_by is_negative rest = sum_by-cons (λ y. cond (is_negative y) 1 0) x rest in
-        omega arith
+-- equal relations clash alike
+pub free_same : (a : Automaton) (R S : ℕ → ℕ → Type 0) → ((p n : ℕ) → R p n ↔ S p n) → HasNoClash a R → HasNoClash a S
+free_same a R S same free p n it = free p n ((same p n).1 it)
+
+pub clash_same : (a : Automaton) (R S : ℕ → ℕ → Type 0) → ((p n : ℕ) → R p n ↔ S p n) → (c : Clash) → IsFirstClash a R c → IsFirstClash a S c
+clash_same a R S same c it = record {
+  clash = ((same c.positive.0 c.negative.0).0 it.clash.0, it.clash.1);
+  first = λ d is. it.first d ((same d.positive.0 d.negative.0).1 is.0, is.1);
+}
+
+-- without goals
+pub without_goals : (s : Solvable) → s.goals ≡ [] → IsScheme s.scheme → BindersRise s.scheme.env → IsSolution (solvable_constraint s) s.scheme
+without_goals s none is rise =
+    let each : EachFound s.scheme.env = entry-found s.scheme.env rise in
+    let same : solvable_constraint s ≡ no_goals s.scheme = λ i. record { scheme = s.scheme; goals = map goal_pair (none i) } in
+    record {
+      states = record { automaton = is.automaton; root = is.root; env = λ entry inside. is.env entry.binder entry.state.0 (each entry inside) };
+      just = λ types f. (λ h. subst (λ (c : Constraint). HasTypes c types f) same h, λ h. subst (λ (c : Constraint). HasTypes c types f) (sym same) h);
+    }
 
 pub solution_same : (c d : Constraint) (s : Scheme) → HaveSameTypes c d → IsSolution d s → IsSolution c s
 solution_same c d s same it = record {

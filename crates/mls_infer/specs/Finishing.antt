@@ -201,6 +201,17 @@ pub record IsNamedBy (scope : Scope) (node : TermForm) (done : Finished) (s : Sc
   pub is : IsScheme s
   pub rise : BindersRise s.env
 
+-- each of these is the scheme of the name of this number
+pub record IsRead (globals : List book.Scheme) (g : ℕ) (s : Scheme) : Type 0 where
+  pub book : book.Scheme
+  pub there : slice_get globals g ≡ Some book
+  pub read : IsReadAs s book
+  pub is : IsScheme s
+  pub rise : BindersRise s.env
+
+abbrev pub AreReads : List book.Scheme → BTreeMap ℕ Scheme → Type 0
+AreReads globals reads = (g : ℕ) (s : Scheme) → get nat_cmp reads g ≡ Some s → IsRead globals g s
+
 -- a node was made the scheme of a known name, or a constraint
 abbrev pub IsPosedAs : Scope → TermForm → Finished → Source → Type 0
 IsPosedAs scope node done (source.Named s) = IsNamedBy scope node done s

@@ -5,14 +5,14 @@ ghost use Rattle.std.specs.Ordering.{nat_cmp};
 ghost use Rattle.mls_automaton.specs.declared.scheme.Scheme.{Scheme};
 ghost use Rattle.mls_automaton.specs.Environments.{BindersRise};
 ghost use Rattle.mls_automaton.specs.Schemes.{IsScheme};
-ghost use Rattle.mls_infer.specs.Constraints.{HasStates};
+ghost use Rattle.mls_infer.specs.Constraints.{Constraint, HasStates};
 ghost use Rattle.mls_infer.specs.Posed.{IsGoalOf, constraint_of};
 ghost use Rattle.mls_infer.specs.Solved.{IsClashWithout, TellsFirstClash};
 ghost use Rattle.mls_infer.specs.Steps.{IsSolution};
 ghost use Rattle.mls_shape.specs.Simplified.{IsSimplified};
 ghost use Rattle.mls_term.specs.WellFormed.{IsTerm};
 ghost use Rattle.mls_term.specs.Terms.{postorder};
-ghost use Rattle.mls_infer.specs.Finishing.{CanStep, FailsIn, GoesOnIn, HasKindIn, IsAnswerBy, IsInferred, KeepsOthers};
+ghost use Rattle.mls_infer.specs.Finishing.{AreReads, CanStep, FailsIn, GoesOnIn, HasKindIn, IsAnswerBy, IsInferred, KeepsOthers};
 ghost use Rattle.mls_infer.specs.Finishing.{StopsAt, first_in, scope_of};
 ghost use Rattle.mls_infer.specs.Inference.{AreNames, IsBestFor, IsFirstWithout, TellsKindOf, schemes_in};
 
@@ -21,10 +21,11 @@ use crate::fault::{InferFault, Site};
 use crate::finished::Finished;
 use crate::firsts::firsts_of;
 use crate::node::{Source, posed};
+use crate::reads::{Reads, reads_of};
 use crate::solve::{NoSolution, solve};
+use crate::walks::{Walk, Walks};
 use mls_automaton::scheme::{Env, Scheme};
 use mls_base::memory::Memory;
-use mls_biunify::room::Room;
 use mls_shape::simplify::simplify;
 use mls_term::term::{Term, TermForm, TermNode};
 pub use mls_typetext::scheme::Names;
@@ -65,7 +66,8 @@ fn infer_whole(alloc: Global, names: &Names, term: &Term) -> Result<Scheme, Infe
 {
     let nodes = term.nodes.as_slice();
     let firsts = firsts_of(alloc, nodes)?;
-    let mut done = infer_nodes(alloc, names, &firsts, nodes)?;
+    let reads = reads_of(alloc, names, nodes)?;
+    let mut done = infer_nodes(alloc, names, &reads, &firsts, nodes)?;
     let whole = done.take(nodes.len() - 1);
     Ok(Scheme {
         automaton: whole.automaton,
@@ -78,30 +80,28 @@ fn infer_whole(alloc: Global, names: &Names, term: &Term) -> Result<Scheme, Infe
 fn infer_nodes(
     alloc: Global,
     names: &Names,
+    reads: &Reads,
     firsts: &BTreeMap<usize, usize>,
     nodes: &[TermNode],
 ) -> Result<Finished, InferFault>
     requires names { AreNames names.now }
+    requires reads { AreReads (schemes_in names.now) reads.now }
     requires goes { (t : _) × (nodes.now ≡ postorder 0 t) × GoesOnIn (scope_of names.now firsts.now) t nodes.now [] }
     ensures ok { IfOk result (λ done. (t : _) → nodes.now ≡ postorder 0 t → IsInferred (schemes_in names.now) t done) }
     ensures err { IfErr result (λ fault. (t : _) → nodes.now ≡ postorder 0 t → FailsIn (schemes_in names.now) t fault) }
     ensures kind { IfErr result (λ fault. (t : _) → nodes.now ≡ postorder 0 t → HasKindIn (schemes_in names.now) t fault) }
 {
     let mut done = Finished::new(alloc);
-    let mut room = Room::new(alloc, 0, 0)?;
+    let mut walks = Walks::new(alloc);
     let named = named_parts(alloc, nodes)?;
     for i in 0..nodes.len() {
-        let simplifies = is_among(&named, i);
-        match scheme_of(
-            alloc,
-            names,
-            firsts,
-            &mut room,
-            &mut done,
-            &nodes[i].form,
-            simplifies,
-        ) {
-            Ok(scheme) => done.push(scheme)?,
+        let node = &nodes[i].form;
+        let mut walk = walks.walk_of(node, is_among(&named, i));
+        match scheme_of(alloc, names, reads, firsts, &mut done, node, &mut walk) {
+            Ok(scheme) => {
+                walks.note(walk)?;
+                done.push(scheme)?;
+            }
             Err(NoSolution::Clash(kind)) => {
                 return Err(InferFault::NoScheme(Site { node: i, kind }));
             }
@@ -115,31 +115,30 @@ fn infer_nodes(
 fn scheme_of(
     alloc: Global,
     names: &Names,
+    reads: &Reads,
     firsts: &BTreeMap<usize, usize>,
-    room: &mut Room,
     done: &mut Finished,
     node: &TermForm,
-    simplifies: bool,
+    walk: &mut Walk,
 ) -> Result<Scheme, NoSolution>
     requires names { AreNames names.now }
+    requires reads { AreReads (schemes_in names.now) reads.now }
     requires can { CanStep (scope_of names.now firsts.now) node.now done.old }
     ensures answer { IfOk result (IsAnswerBy (scope_of names.now firsts.now) node.now done.old) }
     ensures others { OnOk result (KeepsOthers node.now done.old done.new) }
     ensures stops { IfErr result (StopsAt node.now done.old) }
 {
-    match posed(alloc, names, firsts, done, node)? {
-        Source::Named(scheme) => Ok(scheme),
-        Source::Built(c) => solved(alloc, room, c, simplifies),
+    match posed(alloc, names, reads, firsts, done, node)? {
+        Source::Named(scheme) => {
+            walk.weigh_all(&scheme.automaton);
+            Ok(scheme)
+        }
+        Source::Built(c) => solved(alloc, c, walk),
     }
 }
 
 // The scheme with just the types of the constraints, simplified or not.
-fn solved(
-    alloc: Global,
-    room: &mut Room,
-    c: Constraints,
-    simplifies: bool,
-) -> Result<Scheme, NoSolution>
+fn solved(alloc: Global, c: Constraints, walk: &mut Walk) -> Result<Scheme, NoSolution>
     requires states { HasStates (constraint_of c).scheme }
     requires goals { All (IsGoalOf c.automaton) c.goals }
     ensures solution { IfOk result (IsSolution (constraint_of c)) }
@@ -148,13 +147,34 @@ fn solved(
     ensures none { IfErr result (IsClashWithout (constraint_of c)) }
     ensures first { IfErr result (TellsFirstClash (constraint_of c)) }
 {
-    let scheme = solve(alloc, room, c)?;
-    if !simplifies {
-        return Ok(scheme);
+    let states = c.automaton.len();
+    let scheme = solve(alloc, c)?;
+    walk.weigh(&scheme, states);
+    if !walk.simplifies {
+        let kept = trimmed(scheme, walk)?;
+        return Ok(kept);
     }
     let simple = simplify(alloc, &scheme)?;
     simple.env.as_slice();
+    walk.done(simple.automaton.len());
     Ok(simple)
+}
+
+// The scheme over the states alone that are reached, where a walk is due; else the scheme as it is.
+fn trimmed(scheme: Scheme, walk: &mut Walk) -> Result<Scheme, Memory>
+    requires scheme { IsScheme scheme }
+    requires rise { BindersRise scheme.env }
+    ensures solution { IfOk result (λ s. (c : Constraint) → IsSolution c scheme → IsSolution c s) }
+    ensures scheme { IfOk result IsScheme }
+    ensures rise { IfOk result (λ (s : Scheme). BindersRise s.env) }
+{
+    if !walk.is_due(scheme.automaton.len()) {
+        return Ok(scheme);
+    }
+    let kept = scheme.keep_reachable()?;
+    kept.env.as_slice();
+    walk.done(kept.automaton.len());
+    Ok(kept)
 }
 
 fn is_among(named: &BTreeSet<usize>, i: usize) -> bool {

@@ -8,9 +8,11 @@ mod firsts;
 pub mod infer;
 mod merge;
 pub mod node;
+mod reads;
 mod rows;
 pub mod solve;
 #[cfg(test)]
 mod tests;
 #[cfg(test)]
 mod tests_of_terms;
+mod walks;

@@ -1,25 +1,27 @@
 //! What a node is inferred from: the scheme of a known name, or the constraint over the schemes of its parts.
-ghost use Rattle.std.specs.Prelude.{◌≡◌, ◌<◌, length, All, IfOk, OnOk, Some, option_copied};
+ghost use Rattle.std.specs.Prelude.{◌≡◌, ◌<◌, ◌∷◌, [], length, map, All, IfOk, OnOk, Some, option_copied};
 ghost use Rattle.std.specs.BTreeMap.{get};
 ghost use Rattle.std.specs.Ordering.{nat_cmp};
 ghost use Rattle.mls_automaton.specs.declared.scheme.Scheme.{Scheme};
 ghost use Rattle.mls_automaton.specs.Environments.{BindersRise};
 ghost use Rattle.mls_automaton.specs.Schemes.{IsScheme};
 ghost use Rattle.mls_term.specs.declared.term.TermForm.TheVariants as form;
-ghost use Rattle.mls_infer.specs.Finished.{Has};
-ghost use Rattle.mls_infer.specs.Finishing.{CanStep, HasParts, IsNamedBy, IsPosedAs, IsPosedBy, KeepsOthers, scope_of};
+ghost use Rattle.mls_infer.specs.Finished.{Has, child_of};
+ghost use Rattle.mls_infer.specs.Finishing.{AreReads, CanStep, HasParts, IsNamedBy, IsPosedAs, IsPosedBy, KeepsOthers, scope_of};
 ghost use Rattle.mls_infer.specs.Inference.{AreNames, schemes_in};
 
 use crate::constraints::Constraints;
 use crate::finished::Finished;
+use crate::reads::Reads;
 use crate::rows::{
-    application, bound, conditional, function, let_in, number, projection, record, recursion, truth,
+    application, bound, conditional, function, let_in, number, projection, record, record_of_one,
+    recursion, truth,
 };
 use mls_automaton::scheme::Scheme;
 use mls_base::memory::Memory;
 use mls_book::name::Name;
 use mls_scheme::read::scheme_of_read;
-use mls_term::term::{Parts, TermForm};
+use mls_term::term::{Part, Parts, TermForm};
 use mls_typetext::scheme::Names;
 use std::alloc::Global;
 use std::collections::BTreeMap;
@@ -35,18 +37,20 @@ pub enum Source {
 pub(crate) fn posed(
     alloc: Global,
     names: &Names,
+    reads: &Reads,
     firsts: &BTreeMap<usize, usize>,
     done: &mut Finished,
     node: &TermForm,
 ) -> Result<Source, Memory>
     requires names { AreNames names.now }
+    requires reads { AreReads (schemes_in names.now) reads.now }
     requires can { CanStep (scope_of names.now firsts.now) node.now done.old }
     ensures posed { IfOk result (IsPosedAs (scope_of names.now firsts.now) node.now done.old) }
     ensures others { OnOk result (KeepsOthers node.now done.old done.new) }
 {
     match node {
         TermForm::Inner(k) => Ok(Source::Named(of_inner(names, firsts, done, *k)?)),
-        TermForm::Global(g) => Ok(Source::Named(of_global(alloc, names, firsts, done, *g)?)),
+        TermForm::Global(g) => Ok(Source::Named(of_global(alloc, names, reads, firsts, done, *g)?)),
         TermForm::Bound(x) => Ok(Source::Built(of_bound(alloc, done, *x)?)),
         TermForm::Number(value) => Ok(Source::Built(of_number(alloc, done, *value)?)),
         TermForm::Truth(value) => Ok(Source::Built(of_truth(alloc, done, *value)?)),
@@ -79,7 +83,7 @@ fn of_inner(
     }
 }
 
-fn copied(scheme: &Scheme) -> Result<Scheme, Memory>
+pub(crate) fn copied(scheme: &Scheme) -> Result<Scheme, Memory>
     ensures same { IfOk result (λ copy. copy ≡ scheme.now) }
     ensures rise { IfOk result (λ copy. BindersRise scheme.now.env) }
 {
@@ -93,8 +97,30 @@ fn copied(scheme: &Scheme) -> Result<Scheme, Memory>
     })
 }
 
-// The scheme of a name of the environment.
+// The scheme of a name of the environment: a copy of one that was read before, or one that is read now.
 fn of_global(
+    alloc: Global,
+    names: &Names,
+    reads: &Reads,
+    firsts: &BTreeMap<usize, usize>,
+    done: &Finished,
+    g: usize,
+) -> Result<Scheme, Memory>
+    requires names { AreNames names.now }
+    requires reads { AreReads (schemes_in names.now) reads.now }
+    requires there { g < length (schemes_in names.now) }
+    ensures { IfOk result (IsNamedBy (scope_of names.now firsts.now) (form.Global g) done.now) }
+{
+    match reads.get(&g) {
+        Some(scheme) => {
+            let copy = copied(scheme)?;
+            Ok(copy)
+        }
+        None => read_now(alloc, names, firsts, done, g),
+    }
+}
+
+fn read_now(
     alloc: Global,
     names: &Names,
     firsts: &BTreeMap<usize, usize>,
@@ -212,9 +238,33 @@ fn of_record(alloc: Global, done: &mut Finished, parts: &Parts) -> Result<Constr
     ensures posed { IfOk result (IsPosedBy (form.Make parts.now) done.old) }
     ensures others { OnOk result (KeepsOthers (form.Make parts.now) done.old done.new) }
 {
+    if parts.len() == 1 {
+        let posed = of_one_part(alloc, done, parts)?;
+        return Ok(posed);
+    }
     let schemes = done.take_each(alloc, parts.as_slice())?;
     let posed = record(alloc, parts, schemes.as_slice())?;
     Ok(posed)
+}
+
+fn of_one_part(alloc: Global, done: &mut Finished, parts: &Parts) -> Result<Constraints, Memory>
+    requires parts { HasParts (form.Make parts.now) done.old }
+    requires one { length parts.now ≡ 1 }
+    ensures posed { IfOk result (IsPosedBy (form.Make parts.now) done.old) }
+    ensures others { OnOk result (KeepsOthers (form.Make parts.now) done.old done.new) }
+{
+    let child = only_child(parts.as_slice());
+    let part = done.take(child);
+    let posed = record_of_one(alloc, parts, part)?;
+    Ok(posed)
+}
+
+// The root of the only part.
+fn only_child(parts: &[Part]) -> usize
+    requires { length parts.now ≡ 1 }
+    ensures { map child_of parts.now ≡ result ∷ [] }
+{
+    parts[0].child
 }
 
 fn of_let(

@@ -242,6 +242,34 @@ pub(crate) fn record(
     })
 }
 
+/// Of a record of one part: the automaton of the part with one more state.
+pub(crate) fn record_of_one(
+    alloc: Global,
+    parts: &Parts,
+    part: Scheme,
+) -> Result<Constraints, Memory>
+    requires part { IsScheme part }
+    requires one { length parts.now ≡ 1 }
+    requires labels { AllPairs (λ x y. x ≢ y) (part_labels parts.now) }
+    ensures constraint { IfOk result (λ c. IsMadeOf (part_labels parts.now) (part ∷ []) (constraint_of c)) }
+    ensures states { IfOk result (λ c. HasStates (constraint_of c).scheme) }
+    ensures goals { IfOk result (λ c. All (IsGoalOf c.automaton) c.goals) }
+{
+    let env = entries_of(alloc, &part.env)?;
+    let named = parts.as_slice();
+    let rows = rows_of(alloc, named, &[part.root])?;
+    let fields = fields_of(alloc, &rows)?;
+    let head = fields_head(fields);
+    let mut automaton = part.automaton;
+    let root = automaton.state(Polarity::Positive, head)?;
+    Ok(Constraints {
+        automaton,
+        env,
+        root,
+        goals: List::new(alloc),
+    })
+}
+
 /// Of a let: the second part, and what the first part needs.
 pub(crate) fn let_in(alloc: Global, bound: Scheme, body: &Scheme) -> Result<Constraints, Memory>
     requires bound { IsScheme bound }

@@ -1,13 +1,12 @@
 //! Constraints are solved: the scheme with their types, or why there is none.
-ghost use Rattle.std.specs.Prelude.{◌≡◌, ◌≤◌, All, IfErr, IfOk, OnOk, count_by};
+ghost use Rattle.std.specs.Prelude.{◌≡◌, All, IfErr, IfOk};
 ghost use Rattle.mls_automaton.specs.declared.scheme.Scheme.{Scheme};
 ghost use Rattle.mls_automaton.specs.Automata.{head_at};
 ghost use Rattle.mls_automaton.specs.Environments.{BindersRise};
 ghost use Rattle.mls_automaton.specs.Models.{IsClosed};
-ghost use Rattle.mls_automaton.specs.Schemes.{IsScheme, AreEquivalentSchemes};
+ghost use Rattle.mls_automaton.specs.Schemes.{IsScheme};
 ghost use Rattle.mls_biunify.specs.Clashes.{Clashes, label_of};
 ghost use Rattle.mls_biunify.specs.Relations.{IsGoalOf};
-ghost use Rattle.mls_biunify.specs.Rooms.{Fits, is_negative, is_positive};
 ghost use Rattle.mls_infer.specs.Constraints.{HasStates};
 ghost use Rattle.mls_infer.specs.Posed.{constraint_of};
 ghost use Rattle.mls_infer.specs.Solved.{ClashesFirst, HasField, IsClashWithout, IsSolvedFor, TellsFirstClash, TellsKind};
@@ -16,14 +15,12 @@ ghost use Rattle.mls_infer.specs.Steps.{IsSolution};
 use crate::constraints::Constraints;
 use crate::fault::SiteKind;
 use crate::merge::{Solvable, merge};
-use mls_automaton::automaton::{Automaton, Head, Polarity};
-use mls_automaton::scheme::{Env, Scheme};
-use mls_automaton::state_set::StateId;
+use mls_automaton::automaton::{Automaton, Head};
+use mls_automaton::scheme::Scheme;
 use mls_base::memory::Memory;
 use mls_biunify::goal::{Clash, ClashKind, Goal};
-use mls_biunify::materialise::materialise;
-use mls_biunify::room::Room;
-use mls_biunify::saturate::saturate;
+use mls_biunify::search::{first_clash_of, search};
+use mls_biunify::settle::settle;
 use mls_book::name::Name;
 use std::alloc::Global;
 
@@ -46,13 +43,13 @@ impl From<Memory> for NoSolution {
     }
 }
 
-/// The scheme that has just the types of the constraints, over the states alone that are reached. The room serves many
-/// calls; where the automaton does not fit, a new one takes its place, with space for a quarter more states.
+/// The scheme that has just the types of the constraints. Without goals it is that of the constraints themselves; else
+/// their automaton is solved in place, in time that grows with the pairs that are related and the states at their edges.
 ///
 /// # Errors
 ///
 /// `Clash` where the constraints have no types: the first of the clashes. `Memory` where memory is wanting.
-pub fn solve(alloc: Global, room: &mut Room, c: Constraints) -> Result<Scheme, NoSolution>
+pub fn solve(alloc: Global, c: Constraints) -> Result<Scheme, NoSolution>
     requires states { HasStates (constraint_of c).scheme }
     requires goals { All (IsGoalOf c.automaton) c.goals }
     ensures solution { IfOk result (IsSolution (constraint_of c)) }
@@ -62,89 +59,36 @@ pub fn solve(alloc: Global, room: &mut Room, c: Constraints) -> Result<Scheme, N
     ensures first { IfErr result (TellsFirstClash (constraint_of c)) }
 {
     let Solvable { scheme, goals } = merge(alloc, c)?;
-    let automaton = solved(alloc, room, &scheme.automaton, goals.as_slice())?;
-    let whole = Scheme {
+    if goals.is_empty() {
+        return Ok(scheme);
+    }
+    let automaton = solved(alloc, scheme.automaton, goals.as_slice())?;
+    Ok(Scheme {
         automaton,
         env: scheme.env,
         root: scheme.root,
-    };
-    let kept = whole.keep_reachable()?;
-    binders_rise(&kept.env);
-    Ok(kept)
+    })
 }
 
-// Of each environment this is known.
-fn binders_rise(env: &Env)
-    ensures { BindersRise env.now }
+// The automaton, solved by the goals.
+fn solved(alloc: Global, a: Automaton, goals: &[Goal]) -> Result<Automaton, NoSolution>
+    requires closed { IsClosed a }
+    requires goals { All (IsGoalOf a) goals.now }
+    ensures ok { IfOk result (IsSolvedFor a goals.now) }
+    ensures err { IfErr result (ClashesFirst a goals.now) }
 {
-    env.as_slice();
-}
-
-// The solved automaton of the goals.
-fn solved(
-    alloc: Global,
-    room: &mut Room,
-    a: &Automaton,
-    goals: &[Goal],
-) -> Result<Automaton, NoSolution>
-    requires closed { IsClosed a.now }
-    requires goals { All (IsGoalOf a.now) goals.now }
-    ensures ok { IfOk result (IsSolvedFor a.now goals.now) }
-    ensures err { IfErr result (ClashesFirst a.now goals.now) }
-{
-    make_room(alloc, room, a)?;
-    match saturate(room, a, goals) {
+    let mut a = a;
+    let found = search(alloc, &a, goals)?;
+    match first_clash_of(&found, &a) {
         Ok(()) => {
-            let solved = materialise(alloc, room, a)?;
-            Ok(solved)
+            settle(alloc, &found, &mut a)?;
+            Ok(a)
         }
         Err(clash) => {
-            let mismatch = told(a, clash)?;
+            let mismatch = told(&a, clash)?;
             Err(NoSolution::Clash(mismatch))
         }
     }
-}
-
-// Takes a new room where the automaton does not fit.
-fn make_room(alloc: Global, room: &mut Room, a: &Automaton) -> Result<(), Memory>
-    ensures { OnOk result (Fits a.now room.new) }
-{
-    if !room.fits(a) {
-        *room = new_room(alloc, a)?;
-    }
-    Ok(())
-}
-
-// A room with space for more states.
-fn new_room(alloc: Global, a: &Automaton) -> Result<Room, Memory>
-    ensures { IfOk result (Fits a.now) }
-{
-    let positives = positives(a);
-    let negatives = a.len() - positives;
-    let rows = with_spare(positives)?;
-    let columns = with_spare(negatives)?;
-    let room = Room::new(alloc, rows, columns)?;
-    Ok(room)
-}
-
-fn with_spare(count: usize) -> Result<usize, Memory>
-    ensures { IfOk result (λ size. count ≤ size) }
-{
-    count.checked_add(count / 4 + 8).ok_or(Memory)
-}
-
-// How many positive states there are.
-fn positives(a: &Automaton) -> usize
-    ensures { result ≡ count_by is_positive a.now.states }
-{
-    let mut count = 0usize;
-    for s in 0..a.len() {
-        match a.polarity(StateId(s)) {
-            Polarity::Positive => count += 1,
-            Polarity::Negative => {}
-        }
-    }
-    count
 }
 
 // The clash, without states.

@@ -4,7 +4,8 @@ ghost use Rattle.mls_automaton.specs.Schemes.{IsScheme};
 
 use crate::constraints::Constraints;
 use crate::rows::{
-    application, bound, conditional, function, let_in, number, projection, record, recursion, truth,
+    application, bound, conditional, function, let_in, number, projection, record, record_of_one,
+    recursion, truth,
 };
 use mls_automaton::scheme::Scheme;
 use mls_base::list::List;
@@ -92,5 +93,8 @@ fn a_record_has_its_constraint(rt: HostRuntime) -> Result<(), Fail> {
     let schemes = one_scheme(alloc)?;
     let made = record(alloc, &parts, schemes.as_slice())?;
     assert!(rt; has_shape(&made, [3, 1, 1, 2, 0]));
+    let part = used(alloc, 0)?;
+    let alone = record_of_one(alloc, &parts, part)?;
+    assert!(rt; has_shape(&alone, [3, 1, 1, 2, 0]));
     Ok(())
 }

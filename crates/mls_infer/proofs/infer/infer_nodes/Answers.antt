@@ -35,7 +35,7 @@ returns-in-Err-Clash-clause-kind c =
     let stop : IsStop node.form c.loop-i.done c.in-Err-Clash.kind = search rules in
     λ t are.
     let told : IsKindAt scope.globals t c.loop-i.i c.in-Err-Clash.kind = subst (λ (i : ℕ). IsKindAt scope.globals t i c.in-Err-Clash.kind) c.loop-i.invariant.0 (stops_here scope nodes c.loop-i.i c.loop-i.done c.loop-i.invariant.1 low node is c.in-Err-Clash.kind stop t are).1 in
-    search rules
+    rw c.in-Err-Clash.field-0-is told
 
 pub loop-i-preserved : goal.loop-i-preserved
 loop-i-preserved c =

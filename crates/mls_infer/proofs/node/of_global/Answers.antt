@@ -1,14 +1,10 @@
-use Rattle.std.proofs.Common.{◌≡◌, ◌<◌, List, length, get_or, rules, subst}
-use Rattle.std.proofs.lemmas.List.{length-map}
-use Rattle.mls_typetext.specs.declared.scheme.ReadScheme.{ReadScheme}
-use Rattle.mls_typetext.specs.Schemes.{scheme_of}
-use Rattle.mls_infer.proofs.KnownSchemes.{named_read}
+use Rattle.std.proofs.Common.{◌≡◌, rules, Some}
+use Rattle.std.specs.BTreeMap.{get}
+use Rattle.std.specs.Ordering.{nat_cmp}
+use Rattle.mls_infer.proofs.KnownSchemes.{named_again}
 use Rattle.mls_infer.proofs.node.of_global.Goals as goal
 
-pub returns : goal.returns
-returns c =
-    let reads : List ReadScheme = c.args.names.now.schemes in
-    let read : ReadScheme = c.index-as_slice-g.result in
-    let low : c.args.g < length reads = subst (λ n. c.args.g < n) (length-map reads scheme_of) c.requires.there in
-    let at : get_or reads c.args.g read ≡ read = search rules in
-    named_read c.args.names.now c.args.firsts.now c.args.done.now c.args.g read c.in_ok-scheme.scheme c.requires.names low at c.in_ok-scheme.ensures.scheme c.in_ok-scheme.ensures.env c.in_ok-scheme.ensures.equivalent
+pub returns-in_ok-copy-in-Some : goal.returns-in_ok-copy-in-Some
+returns-in_ok-copy-in-Some c =
+    let there : get nat_cmp c.args.reads.now c.args.g ≡ Some c.in-Some.scheme.now = search rules in
+    named_again c.args.names.now c.args.firsts.now c.args.done.now c.args.g c.in-Some.scheme.now c.in_ok-copy-in-Some.copy (c.requires.reads c.args.g c.in-Some.scheme.now there) c.in_ok-copy-in-Some.ensures.same

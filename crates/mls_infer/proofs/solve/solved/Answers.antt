@@ -1,13 +1,14 @@
 use Rattle.mls_biunify.specs.Relations.{IsGoal, IsRelated}
 use Rattle.mls_biunify.specs.Rooms.{Holds}
 use Rattle.mls_biunify.proofs.SolvedRooms.{solved-same}
+use Rattle.mls_infer.proofs.SolvedConstraints.{free_same}
 use Rattle.mls_infer.proofs.solve.solved.Goals as goal
 
-pub returns-in_ok-solved-in-Ok-clause-ok : goal.returns-in_ok-solved-in-Ok-clause-ok
-returns-in_ok-solved-in-Ok-clause-ok c = record {
-  room = c.saturate.new.room;
-  relation = c.saturate.ensures.relation;
-  free = c.in-Ok.ensures.ok;
-  is_solved = solved-same c.args.a.now (Holds c.saturate.new.room) (IsRelated c.args.a.now (IsGoal c.args.goals.now)) c.saturate.ensures.relation c.in_ok-solved-in-Ok.solved c.in_ok-solved-in-Ok.ensures.solved;
-  closed = c.in_ok-solved-in-Ok.ensures.closed;
+pub returns-in_ok-settle-in-Ok-clause-ok : goal.returns-in_ok-settle-in-Ok-clause-ok
+returns-in_ok-settle-in-Ok-clause-ok c = record {
+  room = c.in_ok-found.found;
+  relation = c.in_ok-found.ensures.relation;
+  free = free_same c.args.a (Holds c.in_ok-found.found) (IsRelated c.args.a (IsGoal c.args.goals.now)) c.in_ok-found.ensures.relation c.in-Ok.ensures.ok;
+  is_solved = solved-same c.args.a (Holds c.in_ok-found.found) (IsRelated c.args.a (IsGoal c.args.goals.now)) c.in_ok-found.ensures.relation c.settle.new.a c.in_ok-settle-in-Ok.ensures.solved;
+  closed = c.in_ok-settle-in-Ok.ensures.closed;
 }
