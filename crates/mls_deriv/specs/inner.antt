@@ -1,0 +1,5 @@
+-- What the functions of the crate do one step at a time. No public clause cites it.
+pub mod Tables
+pub mod PairRules
+pub mod Rules
+pub mod Walks
