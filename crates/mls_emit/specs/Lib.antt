@@ -1,0 +1,10 @@
+pub mod Shown
+pub mod Trees
+pub mod Heads
+pub mod Layouts
+pub mod Uses
+pub mod Emitted
+pub mod Runs
+pub mod Rows
+pub mod Scopes
+pub mod Posed

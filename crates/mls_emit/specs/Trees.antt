@@ -1,0 +1,39 @@
+-- Trees of joins, for positive places, and of meets, for negative places.
+use Rattle.std.specs.Prelude.{◌≡◌, ℕ, List, Contains}
+use Rattle.mls_book.specs.declared.book.NodeId.{NodeId}
+use Rattle.mls_book.specs.declared.book.Node.{Node}
+use Rattle.mls_book.specs.declared.book.Node.TheVariants as node
+use Rattle.mls_book.specs.Books.{node_at}
+use Rattle.mls_automaton.specs.declared.automaton.Polarity.{Polarity}
+use Rattle.mls_automaton.specs.declared.automaton.Polarity.TheVariants.{Positive, Negative}
+
+-- the node of no member, and that of two trees
+abbrev pub none_node : Polarity → Node
+none_node Positive = node.Bot
+none_node Negative = node.Top
+
+abbrev pub two_node : Polarity → NodeId → NodeId → Node
+two_node Positive l r = node.Join l r
+two_node Negative l r = node.Meet l r
+
+-- every member of the tree is of this kind
+pub data HasOnly (book : List Node) (p : Polarity) (Member : ℕ → Type 0) : ℕ → Type 0 where
+  member : {i : ℕ} → Member i → HasOnly book p Member i
+  none : {i : ℕ} → node_at book i ≡ none_node p → HasOnly book p Member i
+  two : {i : ℕ} (l r : NodeId) → node_at book i ≡ two_node p l r → HasOnly book p Member l.0
+      → HasOnly book p Member r.0 → HasOnly book p Member i
+
+-- the tree of node i has the member j
+pub data HasMember (book : List Node) (p : Polarity) (j : ℕ) : ℕ → Type 0 where
+  here : {i : ℕ} → i ≡ j → HasMember book p j i
+  first : {i : ℕ} (l r : NodeId) → node_at book i ≡ two_node p l r → HasMember book p j l.0 → HasMember book p j i
+  second : {i : ℕ} (l r : NodeId) → node_at book i ≡ two_node p l r → HasMember book p j r.0 → HasMember book p j i
+
+-- node i is the join or the meet of just these members
+pub record IsTree (book : List Node) (p : Polarity) (Member : ℕ → Type 0) (i : ℕ) : Type 0 where
+  pub only : HasOnly book p Member i
+  pub each : (j : ℕ) → Member j → HasMember book p j i
+
+-- the nodes of these states
+abbrev pub IsPlaceIn : (ℕ → ℕ) → List ℕ → ℕ → Type 0
+IsPlaceIn place set i = (s : ℕ) × Contains set s × (place s ≡ i)
