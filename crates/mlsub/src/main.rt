@@ -1,10 +1,13 @@
-//! The program: its words, the store over the current directory, the sink over standard output, and `run`.
+//! The program: its words, the search path over directories, the sink over standard output, and `run`.
 #![tactic(auto)]
 
 ghost use Rattle.std.specs.Prelude.{◌≡◌, ◌≢◌};
 
+use mls_base::memory::Memory;
 use mls_io::directory::DirStore;
 use mls_io::output::OutSink;
+use mls_io::path::SearchPath;
+use mls_io::store::Store;
 use mls_top::run::run;
 use mls_top::status::Status;
 use std::io::ErrorKind;
@@ -15,6 +18,9 @@ use std::{env, io};
 // The exit code of a program that finds no memory before it runs a command.
 const NO_MEMORY: u8 = 7;
 
+// The directories that files are looked for in, the one that is asked first in front.
+const FOLDERS: [&str; 2] = [".", "lib"];
+
 // What a person is told whose words are no command.
 const HELP: &str = "mlsub 0.1.0 infers the types of modules, and compares them with interfaces.
 
@@ -22,28 +28,38 @@ const HELP: &str = "mlsub 0.1.0 infers the types of modules, and compares them w
   mlsub check NAME    tells whether NAME.ml has all that NAME.mli declares
 
 Both read the interface of each module that NAME.ml imports, and no other module.
+A file is looked for in the current folder first, and then in its subfolder lib.
 Answers go to standard output, and the exit code tells their kind: 0 done, 1 a
 binding without a type, 2 a promise not kept, 3 a fault of a text, 4 no such file,
 5 a file not read, 6 an answer not written, 7 no memory, 8 no command, 11 a file
 too long.";
 
 fn main(rt: HostRuntime) -> ExitCode {
-    let alloc = rt.alloc();
     let words = match words(&rt) {
         Ok(words) => words,
         Err(error) => return ExitCode::from(code_without_words(error.kind())),
     };
-    let mut store = match DirStore::new(rt, alloc, ".") {
-        Ok(store) => store,
+    let status = match run_words(rt, &words) {
+        Ok(status) => status,
         Err(_) => return ExitCode::from(NO_MEMORY),
     };
-    let mut sink = OutSink::new(rt);
-    let status = run(alloc, &words, &mut store, &mut sink);
     if let Some(text) = told(status) {
         // where nothing can be told, the exit code has told it
         let _ = rt.eprintln(text);
     }
     ExitCode::from(status.code())
+}
+
+// Runs the command of these words over the directories, and writes its answer to standard output.
+fn run_words(rt: HostRuntime, words: &Vec<String>) -> Result<Status, Memory> {
+    let alloc = rt.alloc();
+    let mut members: Vec<Box<dyn Store>> = Vec::new(alloc);
+    for folder in FOLDERS {
+        members.push(Box::new(alloc, DirStore::new(rt, alloc, folder)?)?)?;
+    }
+    let mut store = SearchPath::new(members);
+    let mut sink = OutSink::new(rt);
+    Ok(run(alloc, words, &mut store, &mut sink))
 }
 
 // What standard error is told of a run, beside the answer on standard output.

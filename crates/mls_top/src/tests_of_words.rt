@@ -1,0 +1,76 @@
+//! Words of command lines.
+use crate::run::run;
+use crate::samples::words_of;
+use mls_io::memory::SureSink;
+use mls_io::store::{Fetch, Store};
+use std::test::Fail;
+
+// A store without files that counts its fetches, and may fail at each.
+#[derive(Drop)]
+struct CountingStore {
+    is_broken: bool,
+    fetches: usize,
+    has_failed: bool,
+    has_missed: bool,
+}
+
+impl Store for CountingStore {
+    ghost use Rattle.std.specs.Prelude.{Some, [], false};
+
+    ghost holdings = { λ store. record {
+      files = Some [];
+      faults = record { value = 0; is_worn = store.has_failed };
+      misses = record { value = 0; is_worn = store.has_missed };
+      longs = record { value = 0; is_worn = false };
+    } };
+
+    fn fetch(&mut self, _name: &str, _limit: usize, _into: &mut Vec<u8>) -> Fetch {
+        self.fetches = self.fetches.saturating_add(1);
+        if self.is_broken {
+            self.has_failed = true;
+            Fetch::Failed
+        } else {
+            self.has_missed = true;
+            Fetch::Missing
+        }
+    }
+}
+
+#[test]
+fn reads_words_and_fetches_once(rt: HostRuntime) -> Result<(), Fail> {
+    let alloc = rt.alloc();
+    let usage = "usage: mlsub COMMAND OPERANDS\n";
+    for (words, is_broken, printed, code, fetches) in [
+        (&[].as_slice(), false, usage, 8, 0),
+        (&["infer"].as_slice(), false, usage, 8, 0),
+        (&["infer", "main", "extra"].as_slice(), false, usage, 8, 0),
+        (&["infer", "--help"].as_slice(), false, usage, 8, 0),
+        (&["infer", "Main"].as_slice(), false, usage, 8, 0),
+        (&["infer", "let"].as_slice(), true, usage, 8, 0),
+        (&["check"].as_slice(), false, usage, 8, 0),
+        (&["check", "1"].as_slice(), false, usage, 8, 0),
+        (&["Check", "main"].as_slice(), false, usage, 8, 0),
+        (
+            &["infer", "main"].as_slice(),
+            false,
+            "main.ml: not found\n",
+            4,
+            1,
+        ),
+        (&["infer", "main"].as_slice(), true, "", 5, 1),
+        (&["check", "k"].as_slice(), false, "k.ml: not found\n", 4, 1),
+    ] {
+        let mut store = CountingStore {
+            is_broken,
+            fetches: 0,
+            has_failed: false,
+            has_missed: false,
+        };
+        let mut sink = SureSink::new(alloc);
+        let status = run(alloc, &words_of(alloc, words)?, &mut store, &mut sink);
+        assert_eq!(rt; status.code(), code, "{printed}");
+        assert_eq!(rt; sink.bytes(), printed.as_bytes());
+        assert_eq!(rt; store.fetches, fetches, "{printed}");
+    }
+    Ok(())
+}
