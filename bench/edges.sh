@@ -2,12 +2,14 @@
 # Runs the program where files, output, words, memory and the start are as seldom: each case has to end with its code,
 # and never by a signal.
 #
-#     sh bench/edges.sh crates/mlsub/out/mlsub
+#     sh bench/edges.sh crates/mlsub/out/mlsub [TEXTS]
 #
-# It works in a folder of its own, which it removes, and ends with 0 where all cases ended so.
+# It works in a folder of its own, which it removes, and ends with 0 where all cases ended so. Where a folder of texts is
+# given, as `infer-bench write TEXTS` makes it, each is inferred, and checked against its own signature.
 set -u
-[ $# -eq 1 ] || { echo "usage: sh bench/edges.sh PROGRAM" >&2; exit 2; }
+[ $# -eq 1 ] || [ $# -eq 2 ] || { echo "usage: sh bench/edges.sh PROGRAM [TEXTS]" >&2; exit 2; }
 program=$(readlink -f "$1") || exit 2
+texts=$(readlink -f "${2:-/dev/null}")
 top=$(cd "$(dirname "$0")/.." && pwd)
 work=$(mktemp -d)
 trap 'rm -rf "$work"' EXIT
@@ -104,6 +106,43 @@ prints "val id : a -> a"
 { echo 'let p0 = fun x -> {a = x, b = x}'; i=0
   while [ $i -lt 40 ]; do echo "let p$((i + 1)) = fun x -> p$i (p$i x)"; i=$((i + 1)); done; } >grows.ml
 is 7 "types that outgrow memory of 64 MiB" sh -c 'ulimit -v 65536; timeout 60 "$0" infer grows' "$program"
+
+# generated modules
+is 0 "a generated module" "$program" generate 1 4
+prints "generate: 4 bindings, 182 bytes in, 120 bytes out"
+is 0 "the longest generated module" "$program" generate 1 10000
+is 0 "the same with memory of 64 MiB" sh -c 'ulimit -v 65536; "$0" generate 1 10000' "$program"
+is 0 "the same with a stack of 64 KiB" sh -c 'ulimit -s 64; "$0" generate 1 10000' "$program"
+is 8 "a generated module that is longer" "$program" generate 1 10001
+is 8 "a word that begins with a hyphen" "$program" generate -- 1 4
+is 6 "a summary on output that is full" sh -c '"$0" generate 1 4 >/dev/full' "$program"
+
+# the worst texts of a mebibyte
+if [ -d "$texts" ]; then
+  mkdir worst
+  cp "$texts"/*.mli worst/
+  for text in "$texts"/*.ml; do
+    name=$(basename "$text" .ml)
+    cp "$text" worst/
+    (cd worst && exec timeout 120 "$program" infer "$name" >"$name.mli" 2>/dev/null)
+    got=$?
+    case $got in
+      0)
+        (cd worst && exec timeout 120 "$program" check "$name" >/dev/null 2>&1)
+        got=$?
+        wanted=0
+        ;;
+      1 | 3 | 4) wanted=$got ;;
+      *) wanted="0, 1, 3 or 4" ;;
+    esac
+    if [ "$got" = "$wanted" ]; then
+      echo "ok      $got  the text $name"
+    else
+      echo "FAILED  $got instead of $wanted  the text $name"
+      failed=1
+    fi
+  done
+fi
 
 # the start script
 if [ -x "$top/mlsub" ]; then

@@ -14,6 +14,12 @@ fn joined(count: usize, between: &str, line: impl Fn(usize) -> String) -> String
 fn texts_of_inference() -> Vec<(&'static str, String)> {
     let fields = joined(3_000, ", ", |number| format!("l{number} = {number}"));
     let projections = joined(3_000, " + ", |number| format!("r.l{number}"));
+    // 150 parameters, and what is made of 6,000 of their fields, or of 8,000 uses
+    let parameters = joined(150, "", |number| format!("fun a{number} -> "));
+    let their_fields = joined(6_000, " + ", |number| format!("a{}.l{}", number % 150, number / 150));
+    let their_uses = joined(8_000, " ", |number| format!("a{}", number % 150));
+    let arguments = joined(2_000, " ", |number| format!("r.l{number}"));
+    let choices = joined(2_000, " + ", |number| format!("(if r.b{number} then r.l{number} else 1)"));
     let numerals = joined(3_000, "\n", |number| match number {
         0 => "let n0 = add one one".to_string(),
         _ => format!("let n{number} = add n{} one", number - 1),
@@ -32,6 +38,10 @@ fn texts_of_inference() -> Vec<(&'static str, String)> {
         ("fields", format!("let r = {{{fields}}}\nlet a = {projections}")),
         ("fields_of_let", format!("let a = let r = {{{fields}}} in {projections}")),
         ("fields_of_parameter", format!("let a = fun r -> {projections}")),
+        ("fields_of_parameters", format!("let a = {parameters}{their_fields}")),
+        ("uses_of_parameters", format!("let a = {parameters}{their_uses}")),
+        ("arguments_of_fields", format!("let a = fun f -> fun r -> f {arguments}")),
+        ("choices_of_fields", format!("let a = fun r -> {choices}")),
         ("operands", format!("let a = 1{}", "+1".repeat(249_999))),
         ("operands_of_parameter", format!("let a = fun x -> x{}", "+x".repeat(249_999))),
         ("lets_of_numbers", lets(0, "1", |number| format!("let x{number} = x{} + 1", number - 1))),
