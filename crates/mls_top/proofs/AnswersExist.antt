@@ -20,15 +20,16 @@ use Rattle.mls_iface.specs.Interfaces.{IsInterfaceText, HasInterfaceFault}
 use Rattle.mls_iface.proofs.InterfaceTotal.{interface_or_fault}
 use Rattle.mls_modules.specs.Environments.{declared_names}
 use Rattle.mls_top.specs.declared.command.Command.{Command}
-use Rattle.mls_top.specs.declared.command.Command.TheVariants.{Infer, Check}
+use Rattle.mls_top.specs.declared.command.Command.TheVariants.{Infer, Check, Generate}
 use Rattle.mls_top.specs.declared.status.Status.{Status}
 use Rattle.mls_top.specs.declared.status.Status.TheVariants.{Usage}
 use Rattle.mls_top.specs.Commands.{command_of}
+use Rattle.mls_top.specs.Generator.{generated_name, generated_files}
 use Rattle.mls_top.specs.Lines.{module_file, interface_file, usage_line}
 use Rattle.mls_top.specs.Refusals.{Refusal, for_fault, for_interface_fault, text_at, refusal_status, refusal_text}
 use Rattle.mls_top.specs.Outcomes.{module_limit, is_module, is_faulty, ReadsInterface, no_interface, is_interface, is_no_interface, ReadsImports, no_import, first_refused, later_refused, all_read, unknown_name, refused, InfersText, bad_module, bad_import, has_imports, Infers, no_text, has_text, no_signature}
-use Rattle.mls_top.specs.Answers.{IsAnswer, IsAnswerOf, no_command, of_command, infer, check}
-use Rattle.mls_top.specs.Laws.{InfersTypesOf, AskForTypes, AnswerExists}
+use Rattle.mls_top.specs.Answers.{IsAnswer, IsAnswerOf, no_command, of_command, infer, check, generate}
+use Rattle.mls_top.specs.Laws.{InfersTypesOf, files_for, AskForTypes, AnswerExists}
 
 module _ (files : Files) where
   -- every interface is read or refused,
@@ -98,21 +99,27 @@ module _ (files : Files) where
     of_text text (inl (tree, is)) = by_imports text tree is (imports_read (module_of tree).imports)
     of_text text (inr (fault, has)) = inl (for_fault (module_file x) text fault, bad_module (is_faulty has))
 
+module _ (files : Files) where
   -- a command that infers the types of a refused module has its refusal as answer
-  answer_of : (x : List ℕ) (command : Command) → InfersTypesOf x command → (r : Refusal) → Infers files x (refused r) → IsAnswerOf files command (refusal_status r) (refusal_text r)
+  answer_of : (x : List ℕ) (command : Command) → InfersTypesOf x command → (r : Refusal) → Infers (files_for files command) x (refused r) → IsAnswerOf files command (refusal_status r) (refusal_text r)
   answer_of x (Infer y) same r h = let P : List ℕ → Type 0 = λ x. Infers files x (refused r) in infer y (refused r) (subst P (sym same) h) refl refl
   answer_of x (Check y) same r h =
       let P : List ℕ → Type 0 = λ x. Infers files x (refused r) in check y (refused r) (no_signature (subst P (sym same) h)) refl refl
+  answer_of x (Generate seed count) same r h =
+      let P : List ℕ → Type 0 = λ x. Infers (generated_files seed count) x (refused r) in generate seed count (refused r) (subst P (sym same) h) refl refl
 
   module _ (words : List (List ℕ)) where
     abbrev HasAnswer : Type 0
     HasAnswer = ((status : Status) × (text : List ℕ) × IsAnswer files words status text) ⊎ AskForTypes files words
 
     module _ (x : List ℕ) (command : Command) (infers : InfersTypesOf x command) (e : command_of words ≡ Some command) where
-      is_refused : (r : Refusal) → Infers files x (refused r) → HasAnswer
+      abbrev from : Files
+      from = files_for files command
+
+      is_refused : (r : Refusal) → Infers from x (refused r) → HasAnswer
       is_refused r h = inl (refusal_status r, refusal_text r, of_command command e (answer_of x command infers r h))
 
-      of_found : (text : List ℕ) → text_at files (module_file x) module_limit ≡ Ok text → Found x text → HasAnswer
+      of_found : (text : List ℕ) → text_at from (module_file x) module_limit ≡ Ok text → Found from x text → HasAnswer
       of_found text there (inl (r, h)) = is_refused r (has_text there h)
       of_found text there (inr it) = inr (record {
         x = x;
@@ -129,17 +136,18 @@ module _ (files : Files) where
         resolves = it.resolves;
       })
 
-      of_file : (r : Result (List ℕ) Refusal) → text_at files (module_file x) module_limit ≡ r → HasAnswer
+      of_file : (r : Result (List ℕ) Refusal) → text_at from (module_file x) module_limit ≡ r → HasAnswer
       of_file (Err r) there = is_refused r (no_text there)
-      of_file (Ok text) there = of_found text there (of_text x text (tree_or_fault text))
+      of_file (Ok text) there = of_found text there (of_text from x text (tree_or_fault text))
 
       of_command_is : HasAnswer
-      of_command_is = of_file (text_at files (module_file x) module_limit) refl
+      of_command_is = of_file (text_at from (module_file x) module_limit) refl
 
     of_words : (o : Option Command) → command_of words ≡ o → HasAnswer
     of_words None e = inl (Usage, usage_line, no_command e)
     of_words (Some (Infer x)) e = of_command_is x (Infer x) refl e
     of_words (Some (Check x)) e = of_command_is x (Check x) refl e
+    of_words (Some (Generate seed count)) e = of_command_is generated_name (Generate seed count) refl e
 
 pub answer_exists : AnswerExists
 answer_exists files words = of_words files words (command_of words) refl

@@ -85,7 +85,7 @@ learned_nothing None names P all = record { files = []; of_store = tt; only = λ
 learned_nothing (Some those) names P all = record { files = those; of_store = refl; only = tt; holds = λ others agree. all others }
 
 -- the bytes of the one file there is
-bytes_of_one : (file bytes : List ℕ) → bytes_at ((file, bytes) ∷ []) file ≡ Some bytes
+pub bytes_of_one : (file bytes : List ℕ) → bytes_at ((file, bytes) ∷ []) file ≡ Some bytes
 bytes_of_one file bytes = ap (λ b. option_map (λ (f : List ℕ × List ℕ). f.1) (cond b (Some (file, bytes)) None)) ((bytes_eq-Decides file file).1 refl)
 
 no_other : (b : Bool) (file bytes : List ℕ) → (b ≡ true → ⊥) → option_map (λ (f : List ℕ × List ℕ). f.1) (cond b (Some (file, bytes)) None) ≡ None
@@ -114,7 +114,7 @@ module _ (told : Option Files) (file : List ℕ) (limit : ℕ) where
       learned_then told (λ f. f ≡ file) (λ f. f ≡ file) (λ files. bytes_at files file ≡ bytes) (λ files. text_at files file limit ≡ text)
       (λ x n. n) (λ files same. ap (found file limit) same ∙ is) (learned_bytes told file bytes h)
 
-short : (file : List ℕ) (limit : ℕ) (bytes : List ℕ) → length bytes ≤ limit → within file limit bytes ≡ Ok bytes
+pub short : (file : List ℕ) (limit : ℕ) (bytes : List ℕ) → length bytes ≤ limit → within file limit bytes ≡ Ok bytes
 short file limit bytes low = cond-false (nat_lt limit (length bytes)) (Err (too_long file limit)) (Ok bytes) (le-ltb limit (length bytes) low)
 
 long : (file : List ℕ) (limit : ℕ) (bytes : List ℕ) → limit < length bytes → within file limit bytes ≡ Err (too_long file limit)

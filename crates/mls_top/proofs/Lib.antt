@@ -1,6 +1,12 @@
 pub mod AlikeSignatures
 pub mod AnswersExist
+pub mod CommandLimits
+pub mod CommandNumbers
 pub mod FileNames
+pub mod FirstTokens
+pub mod GeneratedModules
+pub mod GeneratedRows
+pub mod GeneratedTexts
 pub mod ImportsRead
 pub mod InterfaceFaultsWithin
 pub mod InterfacesRead
@@ -9,9 +15,11 @@ pub mod OneAnswer
 pub mod OneLines
 pub mod OneReading
 pub mod Operators
+pub mod ParsedWords
 pub mod Running
 pub mod SamePlaces
 pub mod SignedModules
 pub mod SitesTold
 pub mod Telling
+pub mod WordsFound
 pub mod Written

@@ -22,10 +22,11 @@ use Rattle.mls_modules.proofs.SignatureLaws.{one_signature, no_fault_beside_sign
 use Rattle.mls_modules.proofs.ValidSignatures.{signatures_are_valid}
 use Rattle.mls_top.specs.declared.command.Command.{Command}
 use Rattle.mls_top.specs.declared.status.Status.{Status}
+use Rattle.mls_top.specs.Generator.{generated_name, generated_files}
 use Rattle.mls_top.specs.Lines.{module_file, no_scheme_line, too_special_line}
 use Rattle.mls_top.specs.Refusals.{Refusal, no_file, too_long, bad_text, no_scheme, absent, too_special, for_fault, refusal_status, refusal_text}
-use Rattle.mls_top.specs.Outcomes.{ReadsModule, is_module, ReadsImports, HasNoScheme, InfersBindings, unknown_name, one_has_none, all_inferred, Outcome, refused, signed, matching, outcome_status, outcome_text, InfersText, bad_module, bad_import, has_imports, Infers, no_text, has_text, Compares, all_match, one_is_absent, one_is_too_special, Checks, no_signature, bad_interface, compared}
-use Rattle.mls_top.specs.Answers.{no_command, of_command, IsAnswerOf, infer, check}
+use Rattle.mls_top.specs.Outcomes.{ReadsModule, is_module, ReadsImports, HasNoScheme, InfersBindings, unknown_name, one_has_none, all_inferred, Outcome, refused, signed, matching, outcome_status, outcome_text, generated_text, InfersText, bad_module, bad_import, has_imports, Infers, no_text, has_text, Compares, all_match, one_is_absent, one_is_too_special, Checks, no_signature, bad_interface, compared}
+use Rattle.mls_top.specs.Answers.{no_command, of_command, IsAnswerOf, infer, check, generate}
 use Rattle.mls_top.specs.Laws.{both_absent, both_too_special, AreAlike, OneAnswer}
 use Rattle.mls_top.proofs.AlikeSignatures.{one_answer_of_alike}
 use Rattle.mls_top.proofs.OneReading.{ok, err, ok_is, one_reading, one_interface_read, one_declared, valid_imports}
@@ -226,20 +227,34 @@ module _ (files : Files) (x : List ℕ) where
       let alike = one_inferred (signed s) (signed t) h k in
       one_comparison s t j alike.0 alike.1 o p (subst (λ (i : Interface). Compares x s i o) same is) is'
 
-told_so : (x : List ℕ) (o p : Outcome) (status other : Status) (text said : List ℕ) → AreAlike (outcome_status o) (outcome_status p) (outcome_text x o) (outcome_text x p)
-    → status ≡ outcome_status o → text ≡ outcome_text x o → other ≡ outcome_status p → said ≡ outcome_text x p
-    → AreAlike status other text said
-told_so x o p status other text said alike s t s' t' =
-    subst (λ (s : Status). AreAlike s other text said) (sym s)
-    (subst (λ (s : Status). AreAlike (outcome_status o) s text said) (sym s')
-    (subst (λ t. AreAlike (outcome_status o) (outcome_status p) t said) (sym t)
-    (subst (λ t. AreAlike (outcome_status o) (outcome_status p) (outcome_text x o) t) (sym t') alike)))
+-- two outcomes for a generated module are told alike
+told_generated : (seed count : ℕ) (o p : Outcome) → AreSame o p → AreAlike (outcome_status o) (outcome_status p) (generated_text seed count o) (generated_text seed count p)
+told_generated seed count (refused r) (refused s) same = same
+told_generated seed count (refused r) (signed s) same = absurd same
+told_generated seed count (refused r) matching same = absurd same
+told_generated seed count (signed s) (refused r) same = absurd same
+told_generated seed count (signed s) (signed t) same = record { one_status = refl; one_text = λ other _ _. absurd (other refl); one_binding = λ is. absurd (cc); one_declaration = λ is. absurd (cc) }
+told_generated seed count (signed s) matching same = absurd same
+told_generated seed count matching p same = absurd same
+
+-- answers that tell outcomes by these texts
+module _ (said_of : Outcome → List ℕ) where
+  told_so : (o p : Outcome) (status other : Status) (text said : List ℕ) → AreAlike (outcome_status o) (outcome_status p) (said_of o) (said_of p)
+      → status ≡ outcome_status o → text ≡ said_of o → other ≡ outcome_status p → said ≡ said_of p
+      → AreAlike status other text said
+  told_so o p status other text said alike s t s' t' =
+      subst (λ (s : Status). AreAlike s other text said) (sym s)
+      (subst (λ (s : Status). AreAlike (outcome_status o) s text said) (sym s')
+      (subst (λ t. AreAlike (outcome_status o) (outcome_status p) t said) (sym t)
+      (subst (λ t. AreAlike (outcome_status o) (outcome_status p) (said_of o) t) (sym t') alike)))
 
 one_command : (files : Files) (command : Command) (status other : Status) (text said : List ℕ) → IsAnswerOf files command status text → IsAnswerOf files command other said
     → AreAlike status other text said
 one_command files _ status other text said (infer x o found s t) (infer _ p found' s' t') =
-    told_so x o p status other text said (told files x o p (one_inferred files x o p found found')) s t s' t'
-one_command files _ status other text said (check x o found s t) (check _ p found' s' t') = told_so x o p status other text said (one_check files x o p found found') s t s' t'
+    told_so (outcome_text x) o p status other text said (told files x o p (one_inferred files x o p found found')) s t s' t'
+one_command files _ status other text said (check x o found s t) (check _ p found' s' t') = told_so (outcome_text x) o p status other text said (one_check files x o p found found') s t s' t'
+one_command files _ status other text said (generate seed count o found s t) (generate _ _ p found' s' t') =
+    told_so (generated_text seed count) o p status other text said (told_generated seed count o p (one_inferred (generated_files seed count) generated_name o p found found')) s t s' t'
 
 pub one_answer : OneAnswer
 one_answer files words _ _ _ _ (no_command h) (no_command k) = record { one_status = refl; one_text = λ _ _ _. refl; one_binding = λ is. absurd (cc); one_declaration = λ is. absurd (cc) }

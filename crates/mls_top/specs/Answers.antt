@@ -2,12 +2,13 @@
 use Rattle.std.specs.Prelude.{◌≡◌, ℕ, List, ◌++◌, Option, Some, None, IfSome}
 use Rattle.mls_base.specs.Files.{Files}
 use Rattle.mls_top.specs.declared.command.Command.{Command}
-use Rattle.mls_top.specs.declared.command.Command.TheVariants.{Infer, Check}
+use Rattle.mls_top.specs.declared.command.Command.TheVariants.{Infer, Check, Generate}
 use Rattle.mls_top.specs.declared.status.Status.{Status}
 use Rattle.mls_top.specs.declared.status.Status.TheVariants.{Usage}
 use Rattle.mls_top.specs.Commands.{command_of}
+use Rattle.mls_top.specs.Generator.{generated_name, generated_files}
 use Rattle.mls_top.specs.Lines.{usage_line}
-use Rattle.mls_top.specs.Outcomes.{Outcome, Infers, Checks, outcome_status, outcome_text}
+use Rattle.mls_top.specs.Outcomes.{Outcome, Infers, Checks, outcome_status, outcome_text, generated_text}
 
 -- these files may be those of a store: where it tells its files, they are those
 abbrev pub MayBeThose : Option Files → Files → Type 0
@@ -23,6 +24,11 @@ pub data IsAnswerOf (files : Files) : Command → Status → List ℕ → Type 0
   check : {status : Status} {text : List ℕ} (x : List ℕ) (outcome : Outcome)
       → Checks files x outcome → status ≡ outcome_status outcome → text ≡ outcome_text x outcome
       → IsAnswerOf files (Check x) status text
+  -- the signature of a generated module, over the files where just its text is, whatever these files are
+  generate : {status : Status} {text : List ℕ} (seed count : ℕ) (outcome : Outcome)
+      → Infers (generated_files seed count) generated_name outcome
+      → status ≡ outcome_status outcome → text ≡ generated_text seed count outcome
+      → IsAnswerOf files (Generate seed count) status text
 
 -- the words answer with this status and this text over these files
 pub data IsAnswer (files : Files) (words : List (List ℕ)) : Status → List ℕ → Type 0 where

@@ -19,11 +19,12 @@ use Rattle.mls_iface.specs.Signatures.{IsPlain, entry_line}
 use Rattle.mls_modules.specs.Entries.{IsSignatureOf}
 use Rattle.mls_modules.specs.Environments.{declared_names}
 use Rattle.mls_top.specs.declared.command.Command.{Command}
-use Rattle.mls_top.specs.declared.command.Command.TheVariants.{Infer, Check}
+use Rattle.mls_top.specs.declared.command.Command.TheVariants.{Infer, Check, Generate}
 use Rattle.mls_top.specs.declared.status.Status.{Status}
 use Rattle.mls_top.specs.declared.status.Status.TheVariants.{Done, NoScheme, Mismatch}
 use Rattle.mls_top.specs.Answers.{IsAnswer}
 use Rattle.mls_top.specs.Commands.{command_of}
+use Rattle.mls_top.specs.Generator.{generated_name, generated_files}
 use Rattle.mls_top.specs.Lines.{module_file, no_scheme_line, absent_line, too_special_line}
 use Rattle.mls_top.specs.Outcomes.{module_limit, ReadsImports}
 use Rattle.mls_top.specs.Refusals.{text_at}
@@ -67,8 +68,14 @@ OneAnswer =
 abbrev pub InfersTypesOf : List ℕ → Command → Type 0
 InfersTypesOf x (Infer y) = y ≡ x
 InfersTypesOf x (Check y) = y ≡ x
+InfersTypesOf x (Generate seed count) = generated_name ≡ x
 
--- the words ask for the types of a module of these files whose imports are read and whose names have meanings
+-- the files that the module is read from, where these are those of the store
+abbrev pub files_for : Files → Command → Files
+files_for files (Generate seed count) = generated_files seed count
+files_for files _ = files
+
+-- the words ask for the types of a module whose imports are read and whose names have meanings
 pub record AskForTypes (files : Files) (words : List (List ℕ)) : Type 0 where
   pub x : List ℕ
   pub command : Command
@@ -78,9 +85,9 @@ pub record AskForTypes (files : Files) (words : List (List ℕ)) : Type 0 where
   pub m : Module
   pub imports : List Interface
   pub r : Resolved
-  pub text_is : text_at files (module_file x) module_limit ≡ Ok text
+  pub text_is : text_at (files_for files command) (module_file x) module_limit ≡ Ok text
   pub is_module : IsModuleText text m
-  pub reads : ReadsImports files m.imports (Ok imports)
+  pub reads : ReadsImports (files_for files command) m.imports (Ok imports)
   pub resolves : Resolves m (declared_names imports) r
 
 -- all words have an answer over all files, or ask for types of such a module

@@ -1,7 +1,9 @@
 pub mod Answers
 pub mod Commands
+pub mod Generator
 pub mod Laws
 pub mod Lines
+pub mod Numbers
 pub mod Outcomes
 pub mod Refusals
 pub mod Runs

@@ -130,6 +130,12 @@ no_scheme_line file line column x kind =
 abbrev pub matches_line : List ℕ → List ℕ
 matches_line x = x ++ codes " matches " ++ interface_file x ++ codes "\n"
 
+-- generate: COUNT bindings, B bytes in, G bytes out
+abbrev pub generated_line : (count bytes printed : ℕ) → List ℕ
+generated_line count bytes printed =
+    codes "generate: " ++ decimal count ++ codes " bindings, " ++ decimal bytes ++ codes " bytes in, "
+    ++ decimal printed ++ codes " bytes out\n"
+
 -- MODULE: val NAME is declared and not bound
 abbrev pub absent_line : (x declared : List ℕ) → List ℕ
 absent_line x declared = x ++ codes ": val " ++ declared ++ codes " is declared and not bound\n"

@@ -1,6 +1,6 @@
 -- What is found when a module's signature is asked for, or compared with its interface: stage by stage, up to the first
 -- that refuses.
-use Rattle.std.specs.Prelude.{◌≡◌, ℕ, List, [], ◌∷◌, slice_get, Some, Result, Ok, Err}
+use Rattle.std.specs.Prelude.{◌≡◌, ℕ, List, [], ◌∷◌, length, slice_get, Some, Result, Ok, Err}
 use Rattle.mls_base.specs.Files.{Files}
 use Rattle.mls_grammar.specs.declared.module.Module.{Module}
 use Rattle.mls_grammar.specs.declared.module.Import.{Import}
@@ -23,7 +23,8 @@ use Rattle.mls_modules.specs.Entries.{IsSignatureOf}
 use Rattle.mls_modules.specs.ModuleFaults.{HasModuleFault, IsWithoutScheme}
 use Rattle.mls_top.specs.declared.status.Status.{Status}
 use Rattle.mls_top.specs.declared.status.Status.TheVariants.{Done}
-use Rattle.mls_top.specs.Lines.{module_file, interface_file, matches_line}
+use Rattle.mls_top.specs.Generator.{generated_name, generated}
+use Rattle.mls_top.specs.Lines.{module_file, interface_file, matches_line, generated_line}
 use Rattle.mls_top.specs.Refusals.{Refusal, no_scheme, absent, too_special, for_fault, for_interface_fault, text_at}
 use Rattle.mls_top.specs.Refusals.{refusal_status, refusal_text}
 
@@ -139,3 +140,9 @@ abbrev pub outcome_text : List ℕ → Outcome → List ℕ
 outcome_text x (refused r) = refusal_text r
 outcome_text x (signed s) = signature_text s.entries
 outcome_text x matching = matches_line x
+
+-- the text that tells an outcome for a generated module: of a signature only its length, beside that of the module
+abbrev pub generated_text : (seed count : ℕ) → Outcome → List ℕ
+generated_text seed count (signed s) =
+    generated_line count (length (generated seed count)) (length (signature_text s.entries))
+generated_text seed count outcome = outcome_text generated_name outcome

@@ -1,12 +1,13 @@
 //! The middle phase of a run: the answer of a command. A new command adds a case here.
-ghost use Rattle.std.specs.Prelude.{◌≡◌, IfOk, IfErr, IsTrue};
+ghost use Rattle.std.specs.Prelude.{◌≡◌, ℕ, IfOk, IfErr, IsTrue};
 ghost use Rattle.mls_io.specs.Stores.{Follows};
 ghost use Rattle.mls_top.specs.Answers.{IsAnswerFor};
 ghost use Rattle.mls_top.specs.Statuses.{is_answer};
-ghost use Rattle.mls_top.specs.steps.Answering.{IsCaused, IsAsked, IsAskedStop};
+ghost use Rattle.mls_top.specs.steps.Answering.{IsCaused, IsAsked, IsAskedStop, IsWithinLimits};
 
 use crate::check::check;
 use crate::command::Command;
+use crate::generate::generate_and_infer;
 use crate::infer::infer;
 use crate::status::Status;
 use mls_base::memory::Memory;
@@ -53,7 +54,10 @@ impl From<Memory> for Stop {
 
 /// The answer of a command over a store.
 pub fn answer_to<S: Store>(alloc: Global, command: &Command, store: &mut S) -> Result<Answer, Halt>
+    requires limits { IsWithinLimits command.now }
     ensures follows { Follows (S.holdings store.old) (S.holdings store.new) }
+    ensures alone { (seed count : ℕ) → command.now ≡ Command.Generate seed count
+        → S.holdings store.new ≡ S.holdings store.old }
     ensures answer { IfOk result (λ answer. IsAnswerFor
         (S.holdings store.old).files command.now answer.status answer.text.items) }
     ensures caused { IsCaused (S.holdings store.old) (S.holdings store.new) result }
@@ -68,12 +72,16 @@ pub fn answer_to<S: Store>(alloc: Global, command: &Command, store: &mut S) -> R
 
 // What a command asks for over a store.
 fn asked<S: Store>(alloc: Global, command: &Command, store: &mut S) -> Result<Answer, Stop>
+    requires limits { IsWithinLimits command.now }
     ensures follows { Follows (S.holdings store.old) (S.holdings store.new) }
+    ensures alone { (seed count : ℕ) → command.now ≡ Command.Generate seed count
+        → S.holdings store.new ≡ S.holdings store.old }
     ensures answer { IfOk result (IsAsked (S.holdings store.old) (S.holdings store.new) command.now) }
     ensures stop { IfErr result (IsAskedStop (S.holdings store.old) (S.holdings store.new) command.now) }
 {
     match command {
         Command::Infer(name) => infer(alloc, store, name),
         Command::Check(name) => check(alloc, store, name),
+        Command::Generate { seed, count } => generate_and_infer(alloc, *seed, *count),
     }
 }

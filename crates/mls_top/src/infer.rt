@@ -82,8 +82,8 @@ pub fn signed<S: Store>(alloc: Global, store: &mut S, name: &Name) -> Result<Sig
     })
 }
 
-// The signature of the module that this text of a file is, where these are the interfaces of its imports.
-fn signature_of(
+/// The signature of the module that this text of a file is, where these are the interfaces of its imports.
+pub fn signature_of(
     alloc: Global,
     file: &str,
     text: &[u8],

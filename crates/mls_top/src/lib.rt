@@ -6,10 +6,14 @@ mod check;
 mod command;
 mod faults;
 mod fetching;
+mod generate;
+pub mod generator;
 mod infer;
 pub mod laws;
 mod lines;
 mod mismatches;
+mod numbers;
+mod parser;
 mod reading;
 pub mod run;
 #[cfg(test)]
@@ -25,6 +29,8 @@ mod tests_of_failing;
 mod tests_of_faults;
 #[cfg(test)]
 mod tests_of_forms;
+#[cfg(test)]
+mod tests_of_generate;
 #[cfg(test)]
 mod tests_of_imports;
 #[cfg(test)]

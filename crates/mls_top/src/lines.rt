@@ -1,7 +1,7 @@
 //! Names of files, and the lines of refusals.
 ghost use Rattle.std.specs.Prelude.{◌≡◌, ◌++◌, string_bytes, IfOk, OnOk};
 ghost use Rattle.mls_top.specs.Lines.{module_file, interface_file, not_found_line, too_long_line, fault_line};
-ghost use Rattle.mls_top.specs.Lines.{head_text, kind_text, no_scheme_line, place_text};
+ghost use Rattle.mls_top.specs.Lines.{generated_line, head_text, kind_text, no_scheme_line, place_text};
 
 use mls_base::memory::Memory;
 use mls_book::name::Name;
@@ -47,6 +47,26 @@ pub fn too_long_line(alloc: Global, file: &str, limit: usize) -> Result<Vec<u8>,
     line.extend_from_slice(b": longer than ")?;
     line.extend_from_slice(limit.to_string(alloc)?.as_bytes())?;
     line.extend_from_slice(b" bytes\n")?;
+    Ok(line)
+}
+
+/// The line of a generated module with `count` bindings, whose text and printed signature have so many bytes.
+pub fn generated_line(
+    alloc: Global,
+    count: usize,
+    bytes: usize,
+    printed: usize,
+) -> Result<Vec<u8>, Memory>
+    ensures { IfOk result (λ line. line.items ≡ generated_line count bytes printed) }
+{
+    let mut line = Vec::new(alloc);
+    line.extend_from_slice(b"generate: ")?;
+    line.extend_from_slice(count.to_string(alloc)?.as_bytes())?;
+    line.extend_from_slice(b" bindings, ")?;
+    line.extend_from_slice(bytes.to_string(alloc)?.as_bytes())?;
+    line.extend_from_slice(b" bytes in, ")?;
+    line.extend_from_slice(printed.to_string(alloc)?.as_bytes())?;
+    line.extend_from_slice(b" bytes out\n")?;
     Ok(line)
 }
 

@@ -1,5 +1,5 @@
 //! The run of a command.
-ghost use Rattle.std.specs.Prelude.{◌≡◌, map, string_bytes, IsFalse, None};
+ghost use Rattle.std.specs.Prelude.{◌≡◌, map, string_bytes, IsFalse, None, Some, ℕ};
 ghost use Rattle.mls_io.specs.Counts.{Rose};
 ghost use Rattle.mls_io.specs.Stores as stores;
 ghost use Rattle.mls_io.specs.Sinks as sinks;
@@ -11,7 +11,7 @@ ghost use Rattle.mls_top.specs.Writing.{IsTold};
 ghost use Rattle.mls_top.specs.Statuses.{is_cut};
 
 use crate::answer::{Halt, answer_to};
-use crate::command::command_of;
+use crate::command::{Command, command_of};
 use crate::status::Status;
 use crate::writing::write_lines;
 use mls_io::sink::{Put, Sink};
@@ -31,6 +31,8 @@ const USAGE: &[u8] = b"usage: mlsub COMMAND OPERANDS\n";
 ///   module, or its first binding that has no scheme, or the first fault of a text.
 /// - `check NAME`: the same, and where the module has a signature, reads `NAME.mli`, and prints that they match or the
 ///   first declaration that fails.
+/// - `generate SEED COUNT`: makes a module with COUNT bindings, infers it as `infer` does, and prints how many bytes
+///   its text and its signature have. No file is read.
 pub fn run<S: Store, K: Sink>(
     alloc: Global,
     words: &Vec<String>,
@@ -63,6 +65,10 @@ pub fn run<S: Store, K: Sink>(
     ensures no_command { command_of (map string_bytes words.now.items) ≡ None
         → IsWithoutCommand (K.written sink.old) (K.written sink.new) result
         × (S.holdings store.new ≡ S.holdings store.old) }
+
+    // A generated module is in no file, so the store is left alone then too.
+    ensures generate { (seed count : ℕ) → command_of (map string_bytes words.now.items)
+        ≡ Some (Command.Generate seed count) → S.holdings store.new ≡ S.holdings store.old }
 {
     let command = match command_of(alloc, words) {
         Ok(Some(command)) => command,

@@ -55,6 +55,20 @@ pub(crate) struct ListedStore<'a> {
     has_cut: bool,
 }
 
+impl<'a> ListedStore<'a> {
+    /// The store of these files, where the fetch of this number fails.
+    pub(crate) fn new(files: &'a str, failing: usize) -> ListedStore<'a> {
+        ListedStore {
+            files,
+            failing,
+            fetches: 0,
+            has_failed: false,
+            has_missed: false,
+            has_cut: false,
+        }
+    }
+}
+
 impl<'a> Store for ListedStore<'a> {
     ghost use Rattle.std.specs.Prelude.{None};
 
@@ -97,15 +111,18 @@ pub(crate) fn answered(
     files: &str,
     failing: usize,
 ) -> Result<(Vec<u8>, u8, usize), Memory> {
-    let words = words_of(alloc, &[command, name])?;
-    let mut store = ListedStore {
-        files,
-        failing,
-        fetches: 0,
-        has_failed: false,
-        has_missed: false,
-        has_cut: false,
-    };
+    answered_words(alloc, &[command, name], files, failing)
+}
+
+/// What words print over these files, the code, and how often a file was fetched, where this fetch fails.
+pub(crate) fn answered_words(
+    alloc: Global,
+    words: &[&str],
+    files: &str,
+    failing: usize,
+) -> Result<(Vec<u8>, u8, usize), Memory> {
+    let words = words_of(alloc, words)?;
+    let mut store = ListedStore::new(files, failing);
     let mut sink = SureSink::new(alloc);
     let status = run(alloc, &words, &mut store, &mut sink);
     Ok((

@@ -1,41 +1,11 @@
 //! Fetches and puts that fail.
 use crate::run::run;
-use crate::samples::{answered, store_of, words_of};
-use mls_io::sink::{Put, Sink};
+use crate::samples::{ListedStore, MODULES, answered, words_of};
+use mls_base::memory::Memory;
+use mls_io::failing::{FailAt, MemSink};
+use std::alloc::Global;
+use std::process::Abort;
 use std::test::Fail;
-
-// A sink that takes so many pieces, and then fails.
-#[derive(Drop)]
-struct NarrowSink {
-    bytes: Vec<u8>,
-    room: usize,
-    puts: usize,
-    has_failed: bool,
-}
-
-impl Sink for NarrowSink {
-    ghost use Rattle.std.specs.Prelude.{Some};
-
-    ghost written = { λ sink. record {
-      bytes = Some sink.bytes.items;
-      faults = record { value = 0; is_worn = sink.has_failed };
-    } };
-
-    fn put(&mut self, piece: &[u8]) -> Put {
-        if piece.is_empty() {
-            return Put::All;
-        }
-        self.puts = self.puts.saturating_add(1);
-        if self.puts > self.room {
-            self.has_failed = true;
-            return Put::Failed;
-        }
-        match self.bytes.extend_from_slice(piece) {
-            Ok(_) => Put::All,
-            Err(_) => Put::Memory,
-        }
-    }
-}
 
 #[test]
 fn ends_at_each_fetch_that_fails(rt: HostRuntime) -> Result<(), Fail> {
@@ -61,26 +31,101 @@ fn ends_at_each_fetch_that_fails(rt: HostRuntime) -> Result<(), Fail> {
 }
 
 #[test]
-fn puts_each_line_until_one_fails(rt: HostRuntime) -> Result<(), Fail> {
-    let alloc = rt.alloc();
-    let words = words_of(alloc, &["infer", "main"])?;
-    let text = b"let x = 1 let y = true let z = fun a -> a";
-    for (room, written, code, puts) in [
-        (0, "", 6, 1),
-        (1, "val x : int\n", 6, 2),
-        (2, "val x : int\nval y : bool\n", 6, 3),
-        (3, "val x : int\nval y : bool\nval z : a -> a\n", 0, 3),
+fn ends_at_each_fetch_of_four_modules_that_fails(rt: HostRuntime) -> Result<(), Fail> {
+    let signature = "val p : {fst: int, snd: bool}
+val q : {fst: bool, snd: int}
+val c : rec a. {next: {} -> a, now: int}
+val d : int
+val r : bool
+";
+    for (command, failing, printed, code) in [
+        ("infer", 1, "", 5),
+        ("infer", 2, "", 5),
+        ("infer", 3, "", 5),
+        ("infer", 4, "", 5),
+        ("infer", 5, signature, 0),
+        ("check", 4, "", 5),
+        ("check", 5, "", 5),
+        ("check", 6, "main matches main.mli\n", 0),
     ] {
-        let mut sink = NarrowSink {
-            bytes: Vec::new(alloc),
-            room,
-            puts: 0,
-            has_failed: false,
-        };
-        let status = run(alloc, &words, &mut store_of(alloc, text)?, &mut sink);
-        assert_eq!(rt; status.code(), code, "{room}");
-        assert_eq!(rt; sink.bytes.as_slice(), written.as_bytes(), "{room}");
-        assert_eq!(rt; sink.puts, puts, "{room}");
+        let (said, status, _) = answered(rt.alloc(), command, "main", MODULES, failing)?;
+        assert_eq!(rt; said.as_slice(), printed.as_bytes(), "{command}");
+        assert_eq!(rt; status, code, "{command}");
+    }
+    Ok(())
+}
+
+// What words write over the four modules, and the code, where this put fails.
+fn written(alloc: Global, words: &[&str], failing: FailAt) -> Result<(Vec<u8>, u8), Memory> {
+    let words = words_of(alloc, words)?;
+    let mut store = ListedStore::new(MODULES, 0);
+    let mut sink = MemSink::new(alloc, vec![in alloc; failing]?)?;
+    let status = run(alloc, &words, &mut store, &mut sink);
+    Ok((Vec::from_slice(alloc, sink.bytes())?, status.code()))
+}
+
+// Tests that the put of a line that fails keeps each number of bytes of it, behind the lines before.
+fn keeps_fronts(
+    rt: &impl Abort,
+    alloc: Global,
+    words: &[&str],
+    before: &str,
+    line: &str,
+) -> Result<(), Memory> {
+    let call = before
+        .as_bytes()
+        .iter()
+        .filter(|byte| **byte == b'\n')
+        .count() as u64;
+    let mut whole = Vec::from_slice(alloc, before.as_bytes())?;
+    whole.extend_from_slice(line.as_bytes())?;
+    for kept in 0..=line.len() {
+        let (said, code) = written(alloc, words, FailAt { call, kept })?;
+        let front = whole.as_slice().get(..before.len().saturating_add(kept));
+        assert_eq!(rt; Some(said.as_slice()), front, "{line}");
+        assert_eq!(rt; code, 6, "{line}");
+    }
+    Ok(())
+}
+
+#[test]
+fn keeps_each_front_of_an_answer(rt: HostRuntime) -> Result<(), Fail> {
+    let first = "val p : {fst: int, snd: bool}\n";
+    let two = "val p : {fst: int, snd: bool}\nval q : {fst: bool, snd: int}\n";
+    let three = "val p : {fst: int, snd: bool}
+val q : {fst: bool, snd: int}
+val c : rec a. {next: {} -> a, now: int}
+";
+    let four = "val p : {fst: int, snd: bool}
+val q : {fst: bool, snd: int}
+val c : rec a. {next: {} -> a, now: int}
+val d : int
+";
+    let infer = ["infer", "main"];
+    for (words, before, line) in [
+        (infer.as_slice(), "", first),
+        (infer.as_slice(), first, "val q : {fst: bool, snd: int}\n"),
+        (
+            infer.as_slice(),
+            two,
+            "val c : rec a. {next: {} -> a, now: int}\n",
+        ),
+        (infer.as_slice(), three, "val d : int\n"),
+        (infer.as_slice(), four, "val r : bool\n"),
+        (&["check", "main"].as_slice(), "", "main matches main.mli\n"),
+        (
+            &["check", "absent"].as_slice(),
+            "",
+            "absent.ml: not found\n",
+        ),
+        (
+            &["generate", "1", "4"].as_slice(),
+            "",
+            "generate: 4 bindings, 182 bytes in, 120 bytes out\n",
+        ),
+        (&["infer"].as_slice(), "", "usage: mlsub COMMAND OPERANDS\n"),
+    ] {
+        keeps_fronts(&rt, rt.alloc(), words, before, line)?;
     }
     Ok(())
 }

@@ -1,8 +1,10 @@
 //! Words of command lines.
 use crate::run::run;
 use crate::samples::words_of;
+use mls_base::memory::Memory;
 use mls_io::memory::SureSink;
 use mls_io::store::{Fetch, Store};
+use std::alloc::Global;
 use std::test::Fail;
 
 // A store without files that counts its fetches, and may fail at each.
@@ -34,6 +36,19 @@ impl Store for CountingStore {
             Fetch::Missing
         }
     }
+}
+
+// What the words print over a store without files, and the code.
+fn run_alone(alloc: Global, words: &[&str]) -> Result<(Vec<u8>, u8), Memory> {
+    let mut store = CountingStore {
+        is_broken: false,
+        fetches: 0,
+        has_failed: false,
+        has_missed: false,
+    };
+    let mut sink = SureSink::new(alloc);
+    let status = run(alloc, &words_of(alloc, words)?, &mut store, &mut sink);
+    Ok((Vec::from_slice(alloc, sink.bytes())?, status.code()))
 }
 
 #[test]
@@ -71,6 +86,53 @@ fn reads_words_and_fetches_once(rt: HostRuntime) -> Result<(), Fail> {
         assert_eq!(rt; status.code(), code, "{printed}");
         assert_eq!(rt; sink.bytes(), printed.as_bytes());
         assert_eq!(rt; store.fetches, fetches, "{printed}");
+    }
+    Ok(())
+}
+
+#[test]
+fn reads_words_that_no_parser_takes(rt: HostRuntime) -> Result<(), Fail> {
+    let alloc = rt.alloc();
+    for words in [
+        ["--help"].as_slice(),
+        ["-h", "infer", "main"].as_slice(),
+        ["-infer", "main"].as_slice(),
+        ["infer", "-main"].as_slice(),
+        ["infer", "-"].as_slice(),
+        ["infer", "--"].as_slice(),
+        ["infer", "--", "main"].as_slice(),
+        ["infer", "main", "--help"].as_slice(),
+        ["help"].as_slice(),
+        ["help", "infer"].as_slice(),
+        [""].as_slice(),
+        ["", "main"].as_slice(),
+        ["infer", ""].as_slice(),
+        ["infer", "main", ""].as_slice(),
+        ["check", "main", "main"].as_slice(),
+        ["infer", "check", "main"].as_slice(),
+    ] {
+        let (printed, code) = run_alone(alloc, words)?;
+        assert_eq!(rt;
+            printed.as_slice(),
+            b"usage: mlsub COMMAND OPERANDS\n".as_slice()
+        );
+        assert_eq!(rt; code, 8);
+    }
+    Ok(())
+}
+
+#[test]
+fn reads_names_that_are_names_of_commands(rt: HostRuntime) -> Result<(), Fail> {
+    let alloc = rt.alloc();
+    for (words, printed) in [
+        (["infer", "infer"].as_slice(), "infer.ml: not found\n"),
+        (["check", "infer"].as_slice(), "infer.ml: not found\n"),
+        (["infer", "help"].as_slice(), "help.ml: not found\n"),
+        (["check", "check"].as_slice(), "check.ml: not found\n"),
+    ] {
+        let (said, code) = run_alone(alloc, words)?;
+        assert_eq!(rt; said.as_slice(), printed.as_bytes());
+        assert_eq!(rt; code, 4, "{printed}");
     }
     Ok(())
 }

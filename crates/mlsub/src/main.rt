@@ -26,8 +26,11 @@ const HELP: &str = "mlsub 0.1.0 infers the types of modules, and compares them w
 
   mlsub infer NAME    prints the most general type of each binding of NAME.ml
   mlsub check NAME    tells whether NAME.ml has all that NAME.mli declares
+  mlsub generate SEED COUNT
+                      makes a module of COUNT bindings, and tells how long its text
+                      and its signature are
 
-Both read the interface of each module that NAME.ml imports, and no other module.
+The first two read the interface of each module that NAME.ml imports, and no other module.
 A file is looked for in the current folder first, and then in its subfolder lib.
 Answers go to standard output, and the exit code tells their kind: 0 done, 1 a
 binding without a type, 2 a promise not kept, 3 a fault of a text, 4 no such file,

@@ -1,5 +1,5 @@
 -- What the phases of a run say to one another.
-use Rattle.std.specs.Prelude.{◌≡◌, ◌≢◌, ℕ, List, Result, Ok, MatchResult, IsTrue}
+use Rattle.std.specs.Prelude.{◌≡◌, ◌≢◌, ℕ, ◌<◌, ◌≤◌, List, Result, Ok, MatchResult, IsTrue}
 use Rattle.mls_base.specs.Files.{Files}
 use Rattle.mls_io.specs.Counts.{Rose}
 use Rattle.mls_io.specs.Stores.{Holdings}
@@ -19,6 +19,7 @@ use Rattle.mls_top.specs.declared.answer.Halt.TheVariants as halt
 use Rattle.mls_top.specs.declared.answer.Stop.{Stop}
 use Rattle.mls_top.specs.declared.answer.Stop.TheVariants as stop
 use Rattle.mls_top.specs.declared.command.Command.{Command}
+use Rattle.mls_top.specs.declared.command.Command.TheVariants.{Generate}
 use Rattle.mls_top.specs.declared.infer.SignedModule.{SignedModule}
 use Rattle.mls_top.specs.declared.status.Status.{Status}
 use Rattle.mls_top.specs.declared.status.Status.TheVariants.{NoFile, TooLong, ReadFault, Memory}
@@ -63,6 +64,11 @@ pub record TellsOutcome (x : List ℕ) (outcome : Outcome) (answer : Answer) : T
   pub status : answer.status ≡ outcome_status outcome
   pub text : answer.text.items ≡ outcome_text x outcome
 
+-- the numbers of a command are within their limits
+abbrev pub IsWithinLimits : Command → Type 0
+IsWithinLimits (Generate seed count) = (seed < 2147483648) × (1 ≤ count) × (count ≤ 10000)
+IsWithinLimits _ = Unit {0}
+
 -- a refusal is told of which this holds, or there is no answer
 abbrev pub IsStop : (Refusal → Type 0) → Stop → Type 0
 IsStop P (stop.Refused answer) = (r : Refusal) × Tells r answer × P r
@@ -77,6 +83,13 @@ pub record IsAsked (old new : Holdings) (command : Command) (answer : Answer) : 
 abbrev pub IsAskedStop : Holdings → Holdings → Command → Stop → Type 0
 IsAskedStop old new command (stop.Refused answer) = IsAsked old new command answer
 IsAskedStop old new command (stop.Halt h) = IsCausedBy (halt_status h) old new
+
+-- the answer is one for the command over any store, which is left as it is
+abbrev pub IsAskedOfNone : Command → Answer → Type 0
+IsAskedOfNone command answer = (store : Holdings) → IsAsked store store command answer
+
+abbrev pub IsAskedStopOfNone : Command → Stop → Type 0
+IsAskedStopOfNone command s = (store : Holdings) → IsAskedStop store store command s
 
 -- the refusal is that of an interface with this text for a fault of it
 abbrev pub IsForFault : (file text : List ℕ) → Refusal → Type 0
