@@ -18,3 +18,8 @@ pub mod CheckedSteps
 pub mod Walks
 pub mod Passed
 pub mod Written
+pub mod SpelledNumbers
+pub mod SpelledLines
+pub mod SpelledNodes
+pub mod TextLines
+pub mod TextSections

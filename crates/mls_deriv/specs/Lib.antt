@@ -4,4 +4,7 @@ pub mod Sections
 pub mod Laws
 pub mod Verdicts
 pub mod Spellings
+pub mod Forms
+pub mod Texts
+pub mod TextLaws
 pub mod inner

@@ -3,3 +3,4 @@ pub mod Tables
 pub mod PairRules
 pub mod Rules
 pub mod Walks
+pub mod Clauses
