@@ -6,6 +6,12 @@ pub mod RelatedParts
 pub mod MatchedParts
 pub mod PartClaims
 pub mod UseClaims
+pub mod Refuted
+pub mod Needed
+pub mod Growing
+pub mod Rounding
+pub mod LinesRead
+pub mod TableShown
 pub mod Emitted
 pub mod Subs
 pub mod RowPairs
@@ -29,3 +35,4 @@ pub mod SectionEmitted
 pub mod LetsEmitted
 pub mod NameLayouts
 pub mod ReadLayouts
+pub mod TreesMade

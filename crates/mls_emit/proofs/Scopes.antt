@@ -1,4 +1,5 @@
 -- What is found in the environments of steps.
+--     same_key, itself_key        the test of keys
 --     found_in, found_back        in that of a scope, a binder of the scope with its node
 --     inner_found, inner_kept, inner_removed      the same with one more binder at another node
 --     push_rising                 binders rise where each is above those around it
@@ -16,13 +17,12 @@ use Rattle.mls_deriv.specs.declared.derivation.BinderNode.{BinderNode}
 use Rattle.mls_deriv.specs.Steps.{env_of, IsRising}
 use Rattle.mls_emit.specs.Scopes.{entry, entries}
 
--- the test of keys
 equal_is : (o : Ordering) → is_eq o ≡ true → o ≡ Equal
 equal_is Less e = absurd (cc)
 equal_is Equal e = refl
 equal_is Greater e = absurd (cc)
 
-same_key : (x y : ℕ) → eq_by_cmp nat_cmp x y ≡ true → x ≡ y
+pub same_key : (x y : ℕ) → eq_by_cmp nat_cmp x y ≡ true → x ≡ y
 same_key x y e = nat_cmp-IsAntisymmetric x y (equal_is (nat_cmp x y) e)
 
 pub itself_key : (x : ℕ) → eq_by_cmp nat_cmp x x ≡ true

@@ -2,9 +2,13 @@
 --     let_run             a let line
 --     part_let            the lines of a first part and its let line
 --     let_known, let_kept what is known of lets after that
+--     lets_emitted        the first parts of all lets, in order
 --     part_run            the lines of a row
 --     section_allowed     lines that end with the row of the whole term, at the type that was read
-use Rattle.std.proofs.Common.{◌≡◌, ℕ, suc, List, [], ◌∷◌, ◌++◌, length, refl, sym, ◌∙◌, ap, subst, append-nil, Bool, true, false, Some, None, cond}
+--     section_emitted     a section with lets
+use Rattle.std.proofs.Common.{◌≡◌, ◌≢◌, ◌⊎◌, inl, inr, ℕ, suc, ◌<◌, List, [], ◌∷◌, ◌++◌, length, refl, sym, ◌∙◌, ap, subst, append-nil, append_assoc, arith, Bool, true, false, Some, None, cond}
+use Rattle.std.specs.Prelude.{Contains}
+use Rattle.std.proofs.lemmas.List.Elements.{All-contains, Contains-push_cases}
 use Rattle.std.specs.FinMap as env
 use Rattle.std.specs.Ordering.{nat_cmp, eq_by_cmp}
 use Rattle.mls_book.specs.Schemes.{Env, Scheme}
@@ -13,12 +17,14 @@ use Rattle.mls_typetext.specs.declared.scheme.ReadScheme.{ReadScheme}
 use Rattle.mls_deriv.specs.declared.derivation.Section.{Section}
 use Rattle.mls_deriv.specs.declared.derivation.SectionLine.{SectionLine}
 use Rattle.mls_deriv.specs.declared.derivation.SectionLine.TheVariants as line
-use Rattle.mls_deriv.specs.Steps.{Before, Says}
+use Rattle.mls_deriv.specs.declared.derivation.StepLine.{StepLine}
+use Rattle.mls_deriv.specs.Steps.{Before}
 use Rattle.mls_deriv.specs.Sections.{after_let, steps_of, AreAllowed, at_start, IsHeadRead, IsSectionAllowed}
+use Rattle.mls_emit.specs.Lets.{FirstPart, KnowsLet, KnowsLets, after, HasRowWhere, HaveRows, HaveOwnNumbers}
 use Rattle.mls_emit.specs.Rows.{at, concluded, HasRow}
 use Rattle.mls_emit.specs.Runs.{BeginsAnew, IsRun}
 use Rattle.mls_emit.proofs.Runs.{run_then}
-use Rattle.mls_emit.proofs.Scopes.{itself_key}
+use Rattle.mls_emit.proofs.Scopes.{itself_key, same_key}
 
 -- the scheme of a let number is the conclusion of a step
 pub let_run : (b : Before) (k number : ℕ) → IsRun b (line.Let k number ∷ []) (after_let b k number)
@@ -38,12 +44,6 @@ pub part_let : (b c : Before) (lines : List SectionLine) (part : ℕ) (d : Env) 
 part_let b c lines part d t k first row =
     run_then b (at c row.more) (after_let (at c row.more) k row.number) (lines ++ row.leads.lines) (line.Let k row.number ∷ []) (part_run b c lines part d t first row) (let_run (at c row.more) k row.number)
 
--- what stands before a line tells the type of the first part of a let, as names of the let and the let itself ask for it
-pub record KnowsLet (c : Before) (k part : ℕ) (d : Env) (t : ℕ) : Type 0 where
-  pub number : ℕ
-  pub found : env.find nat_cmp k c.lets ≡ Some number
-  pub says : Says c number part (concluded c d t)
-
 find_last : (lets : List (ℕ × ℕ)) (k n : ℕ) → env.find nat_cmp k lets ≡ None → env.find nat_cmp k (lets ++ (k, n) ∷ []) ≡ Some n
 find_last [] k n none_yet = ap (λ t. cond t (Some n) None) (itself_key k)
 find_last (entry ∷ lets) k n none_yet = go (eq_by_cmp nat_cmp k entry.0) none_yet (find_last lets k n)
@@ -62,21 +62,94 @@ find_kept (entry ∷ lets) more k n found = go (eq_by_cmp nat_cmp k entry.0) fou
     go true e later = e
     go false e later = later e
 
+find_other : (lets : List (ℕ × ℕ)) (k n l : ℕ) → env.find nat_cmp l lets ≡ None → (k ≡ l → ⊥) → env.find nat_cmp l (lets ++ (k, n) ∷ []) ≡ None
+find_other [] k n l none_yet other = go (eq_by_cmp nat_cmp l k) refl
+  where
+    go : (t : Bool) → eq_by_cmp nat_cmp l k ≡ t → cond t (Some n) None ≡ None
+    go true e = absurd (other (sym (same_key l k e)))
+    go false e = refl
+find_other (entry ∷ lets) k n l none_yet other = go (eq_by_cmp nat_cmp l entry.0) none_yet (λ e. find_other lets k n l e other)
+  where
+    go : (t : Bool) → cond t (Some entry.1) (env.find nat_cmp l lets) ≡ None → (env.find nat_cmp l lets ≡ None → env.find nat_cmp l (lets ++ (k, n) ∷ []) ≡ None)
+        → cond t (Some entry.1) (env.find nat_cmp l (lets ++ (k, n) ∷ [])) ≡ None
+    go true e later = absurd (cc)
+    go false e later = later e
+
 -- the new let is known, and those before stay so
-pub let_known : (c : Before) (part : ℕ) (d : Env) (t k : ℕ) → env.find nat_cmp k c.lets ≡ None → (row : HasRow c c.steps part d t) → KnowsLet (after_let (at c row.more) k row.number) k part d t
-let_known c part d t k none_yet row = record {
+pub let_known : (c : Before) (first : FirstPart) → env.find nat_cmp first.number c.lets ≡ None → (row : HasRow c c.steps first.part first.env first.type)
+    → KnowsLet (after_let (at c row.more) first.number row.number) first
+let_known c first none_yet row = record {
   number = row.number;
-  found = find_last c.lets k row.number none_yet;
+  found = find_last c.lets first.number row.number none_yet;
   says = record { step = row.says.step; stands = row.says.stands; about = row.says.about; concludes = row.says.concludes };
 }
 
-pub let_kept : (c : Before) (part : ℕ) (d : Env) (t k : ℕ) (row : HasRow c c.steps part d t) (l other : ℕ) (d' : Env) (t' : ℕ) → KnowsLet c l other d' t' → KnowsLet (after_let (at c row.more) k row.number) l other d' t'
-let_kept c part d t k row l other d' t' it =
-    let says = row.leads.kept it.number other (concluded c d' t') it.says in
+pub let_kept : (c : Before) (first : FirstPart) (row : HasRow c c.steps first.part first.env first.type) (known : FirstPart) → KnowsLet c known
+    → KnowsLet (after_let (at c row.more) first.number row.number) known
+let_kept c first row known it =
+    let says = row.leads.kept it.number known.part (concluded c known.env known.type) it.says in
     record {
       number = it.number;
-      found = find_kept c.lets ((k, row.number) ∷ []) l it.number it.found;
+      found = find_kept c.lets ((first.number, row.number) ∷ []) known.number it.number it.found;
       says = record { step = says.step; stands = says.stands; about = says.about; concludes = says.concludes };
+    }
+
+-- The lines of first parts in order, each with its let line: behind them all these lets are known.
+pub record HasLetLines (b : Before) (steps : List StepLine) (lets : List (ℕ × ℕ)) (firsts : List FirstPart) : Type 0 where
+  pub lines : List SectionLine
+  pub more : List StepLine
+  pub others : List (ℕ × ℕ)
+  pub run : IsRun (after b steps lets) lines (after b more others)
+  pub knows : KnowsLets (after b more others) firsts
+
+nothing_run : (b : Before) → IsRun b [] b
+nothing_run b = record { steps = sym (append-nil b.steps); anew = λ rest anew. anew; allowed = λ rest anew all. all }
+
+-- by induction over the first parts
+pub lets_emitted : (b : Before) (known firsts : List FirstPart) (steps : List StepLine) (lets : List (ℕ × ℕ)) → KnowsLets (after b steps lets) known
+    → HaveOwnNumbers firsts → ((first : FirstPart) → Contains firsts first → env.find nat_cmp first.number lets ≡ None)
+    → HaveRows b known firsts → HasLetLines b steps lets (known ++ firsts)
+lets_emitted b known [] steps lets knows own new rows = record {
+  lines = [];
+  more = steps;
+  others = lets;
+  run = nothing_run (after b steps lets);
+  knows = subst (KnowsLets (after b steps lets)) (sym (append-nil known)) knows;
+}
+lets_emitted b known (first ∷ firsts) steps lets knows own new rows =
+    joined
+    (lets_emitted b (known ++ first ∷ []) firsts row.more (lets ++ (first.number, row.number) ∷ [])
+    (λ other there. now_known other (Contains-push_cases known first other there)) own.1 still_new rows.1)
+  where
+    c : Before
+    c = after b steps lets
+
+    row : HasRow c c.steps first.part first.env first.type
+    row = rows.0 steps lets knows
+
+    is_new : env.find nat_cmp first.number lets ≡ None
+    is_new = new first (0, omega arith, refl)
+
+    now_known : (other : FirstPart) → Contains known other ⊎ (first ≡ other) → KnowsLet (after b row.more (lets ++ (first.number, row.number) ∷ [])) other
+    now_known other (inl there) = let_kept c first row other (knows other there)
+    now_known other (inr same) = subst (KnowsLet (after b row.more (lets ++ (first.number, row.number) ∷ []))) same (let_known c first is_new row)
+
+    still_new : (other : FirstPart) → Contains firsts other → env.find nat_cmp other.number (lets ++ (first.number, row.number) ∷ []) ≡ None
+    still_new other there =
+        find_other lets first.number row.number other.number
+        (new other (suc there.0, (let low : there.0 < length firsts = there.1 in omega arith), there.2))
+        (All-contains (λ (z : FirstPart). first.number ≢ z.number) firsts other own.0 there)
+
+    joined : HasLetLines b row.more (lets ++ (first.number, row.number) ∷ []) ((known ++ first ∷ []) ++ firsts) → HasLetLines b steps lets (known ++ first ∷ firsts)
+    joined next = record {
+      lines = (([] ++ row.leads.lines) ++ line.Let first.number row.number ∷ []) ++ next.lines;
+      more = next.more;
+      others = next.others;
+      run =
+          run_then c (after b row.more (lets ++ (first.number, row.number) ∷ [])) (after b next.more next.others)
+          (([] ++ row.leads.lines) ++ line.Let first.number row.number ∷ []) next.lines
+          (part_let c c [] first.part first.env first.type first.number (nothing_run c) row) next.run;
+      knows = subst (KnowsLets (after b next.more next.others)) (append_assoc known (first ∷ []) firsts) next.knows;
     }
 
 nothing_after : BeginsAnew []
@@ -106,3 +179,24 @@ section_allowed globals binding section read head name lines c e d first row is_
 
     run : IsRun b (lines ++ row.leads.lines) (at c row.more)
     run = part_run b c lines e d read.root.0 first row
+
+-- A section of which each first part and the whole term have lines where the lets before are known.
+pub section_emitted : (globals : List Scheme) (binding : ResolvedBinding) (section : Section) (read : ReadScheme) → IsHeadRead section read → section.name ≡ binding.name
+    → (firsts : List FirstPart) → HaveOwnNumbers firsts → HaveRows (at_start globals binding section) [] firsts
+    → (e : ℕ) → HasRowWhere (at_start globals binding section) firsts e env.empty read.root.0 → suc e ≡ length binding.term.nodes
+    → (lines : List SectionLine) × (section.lines ≡ lines → IsSectionAllowed globals binding section read)
+section_emitted globals binding section read head name firsts own rows e whole is_root = (
+  all.lines ++ row.leads.lines,
+  λ are. section_allowed globals binding section read head name all.lines (after b all.more all.others) e env.empty all.run row is_root refl are,
+)
+  where
+    b : Before
+    b = at_start globals binding section
+
+    all : HasLetLines b [] [] firsts
+    all =
+        lets_emitted b [] firsts [] []
+        (λ first there. absurd (let low : there.0 < 0 = there.1 in omega arith)) own (λ first there. refl) rows
+
+    row : HasRow (after b all.more all.others) all.more e env.empty read.root.0
+    row = whole all.more all.others all.knows

@@ -3,8 +3,11 @@ pub mod Trees
 pub mod Heads
 pub mod Layouts
 pub mod Uses
+pub mod PairLists
+pub mod steps
 pub mod Emitted
 pub mod Runs
 pub mod Rows
+pub mod Lets
 pub mod Scopes
 pub mod Posed

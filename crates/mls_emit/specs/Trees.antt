@@ -1,5 +1,5 @@
 -- Trees of joins, for positive places, and of meets, for negative places.
-use Rattle.std.specs.Prelude.{◌≡◌, ℕ, List, Contains}
+use Rattle.std.specs.Prelude.{◌≡◌, ◌<◌, ℕ, List, ◌++◌, length, Contains}
 use Rattle.mls_book.specs.declared.book.NodeId.{NodeId}
 use Rattle.mls_book.specs.declared.book.Node.{Node}
 use Rattle.mls_book.specs.declared.book.Node.TheVariants as node
@@ -37,3 +37,14 @@ pub record IsTree (book : List Node) (p : Polarity) (Member : ℕ → Type 0) (i
 -- the nodes of these states
 abbrev pub IsPlaceIn : (ℕ → ℕ) → List ℕ → ℕ → Type 0
 IsPlaceIn place set i = (s : ℕ) × Contains set s × (place s ≡ i)
+
+-- the node is one of these
+abbrev pub IsNodeIn : List NodeId → ℕ → Type 0
+IsNodeIn nodes i = Contains nodes (record { 0 = i })
+
+-- The second book is the first and more nodes, and node i in it is the join or the meet of just these members.
+pub record AddsTree (p : Polarity) (members : List NodeId) (old new : List Node) (i : ℕ) : Type 0 where
+  pub more : List Node
+  pub longer : new ≡ old ++ more
+  pub inside : i < length new
+  pub tree : IsTree new p (IsNodeIn members) i

@@ -1,0 +1,81 @@
+//! Lists of pairs over one small book.
+use crate::laws::justified_is_not_refuted;
+use crate::pairs::pair_list;
+use mls_base::memory::Memory;
+use mls_base::spelling::is_name;
+use mls_book::book::{Book, Field, Fields, Node, NodeId};
+use mls_book::name::Name;
+use mls_deriv::claim::{Pair, Put};
+use mls_deriv::derivation::Mode;
+use std::alloc::Global;
+use std::test::Fail;
+
+fn push(book: &mut Book, node: Node) -> Result<(), Memory> {
+    if book.can_push(&node) {
+        book.push(node)?;
+    }
+    Ok(())
+}
+
+// A record with the field `a`.
+fn record(alloc: Global, node: NodeId) -> Result<Node, Memory> {
+    let mut fields = Fields::new(alloc);
+    if is_name(b"a") {
+        let label = Name::new(alloc, b"a")?;
+        fields.push(Field { label, node })?;
+    }
+    Ok(Node::Rcd(fields))
+}
+
+fn small_book(alloc: Global) -> Result<Book, Memory> {
+    let mut book = Book::new(alloc);
+    push(&mut book, Node::Bool)?;
+    push(&mut book, Node::Int)?;
+    push(&mut book, Node::Join(NodeId(0), NodeId(1)))?;
+    push(&mut book, Node::Arrow(NodeId(2), NodeId(0)))?;
+    push(&mut book, Node::Arrow(NodeId(0), NodeId(2)))?;
+    push(&mut book, Node::Var(0))?;
+    push(&mut book, record(alloc, NodeId(0))?)?;
+    push(&mut book, record(alloc, NodeId(2))?)?;
+    push(&mut book, Node::Arrow(NodeId(0), NodeId(8)))?;
+    push(&mut book, Node::Arrow(NodeId(0), NodeId(9)))?;
+    Ok(book)
+}
+
+// How many pairs the list for this pair has, and whether it is there, where the variable stands for `int`.
+fn listed(alloc: Global, mode: Mode, left: usize, right: usize) -> Result<(usize, bool), Memory> {
+    let book = small_book(alloc)?;
+    let puts = vec![in alloc;
+        Put {
+            variable: 0,
+            node: 1
+        },
+    ]?;
+    let pair = Pair { mode, left, right };
+    let wanted = vec![in alloc; pair]?;
+    let pairs = pair_list(alloc, &book, puts.as_slice(), wanted.as_slice())?;
+    let has = pairs.as_slice().iter().any(|other| *other == pair);
+    Ok((pairs.len(), has))
+}
+
+#[test]
+fn lists_what_a_pair_needs(rt: HostRuntime) -> Result<(), Fail> {
+    let alloc = rt.alloc();
+    let rows = [
+        (Mode::Pp, 3, 4, (3, true)),
+        (Mode::Pp, 4, 3, (1, false)),
+        (Mode::Lr, 2, 2, (5, true)),
+        (Mode::Lr, 5, 1, (2, true)),
+        (Mode::Rl, 5, 1, (0, false)),
+        (Mode::Rl, 1, 5, (2, true)),
+        (Mode::Pp, 5, 5, (1, true)),
+        (Mode::Lr, 6, 7, (3, true)),
+        (Mode::Lr, 7, 6, (1, false)),
+        (Mode::Pp, 8, 9, (2, true)),
+    ];
+    for (mode, left, right, found) in rows {
+        assert_eq!(rt; listed(alloc, mode, left, right)?, found);
+    }
+    justified_is_not_refuted();
+    Ok(())
+}
