@@ -130,7 +130,9 @@ if [ -d "$texts" ]; then
       0)
         (cd worst && exec timeout 120 "$program" check "$name" >/dev/null 2>&1)
         got=$?
+        # a signature may be longer than an interface may be
         wanted=0
+        [ "$(wc -c <"worst/$name.mli")" -le 1048576 ] || wanted=11
         ;;
       1 | 3 | 4) wanted=$got ;;
       *) wanted="0, 1, 3 or 4" ;;
