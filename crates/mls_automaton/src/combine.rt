@@ -1,8 +1,10 @@
 //! Combined heads.
 ghost use Rattle.std.specs.Prelude.{◌≡◌, ◌<◌, ◌+◌, ◌⊎◌, length, option_map, IfOk, OnOk, Some};
-ghost use Rattle.mls_automaton.specs.Heads.{AreRising, combined_functions, combined_records, combined_two, parts_of, set_at, IsSameParts};
+ghost use Rattle.mls_automaton.specs.Heads.{AreRising, combined_functions, combined_records, combined_two, parts_of};
+ghost use Rattle.mls_automaton.specs.Heads.{set_at, IsSameParts};
 ghost use Rattle.mls_automaton.specs.Models.{HasRisingLabels};
-ghost use Rattle.mls_automaton.specs.steps.Combining.{IsJoined, IsMerging, IsSameFunction, IsSameRecord, IsUnited, with_one};
+ghost use Rattle.mls_automaton.specs.steps.Combining.{IsJoined, IsMerging, IsSameFunction, IsSameRecord, IsUnited};
+ghost use Rattle.mls_automaton.specs.steps.Combining.{with_one};
 
 use crate::automaton::{Arms, FieldSet, FieldSets, Head, Polarity};
 use mls_base::memory::Memory;
@@ -140,7 +142,8 @@ fn combine_records(
     requires first { HasRisingLabels first.now }
     requires second { HasRisingLabels second.now }
     ensures labels { IfOk result HasRisingLabels }
-    ensures fields { IfOk result (λ both. IsSameRecord (option_map set_at both) (combined_records polarity (option_map set_at first.now) (option_map set_at second.now))) }
+    ensures fields { IfOk result (λ both. IsSameRecord (option_map set_at both)
+        (combined_records polarity (option_map set_at first.now) (option_map set_at second.now))) }
 {
     match first {
         None => {
@@ -174,7 +177,8 @@ pub fn combine_heads(
 ) -> Result<Head, Memory>
     requires first { HasRisingLabels first.now.fields }
     requires second { HasRisingLabels second.now.fields }
-    ensures parts { IfOk result (λ head. IsSameParts (parts_of head) (combined_two polarity (parts_of first.now) (parts_of second.now))) }
+    ensures parts { IfOk result (λ head. IsSameParts (parts_of head)
+        (combined_two polarity (parts_of first.now) (parts_of second.now))) }
     ensures labels { IfOk result (λ head. HasRisingLabels head.fields) }
 {
     let function = combine_functions(&first.function, &second.function)?;

@@ -5,7 +5,8 @@ ghost use Rattle.mls_automaton.specs.declared.automaton.Flow.{Flow};
 ghost use Rattle.mls_automaton.specs.Automata.{HasTrueFlows, IsState, state_at};
 ghost use Rattle.mls_automaton.specs.Embeddings.{renamed_state};
 ghost use Rattle.mls_automaton.specs.Environments.{BindersRise};
-ghost use Rattle.mls_automaton.specs.steps.Keeping.{AddsFlowOf, AreKept, HasFlowsOf, HasKeptEnds, IsKeptState, renamed_entry};
+ghost use Rattle.mls_automaton.specs.steps.Keeping.{AddsFlowOf, AreKept, HasFlowsOf, HasKeptEnds, IsKeptState};
+ghost use Rattle.mls_automaton.specs.steps.Keeping.{renamed_entry};
 ghost use Rattle.mls_automaton.specs.steps.Numbers.{KeepsOrderInHead, number_in};
 
 use crate::automaton::{Automaton, Flow};
@@ -43,7 +44,8 @@ pub fn keep(alloc: Global, marks: &[bool]) -> Result<Kept, Memory>
 // The states at these places, with the new numbers.
 pub fn keep_states(alloc: Global, a: &Automaton, kept: &Kept) -> Result<Automaton, Memory>
     requires { All (IsKeptState a.now (number_in kept.now.numbers)) kept.now.places.items }
-    ensures states { IfOk result (λ b. b.states ≡ map (λ s. renamed_state (number_in kept.now.numbers) (state_at a.now s)) kept.now.places.items) }
+    ensures states { IfOk result (λ b. b.states
+        ≡ map (λ s. renamed_state (number_in kept.now.numbers) (state_at a.now s)) kept.now.places.items) }
     ensures flows { IfOk result (λ b. b.flows ≡ []) }
 {
     let mut states = Automaton::new(alloc);

@@ -2,7 +2,8 @@
 ghost use Rattle.std.specs.Prelude.{◌≡◌, ◌↔◌, ◌<◌, ◌+◌, ◌*◌, true, false, length, get_or, Contains, IfOk, OnOk};
 ghost use Rattle.mls_automaton.specs.Reached.{HeadNames, InAnyField, InFunction, InRecord};
 ghost use Rattle.mls_automaton.specs.Schemes.{IsScheme};
-ghost use Rattle.mls_automaton.specs.steps.Searching.{AreReached, Grows, InArms, InEntries, IsBelow, IsSearch, search_of};
+ghost use Rattle.mls_automaton.specs.steps.Searching.{AreReached, Grows, InArms, InEntries, IsBelow, IsSearch};
+ghost use Rattle.mls_automaton.specs.steps.Searching.{search_of};
 
 use crate::automaton::{Arms, FieldSet, FieldSets, Head};
 use crate::scheme::{EnvEntry, Scheme};

@@ -2,8 +2,10 @@
 ghost use Rattle.std.specs.Prelude.{◌≡◌, ◌+◌, ◌++◌, All, IfOk, OnOk, OnErr, length, map, option_map, take};
 ghost use Rattle.mls_automaton.specs.declared.automaton.FieldSet.{FieldSet};
 ghost use Rattle.mls_automaton.specs.declared.automaton.State.{State};
-ghost use Rattle.mls_automaton.specs.Embeddings.{renamed_arms, renamed_field, renamed_flow, renamed_head, renamed_state};
-ghost use Rattle.mls_automaton.specs.steps.Numbers.{KeepsOrder, KeepsOrderInArms, KeepsOrderInFields, KeepsOrderInHead, number_in};
+ghost use Rattle.mls_automaton.specs.Embeddings.{renamed_arms, renamed_field, renamed_flow, renamed_head};
+ghost use Rattle.mls_automaton.specs.Embeddings.{renamed_state};
+ghost use Rattle.mls_automaton.specs.steps.Numbers.{KeepsOrder, KeepsOrderInArms, KeepsOrderInFields, KeepsOrderInHead};
+ghost use Rattle.mls_automaton.specs.steps.Numbers.{number_in};
 
 use crate::automaton::{Arms, FieldSet, FieldSets, Flow, Head, State};
 use crate::state_set::{StateId, StateSet};
@@ -150,9 +152,12 @@ pub fn push_all(
     more_flows: &[Flow],
     more_sets: &[StateSet],
 ) -> Result<(), Memory>
-    ensures states { OnOk result (states.new.items ≡ states.old.items ++ map (renamed_state (λ s. length states.old.items + s)) more_states.now) }
-    ensures flows { OnOk result (flows.new.items ≡ flows.old.items ++ map (renamed_flow (λ s. length states.old.items + s)) more_flows.now) }
-    ensures sets { OnOk result (sets.new.items ≡ sets.old.items ++ map (map (λ s. length states.old.items + s)) more_sets.now) }
+    ensures states { OnOk result (states.new.items ≡ states.old.items
+        ++ map (renamed_state (λ s. length states.old.items + s)) more_states.now) }
+    ensures flows { OnOk result (flows.new.items ≡ flows.old.items
+        ++ map (renamed_flow (λ s. length states.old.items + s)) more_flows.now) }
+    ensures sets { OnOk result (sets.new.items ≡ sets.old.items
+        ++ map (map (λ s. length states.old.items + s)) more_sets.now) }
     ensures states_stay { OnErr result (take (length states.old.items) states.new.items ≡ states.old.items) }
     ensures flows_stay { OnErr result (take (length flows.old.items) flows.new.items ≡ flows.old.items) }
     ensures sets_stay { OnErr result (take (length sets.old.items) sets.new.items ≡ sets.old.items) }
@@ -173,7 +178,8 @@ fn push_states(
     numbers: &Numbers,
 ) -> Result<(), Memory>
     requires { All (λ (state : State). KeepsOrderInHead (number_in numbers.now) state.head) states.now }
-    ensures ok { OnOk result (into.new.items ≡ into.old.items ++ map (renamed_state (number_in numbers.now)) states.now) }
+    ensures ok { OnOk result (into.new.items ≡ into.old.items
+        ++ map (renamed_state (number_in numbers.now)) states.now) }
     ensures err { OnErr result (take (length into.old.items) into.new.items ≡ into.old.items) }
 {
     for state in states {

@@ -4,7 +4,12 @@ ghost use Rattle.mls_automaton.specs.declared.automaton.FieldSet.{FieldSet};
 ghost use Rattle.mls_automaton.specs.Models.{HasArmsIn, HasFieldsIn, HasRisingLabels, HasStatesIn, IsClosed};
 ghost use Rattle.mls_automaton.specs.SchemeBooks.{scheme_in};
 ghost use Rattle.mls_automaton.specs.Schemes.{IsScheme, IsSchemeOf};
-ghost use Rattle.mls_automaton.specs.steps.BookParts.{AddsNoHead, AreEdges, AreSets, AreStates, HasPlace, IsLonger, bit_node, both_node, edge_nodes, edge_of, env_node, fields_from, fields_sets, fields_width, function_node, function_sets, function_width, head_sets, head_width, none_node, place_at, record_node, record_sets, record_width, set_nodes, set_width, state_nodes, variable_of};
+ghost use Rattle.mls_automaton.specs.steps.BookParts.{AddsNoHead, AreEdges, AreSets, AreStates, HasPlace, IsLonger};
+ghost use Rattle.mls_automaton.specs.steps.BookParts.{bit_node, both_node, edge_nodes, edge_of, env_node, fields_from};
+ghost use Rattle.mls_automaton.specs.steps.BookParts.{fields_sets, fields_width, function_node, function_sets};
+ghost use Rattle.mls_automaton.specs.steps.BookParts.{function_width, head_sets, head_width, none_node, place_at};
+ghost use Rattle.mls_automaton.specs.steps.BookParts.{record_node, record_sets, record_width, set_nodes, set_width};
+ghost use Rattle.mls_automaton.specs.steps.BookParts.{state_nodes, variable_of};
 
 use crate::automaton::{Arms, Automaton, FieldSet, FieldSets, Head, Polarity};
 use crate::scheme::{Env, Scheme};
@@ -164,7 +169,8 @@ fn push_edges(
     s: usize,
     partners: &StateSet,
 ) -> Result<usize, Memory>
-    ensures ok { OnOk result (book.new ≡ book.old ++ edge_nodes polarity (length book.old) (map (λ j. variable_of states (edge_of polarity s j)) partners.now)) }
+    ensures ok { OnOk result (book.new ≡ book.old ++ edge_nodes polarity (length book.old)
+        (map (λ j. variable_of states (edge_of polarity s j)) partners.now)) }
     ensures last { IfOk result (λ e. e + 1 ≡ length book.new) }
 {
     let mut last = book.push(none_node(polarity))?;
@@ -306,7 +312,8 @@ fn push_states(
 ) -> Result<(), Memory>
     requires closed { IsClosed automaton.now }
     requires edges { AreEdges automaton.now (length automaton.now.states) book.old edges.now }
-    ensures states { OnOk result (AreStates automaton.now edges.now (length book.old) sets (length automaton.now.states) book.new) }
+    ensures states { OnOk result (AreStates automaton.now edges.now (length book.old) sets
+        (length automaton.now.states) book.new) }
     ensures longer { OnOk result (IsLonger book.old book.new) }
 {
     let mut next = sets;
@@ -339,7 +346,8 @@ fn push_function_sets(
     first: usize,
 ) -> Result<(), Memory>
     requires { HasArmsIn (λ q. HasPlace first book.old) polarity function.now }
-    ensures { OnOk result (book.new ≡ book.old ++ function_sets polarity (place_at first) (length book.old) function.now) }
+    ensures { OnOk result (book.new ≡ book.old ++ function_sets polarity (place_at first)
+        (length book.old) function.now) }
 {
     match function {
         None => Ok(()),

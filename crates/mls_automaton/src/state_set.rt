@@ -1,5 +1,6 @@
 //! Sets of states.
-ghost use Rattle.std.specs.Prelude.{◌≡◌, ◌≢◌, ◌↔◌, ◌⊎◌, ◌<◌, ◌++◌, ◌∷◌, [], length, get_or, All, Contains, IfOk, OnOk, OnErr, IsTrue};
+ghost use Rattle.std.specs.Prelude.{◌≡◌, ◌≢◌, ◌↔◌, ◌⊎◌, ◌<◌, ◌++◌, ◌∷◌, [], length, get_or, All, Contains, IfOk, OnOk};
+ghost use Rattle.std.specs.Prelude.{OnErr, IsTrue};
 ghost use Rattle.mls_automaton.specs.Sets.{Rises};
 ghost use Rattle.mls_automaton.specs.steps.Merging.{GoesPast, IsLow, StandsAt};
 

@@ -15,7 +15,8 @@ use Rattle.mls_biunify.specs.declared.goal.ClashKind.TheVariants.{Unlike, Lacks}
 
 -- both have a record, and the field of this number of the second is not in the first
 abbrev pub LacksField : Option (List FieldSet) → Option (List FieldSet) → ℕ → Type 0
-LacksField (Some fields) (Some others) i = (field : FieldSet) × (slice_get others i ≡ Some field) × (set_at fields field.label ≡ None)
+LacksField (Some fields) (Some others) i =
+    (field : FieldSet) × (slice_get others i ≡ Some field) × (set_at fields field.label ≡ None)
 LacksField _ _ i = ⊥
 
 -- the heads of a positive and a negative state clash in this way
@@ -29,7 +30,8 @@ HasNoClash a IsRelated = (p n : ℕ) → IsRelated p n → (clash : ClashKind) �
 
 -- the pair of a clash is related and clashes so
 abbrev pub IsClashOf : Automaton → (ℕ → ℕ → Type 0) → Clash → Type 0
-IsClashOf a IsRelated c = IsRelated c.positive.0 c.negative.0 × Clashes (head_at a c.positive.0) (head_at a c.negative.0) c.kind
+IsClashOf a IsRelated c = IsRelated c.positive.0 c.negative.0
+    × Clashes (head_at a c.positive.0) (head_at a c.negative.0) c.kind
 
 -- the label of the field of this number
 abbrev pub label_of : Option (List FieldSet) → ℕ → List ℕ
@@ -42,8 +44,8 @@ rank kind.Int = 1
 rank kind.Function = 2
 rank kind.Rcd = 3
 
--- Unlike parts come before labels. Unlike parts are ordered by the positive one and then the negative one, and labels by
--- their bytes. The head is that of the negative state.
+-- Unlike parts come before labels. Unlike parts are ordered by the positive one and then the negative one, and labels
+-- by their bytes. The head is that of the negative state.
 abbrev pub kind_key : Head → ClashKind → List ℕ
 kind_key h (Unlike first second) = 0 ∷ rank first ∷ rank second ∷ []
 kind_key h (Lacks i) = 1 ∷ label_of h.fields i

@@ -15,13 +15,16 @@ use Rattle.mls_biunify.specs.Solutions.{scheme_over}
 -- a model in which the goals hold satisfies the whole closed relation
 abbrev pub SolutionsSatisfyAll : Type 0
 SolutionsSatisfyAll =
-    (a : Automaton) (goals : List Goal) → IsClosed a → All (IsGoalOf a) goals → (value : ℕ → Predicate) → IsModel a value
+    (a : Automaton) (goals : List Goal) → IsClosed a → All (IsGoalOf a) goals → (value : ℕ → Predicate)
+    → IsModel a value
     → ((p n : ℕ) → IsGoal goals p n → Implies (value p) (value n))
     → (p n : ℕ) → IsRelated a (IsGoal goals) p n → Implies (value p) (value n)
 
 -- where a related pair clashes, no substitution satisfies the goals, whatever the root and the binders
 abbrev pub NoInstanceBesideAClash : Type 0
 NoInstanceBesideAClash =
-    (a : Automaton) (goals : List Goal) → All (IsGoalOf a) goals → (c : Clash) → IsClashOf a (IsRelated a (IsGoal goals)) c
+    (a : Automaton) (goals : List Goal) → All (IsGoalOf a) goals → (c : Clash)
+    → IsClashOf a (IsRelated a (IsGoal goals)) c
     → (root : ℕ) (env : List EnvEntry) → IsScheme (scheme_over a root env)
-    → (b : book.Scheme) (is : IsSchemeOf (scheme_over a root env) b) (t : book.Scheme) → IsInstanceUnder b (PairAt is.place (IsGoal goals)) t → ⊥
+    → (b : book.Scheme) (is : IsSchemeOf (scheme_over a root env) b) (t : book.Scheme)
+    → IsInstanceUnder b (PairAt is.place (IsGoal goals)) t → ⊥

@@ -1,5 +1,6 @@
 -- Tables of states that are updated in place.
-use Rattle.std.specs.Prelude.{All, ◌≡◌, ◌↔◌, ◌⊎◌, ℕ, ◌<◌, Bool, true, false, List, [], length, get_or, Contains, Option, Some, None, IsSome}
+use Rattle.std.specs.Prelude.{All, ◌≡◌, ◌↔◌, ◌⊎◌, ℕ, ◌<◌, Bool, true, false, List, [], length, get_or, Contains, Option}
+use Rattle.std.specs.Prelude.{Some, None, IsSome}
 use Rattle.mls_automaton.specs.declared.automaton.Polarity.{Polarity}
 use Rattle.mls_automaton.specs.declared.automaton.Polarity.TheVariants.{Positive, Negative}
 use Rattle.mls_automaton.specs.declared.automaton.State.{State}
@@ -13,7 +14,8 @@ use Rattle.mls_biunify.specs.Rooms.{Room}
 use Rattle.mls_biunify.specs.Solutions.{IsSaturated}
 
 -- The table holds the states that are there under their numbers. A number that is free stands in it as a positive state
--- with nothing and without an edge, as do all numbers past its end. The related pairs are there once the table is solved.
+-- with nothing and without an edge, as do all numbers past its end. The related pairs are there once the table is
+-- solved.
 pub record Live : Type 0 where
   pub table : Automaton
   pub there : List Bool

@@ -35,7 +35,8 @@ pub data IsRelated (a : Automaton) (IsGoal : ℕ → ℕ → Type 0) : ℕ → �
   goal : {p n : ℕ} → IsGoal p n → IsRelated a IsGoal p n
   domain : {p n q m : ℕ} → IsRelated a IsGoal p n → InDomain a n q → InDomain a p m → IsRelated a IsGoal q m
   codomain : {p n q m : ℕ} → IsRelated a IsGoal p n → InCodomain a p q → InCodomain a n m → IsRelated a IsGoal q m
-  field : {p n q m : ℕ} (label : List ℕ) → IsRelated a IsGoal p n → InField a p label q → InField a n label m → IsRelated a IsGoal q m
+  field : {p n q m : ℕ} (label : List ℕ) → IsRelated a IsGoal p n → InField a p label q → InField a n label m
+      → IsRelated a IsGoal q m
   along : {p n q m : ℕ} → IsRelated a IsGoal p n → HasFlow a n q → IsRelated a IsGoal q m → IsRelated a IsGoal p m
 
 -- the table holds exactly the related pairs

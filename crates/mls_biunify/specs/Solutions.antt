@@ -25,5 +25,8 @@ pub record IsSaturated (a : Automaton) (goals : List Goal) (room : Room) : Type 
 -- the goals of the scheme over the first. Said of books: a book of the one scheme subsumes exactly the instances under
 -- the goals of a book of the other.
 pub record HasInstancesUnder (a : Automaton) (IsGoal : ℕ → ℕ → Type 0) (solved : Automaton) : Type 0 where
-  pub instances : (root : ℕ) (env : List EnvEntry) → IsScheme (scheme_over a root env) → (t : book.Scheme) → IsInstance (scheme_over a root env) IsGoal t ↔ IsInstance (scheme_over solved root env) NoGoal t
-  pub books : (root : ℕ) (env : List EnvEntry) → IsScheme (scheme_over a root env) → (b c : book.Scheme) (is : IsSchemeOf (scheme_over a root env) b) → IsSchemeOf (scheme_over solved root env) c → (t : book.Scheme) → IsInstanceUnder b (PairAt is.place IsGoal) t ↔ Subsumes c t
+  pub instances : (root : ℕ) (env : List EnvEntry) → IsScheme (scheme_over a root env) → (t : book.Scheme)
+      → IsInstance (scheme_over a root env) IsGoal t ↔ IsInstance (scheme_over solved root env) NoGoal t
+  pub books : (root : ℕ) (env : List EnvEntry) → IsScheme (scheme_over a root env)
+      → (b c : book.Scheme) (is : IsSchemeOf (scheme_over a root env) b) → IsSchemeOf (scheme_over solved root env) c
+      → (t : book.Scheme) → IsInstanceUnder b (PairAt is.place IsGoal) t ↔ Subsumes c t

@@ -1,5 +1,6 @@
 //! Sets of numbers that never take memory: numbers below a limit, in the order in which they came.
-ghost use Rattle.std.specs.Prelude.{◌≡◌, ◌↔◌, ◌++◌, ◌∷◌, ◌<◌, ◌≤◌, ◌^◌, ◌&&◌, ℕ, false, not, [], length, get_or, replicate, All, Contains, IfOk, IsTrue};
+ghost use Rattle.std.specs.Prelude.{◌≡◌, ◌↔◌, ◌++◌, ◌∷◌, ◌<◌, ◌≤◌, ◌^◌, ◌&&◌, ℕ, false, not, [], length, get_or};
+ghost use Rattle.std.specs.Prelude.{replicate, All, Contains, IfOk, IsTrue};
 ghost use Rattle.mls_biunify.specs.steps.Numbers.{Inserts};
 ghost use Rattle.mls_biunify.specs.steps.Among.{is_among};
 

@@ -1,9 +1,11 @@
 //! The first clash of a relation.
-ghost use Rattle.std.specs.Prelude.{◌≡◌, ℕ, ◌<◌, ◌≤◌, [], ◌∷◌, true, false, get_or, length, position, MatchOption, OnOk, IfErr};
+ghost use Rattle.std.specs.Prelude.{◌≡◌, ℕ, ◌<◌, ◌≤◌, [], ◌∷◌, true, false, get_or, length, position, MatchOption};
+ghost use Rattle.std.specs.Prelude.{OnOk, IfErr};
 ghost use Rattle.std.specs.Ordering.{nat_cmp};
 ghost use Rattle.std.specs.Cmp.Lexicographic.{slice_cmp};
 ghost use Rattle.mls_automaton.specs.Models.{HasRisingLabels, IsClosed};
-ghost use Rattle.mls_biunify.specs.Clashes.{HasNoClash, IsFirstClash, LacksField, clash_key, key_cmp, kind_key, label_of, rank};
+ghost use Rattle.mls_biunify.specs.Clashes.{HasNoClash, IsFirstClash, LacksField, clash_key, key_cmp, kind_key};
+ghost use Rattle.mls_biunify.specs.Clashes.{label_of, rank};
 ghost use Rattle.mls_biunify.specs.Rooms.{Holds};
 ghost use Rattle.mls_biunify.specs.steps.Tables.{HoldsThere};
 ghost use Rattle.mls_biunify.specs.steps.Kinds.{first_kind, other_kind, is_unlike, unlike_kind, lacks};
@@ -138,7 +140,9 @@ fn compare(a: &Automaton, left: &Clash, right: &Clash) -> Ordering
 
 // Which of two clashes comes first, where the negative states have these heads.
 fn compare_heads(lower: &Head, left: &Clash, other: &Head, right: &Clash) -> Ordering
-    ensures { result ≡ key_cmp (kind_key lower.now left.now.kind ∷ (left.now.positive.0 ∷ left.now.negative.0 ∷ []) ∷ []) (kind_key other.now right.now.kind ∷ (right.now.positive.0 ∷ right.now.negative.0 ∷ []) ∷ []) }
+    ensures { result ≡ key_cmp (kind_key lower.now left.now.kind ∷
+        (left.now.positive.0 ∷ left.now.negative.0 ∷ []) ∷ [])
+        (kind_key other.now right.now.kind ∷ (right.now.positive.0 ∷ right.now.negative.0 ∷ []) ∷ []) }
 {
     let kinds = compare_kinds(lower, left.kind, other, right.kind);
     let states = left
@@ -261,7 +265,9 @@ fn first_kind(boolean: bool, integer: bool, function: bool, fields: bool) -> Opt
 
 // The number of the first field of the second head that the first head lacks, if both have a record.
 fn first_lacking(upper: &Head, lower: &Head) -> Option<usize>
-    ensures { MatchOption result ((i : ℕ) → LacksField upper.now.fields lower.now.fields i → ⊥) (λ i. LacksField upper.now.fields lower.now.fields i × ((j : ℕ) → LacksField upper.now.fields lower.now.fields j → i ≤ j)) }
+    ensures { MatchOption result ((i : ℕ) → LacksField upper.now.fields lower.now.fields i → ⊥)
+        (λ i. LacksField upper.now.fields lower.now.fields i
+        × ((j : ℕ) → LacksField upper.now.fields lower.now.fields j → i ≤ j)) }
 {
     match &upper.fields {
         None => None,

@@ -12,8 +12,8 @@ use std::alloc::Global;
 use std::collections::BTreeMap;
 use std::marker::Model;
 
-/// Pairs of a positive and a negative state, in the order in which they were found. Contracts see a room without rows and
-/// columns.
+/// Pairs of a positive and a negative state, in the order in which they were found. Contracts see a room without rows
+/// and columns.
 #[derive(Drop)]
 pub struct Found {
     pairs: Vec<(usize, usize)>,
@@ -67,8 +67,10 @@ fn put_both(
     positive: usize,
     negative: usize,
 ) -> Result<(), Memory>
-    ensures below { OnOk result ((k m : ℕ) → HasMember below.new k m ↔ HasMember below.old k m ⊎ ((k ≡ positive) × (m ≡ negative))) }
-    ensures above { OnOk result ((k m : ℕ) → HasMember above.new k m ↔ HasMember above.old k m ⊎ ((k ≡ negative) × (m ≡ positive))) }
+    ensures below { OnOk result ((k m : ℕ) → HasMember below.new k m ↔ HasMember below.old k m
+        ⊎ ((k ≡ positive) × (m ≡ negative))) }
+    ensures above { OnOk result ((k m : ℕ) → HasMember above.new k m ↔ HasMember above.old k m
+        ⊎ ((k ≡ negative) × (m ≡ positive))) }
 {
     put(alloc, below, positive, negative)?;
     put(alloc, above, negative, positive)?;

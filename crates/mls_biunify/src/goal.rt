@@ -41,7 +41,8 @@ pub enum Refusal {
 
 /// Whether each goal goes from a positive state of the automaton to a negative one.
 pub fn are_goals(a: &Automaton, goals: &[Goal]) -> bool
-    ensures { IsTrue result ↔ All (λ g. IsState a.now Polarity.Positive g.positive.0 × IsState a.now Polarity.Negative g.negative.0) goals.now }
+    ensures { IsTrue result ↔ All (λ g. IsState a.now Polarity.Positive g.positive.0
+        × IsState a.now Polarity.Negative g.negative.0) goals.now }
 {
     goals.iter().all(|goal| {
         is_state(a, goal.positive, Polarity::Positive)

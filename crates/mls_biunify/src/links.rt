@@ -89,7 +89,8 @@ impl Links {
     // The number behind the latest place before this one with the same key, or 0.
     pub fn earlier(&self, k: usize) -> usize
         requires { k < self.now.len }
-        ensures { (keys : List ℕ) → AreLinked keys self.now → k < length keys → IsLatest keys k (get_or keys k 0) result }
+        ensures { (keys : List ℕ) → AreLinked keys self.now → k < length keys
+            → IsLatest keys k (get_or keys k 0) result }
     {
         self.before[k] as usize
     }

@@ -1,5 +1,6 @@
 //! Tables of states that are updated in place.
-ghost use Rattle.std.specs.Prelude.{◌≡◌, ◌↔◌, ◌⊎◌, ℕ, List, true, All, Contains, Err, IfErr, IfOk, IsOk, IsSome, IsTrue, None, OnErr, OnOk};
+ghost use Rattle.std.specs.Prelude.{◌≡◌, ◌↔◌, ◌⊎◌, ℕ, List, true, All, Contains, Err, IfErr, IfOk, IsOk, IsSome};
+ghost use Rattle.std.specs.Prelude.{IsTrue, None, OnErr, OnOk};
 ghost use Rattle.mls_automaton.specs.declared.automaton.Polarity.TheVariants.{Positive, Negative};
 ghost use Rattle.mls_automaton.specs.declared.scheme.EnvEntry.{EnvEntry};
 ghost use Rattle.mls_automaton.specs.Automata.{HasFlow, polarity_at, head_at};
@@ -13,7 +14,8 @@ ghost use Rattle.mls_biunify.specs.Relations.{IsGoal, IsRelated};
 ghost use Rattle.mls_biunify.specs.Clashes.{HasNoClash};
 ghost use Rattle.mls_biunify.specs.Solutions.{HasInstancesUnder, scheme_over};
 ghost use Rattle.mls_biunify.specs.Solved.{IsSolved};
-ghost use Rattle.mls_biunify.specs.Live.{AreRelated, HasRelation, Inserts, IsLive, IsLiveGoal, IsLiveState, IsRefusalOf, IsSameLive, IsSolvedFor, IsStateIn, IsThere, IsUnsolved};
+ghost use Rattle.mls_biunify.specs.Live.{AreRelated, HasRelation, Inserts, IsLive, IsLiveGoal, IsLiveState};
+ghost use Rattle.mls_biunify.specs.Live.{IsRefusalOf, IsSameLive, IsSolvedFor, IsStateIn, IsThere, IsUnsolved};
 
 use crate::clash::first_clash_of;
 use crate::copy::{copied_env, copied_table};
@@ -134,7 +136,8 @@ impl Live {
     pub fn insert(&mut self, polarity: Polarity, head: Head) -> Result<StateId, Memory>
         requires states { HasStatesIn (IsLiveState self.old) polarity head }
         requires labels { HasRisingLabels head.fields }
-        ensures inserts { IfOk result (λ id. Inserts self.old self.new id.0 (record { polarity = polarity; head = head })) }
+        ensures inserts { IfOk result (λ id. Inserts self.old self.new id.0
+            (record { polarity = polarity; head = head })) }
         ensures unsolved { OnOk result (IsUnsolved self.new) }
         ensures err { OnErr result (self.new ≡ self.old) }
     {
@@ -152,7 +155,8 @@ impl Live {
     pub fn edge(&mut self, negative: StateId, positive: StateId) -> Result<(), Memory>
         requires negative { IsLiveState self.old Negative negative.0 }
         requires positive { IsLiveState self.old Positive positive.0 }
-        ensures flows { OnOk result ((n p : ℕ) → HasFlow self.new.table n p ↔ HasFlow self.old.table n p ⊎ ((n ≡ negative.0) × (p ≡ positive.0))) }
+        ensures flows { OnOk result ((n p : ℕ) → HasFlow self.new.table n p ↔ HasFlow self.old.table n p
+            ⊎ ((n ≡ negative.0) × (p ≡ positive.0))) }
         ensures there { HasFlow self.old.table negative.0 positive.0 → self.new.table ≡ self.old.table }
         ensures states { self.new.table.states ≡ self.old.table.states }
         ensures numbers { self.new.there ≡ self.old.there }
@@ -165,8 +169,8 @@ impl Live {
         Ok(())
     }
 
-    /// Makes the table ready for `solve`: each state has its place in the relation. The pairs themselves take memory as they
-    /// are found.
+    /// Makes the table ready for `solve`: each state has its place in the relation. The pairs themselves take memory as
+    /// they are found.
     ///
     /// # Errors
     ///
@@ -224,7 +228,8 @@ impl Live {
     pub fn settle(&mut self) -> Result<(), Memory>
         requires { (goals : List Goal) × IsSolvedFor self.old goals }
         ensures solved { OnOk result (IsSolved self.old.table (AreRelated self.old) self.new.table) }
-        ensures instances { OnOk result ((goals : List Goal) → IsSolvedFor self.old goals → HasInstancesUnder self.old.table (IsGoal goals) self.new.table) }
+        ensures instances { OnOk result ((goals : List Goal) → IsSolvedFor self.old goals
+            → HasInstancesUnder self.old.table (IsGoal goals) self.new.table) }
         ensures numbers { self.new.there ≡ self.old.there }
         ensures unsolved { OnOk result (IsUnsolved self.new) }
         ensures err { OnErr result (IsSameLive self.old self.new) }
@@ -281,7 +286,8 @@ fn refusal_of(found: Result<(), Clash>) -> Result<(), Refusal>
 
 // Whether each goal goes from a positive state that is there to a negative one.
 fn are_goals_of(table: &Table, goals: &[Goal]) -> bool
-    ensures { IsTrue result ↔ All (λ g. IsStateIn table.now.automaton table.now.there Positive g.positive.0 × IsStateIn table.now.automaton table.now.there Negative g.negative.0) goals.now }
+    ensures { IsTrue result ↔ All (λ g. IsStateIn table.now.automaton table.now.there Positive g.positive.0
+        × IsStateIn table.now.automaton table.now.there Negative g.negative.0) goals.now }
 {
     goals.iter().all(|goal| {
         table.is_state(goal.positive, Polarity::Positive)

@@ -11,7 +11,8 @@ ghost use Rattle.mls_biunify.specs.Rooms.{Holds, HoldsStates};
 ghost use Rattle.mls_biunify.specs.Solutions.{HasInstancesUnder, IsSaturated};
 ghost use Rattle.mls_biunify.specs.Solved.{IsSolved, ReachesBy};
 ghost use Rattle.mls_biunify.specs.steps.Numbers.{ByOne, Inserts};
-ghost use Rattle.mls_biunify.specs.steps.Solving.{AddsFlows, AreMembers, AreSolvedTo, IsSolvedFlow, IsSolvedState, IsTarget};
+ghost use Rattle.mls_biunify.specs.steps.Solving.{AddsFlows, AreMembers, AreSolvedTo, IsSolvedFlow, IsSolvedState};
+ghost use Rattle.mls_biunify.specs.steps.Solving.{IsTarget};
 
 use crate::cells::Cells;
 use crate::goal::is_state;
@@ -36,7 +37,8 @@ pub fn materialise(alloc: Global, room: &Room, a: &Automaton) -> Result<Automato
     requires states { HoldsStates a.now room.now }
     ensures solved { IfOk result (IsSolved a.now (Holds room.now)) }
     ensures closed { IfOk result IsClosed }
-    ensures instances { IfOk result (λ solved. (goals : List Goal) → IsSaturated a.now goals room.now → HasInstancesUnder a.now (IsGoal goals) solved) }
+    ensures instances { IfOk result (λ solved. (goals : List Goal) → IsSaturated a.now goals room.now
+        → HasInstancesUnder a.now (IsGoal goals) solved) }
 {
     let mut marks = Cells::new(alloc, a.len())?;
     let mut solved = solved_states(&mut marks, alloc, room, a)?;
@@ -78,7 +80,8 @@ fn add_state(
     requires in_range { s.0 < length a.now.states }
     requires limit { marks.old.limit ≡ length a.now.states }
     ensures limit { marks.new.limit ≡ marks.old.limit }
-    ensures state { OnOk result ((state : State) × (solved.new ≡ with_state solved.old state) × IsSolvedState a.now (Holds room.now) s.0 state) }
+    ensures state { OnOk result ((state : State) × (solved.new ≡ with_state solved.old state)
+        × IsSolvedState a.now (Holds room.now) s.0 state) }
 {
     let polarity = a.polarity(s);
     let members = members(marks, alloc, room, a, s)?;
@@ -165,7 +168,8 @@ pub(crate) fn combined_head(
 ) -> Result<Head, Memory>
     requires closed { IsClosed a.now }
     requires in_range { All (λ j. j < length a.now.states) members.now }
-    ensures parts { IfOk result (λ head. IsSameParts (parts_of head) (combined polarity (map (λ j. parts_of (head_at a.now j)) members.now))) }
+    ensures parts { IfOk result (λ head. IsSameParts (parts_of head)
+        (combined polarity (map (λ j. parts_of (head_at a.now j)) members.now))) }
     ensures labels { IfOk result (λ head. HasRisingLabels head.fields) }
 {
     if members.is_empty() {
@@ -224,7 +228,8 @@ fn add_flows_from(
     requires old { (p : _) (s : ℕ) → IsState a.now p s → IsState solved.old p s }
     requires size { length solved.old.states ≡ length a.now.states }
     requires limit { marks.old.limit ≡ length a.now.states }
-    ensures flows { OnOk result (AddsFlows solved.old solved.new (λ m q. (m ≡ n.0) × IsSolvedFlow a.now (Holds room.now) n.0 q)) }
+    ensures flows { OnOk result (AddsFlows solved.old solved.new
+        (λ m q. (m ≡ n.0) × IsSolvedFlow a.now (Holds room.now) n.0 q)) }
     ensures limit { marks.new.limit ≡ marks.old.limit }
 {
     if a.partners(n).is_empty() {

@@ -1,5 +1,6 @@
 //! Rooms: the space in which the closed relation is found.
-ghost use Rattle.std.specs.Prelude.{◌≡◌, ◌↔◌, ℕ, ◌+◌, ◌*◌, ◌<◌, ◌≤◌, ◌++◌, ◌∷◌, [], length, count_by, get_or, All, Contains, IfOk, IsTrue, MatchOption};
+ghost use Rattle.std.specs.Prelude.{◌≡◌, ◌↔◌, ℕ, ◌+◌, ◌*◌, ◌<◌, ◌≤◌, ◌++◌, ◌∷◌, [], length, count_by, get_or, All};
+ghost use Rattle.std.specs.Prelude.{Contains, IfOk, IsTrue, MatchOption};
 ghost use Rattle.mls_biunify.specs.Rooms.{Fits, Holds, is_positive, is_negative};
 ghost use Rattle.mls_biunify.specs.steps.Growth.{Relates};
 ghost use Rattle.mls_biunify.specs.steps.Numbers.{Inserts};
@@ -114,7 +115,8 @@ impl Room {
 
     // The row of a state, if it has one.
     fn row_of(&self, s: StateId) -> Option<usize>
-        ensures { MatchOption result (Contains self.now.rows s.0 → ⊥) (λ r. (r < length self.now.rows) × (get_or self.now.rows r 0 ≡ s.0)) }
+        ensures { MatchOption result (Contains self.now.rows s.0 → ⊥)
+            (λ r. (r < length self.now.rows) × (get_or self.now.rows r 0 ≡ s.0)) }
     {
         let row = self.places.get(s.0).copied()?;
         if row < self.row_count && self.rows[row] == s.0 {
@@ -126,7 +128,8 @@ impl Room {
 
     // The column of a state, if it has one.
     fn column_of(&self, s: StateId) -> Option<usize>
-        ensures { MatchOption result (Contains self.now.columns s.0 → ⊥) (λ c. (c < length self.now.columns) × (get_or self.now.columns c 0 ≡ s.0)) }
+        ensures { MatchOption result (Contains self.now.columns s.0 → ⊥)
+            (λ c. (c < length self.now.columns) × (get_or self.now.columns c 0 ≡ s.0)) }
     {
         let column = self.places.get(s.0).copied()?;
         if column < self.column_count && self.columns[column] == s.0 {

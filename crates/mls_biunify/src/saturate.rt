@@ -8,7 +8,8 @@ ghost use Rattle.mls_biunify.specs.Clashes.{HasNoClash, IsFirstClash};
 ghost use Rattle.mls_biunify.specs.Relations.{IsGoal, IsGoalOf, IsRelated};
 ghost use Rattle.mls_biunify.specs.Rooms.{Fits, Holds, HoldsJust, HoldsStates};
 ghost use Rattle.mls_biunify.specs.steps.Growth.{BySome, Relates};
-ghost use Rattle.mls_biunify.specs.steps.Consequences.{ByFunctions, ByField, ByRecords, ByHeads, IsRoomOf, Follows, HasConsequences};
+ghost use Rattle.mls_biunify.specs.steps.Consequences.{ByFunctions, ByField, ByRecords, ByHeads, IsRoomOf, Follows};
+ghost use Rattle.mls_biunify.specs.steps.Consequences.{HasConsequences};
 
 use crate::clash::first_clash;
 use crate::goal::{Clash, Goal};
@@ -151,7 +152,8 @@ fn add_by_heads(room: &mut Room, upper: &Head, lower: &Head)
 }
 
 fn add_by_functions(room: &mut Room, upper: &Option<Arms>, lower: &Option<Arms>)
-    requires { (p n : ℕ) → ByFunctions upper.now lower.now p n → Contains room.old.rows p × Contains room.old.columns n }
+    requires { (p n : ℕ) → ByFunctions upper.now lower.now p n
+        → Contains room.old.rows p × Contains room.old.columns n }
     ensures { Relates room.old room.new (ByFunctions upper.now lower.now) }
 {
     if let Some(arms) = upper {
@@ -174,7 +176,8 @@ fn add_by_records(room: &mut Room, upper: &Option<FieldSets>, lower: &Option<Fie
 }
 
 fn add_fields(room: &mut Room, fields: &FieldSets, others: &[FieldSet])
-    requires { (p n : ℕ) → BySome others.now (ByField fields.now) p n → Contains room.old.rows p × Contains room.old.columns n }
+    requires { (p n : ℕ) → BySome others.now (ByField fields.now) p n
+        → Contains room.old.rows p × Contains room.old.columns n }
     ensures { Relates room.old room.new (BySome others.now (ByField fields.now)) }
 {
     for other in others {
@@ -193,7 +196,8 @@ fn add_field(room: &mut Room, fields: &FieldSets, other: &FieldSet)
 
 // Relates each of the positive states to each of the negative ones.
 fn add_sets(room: &mut Room, positives: &[usize], negatives: &[usize])
-    requires { (p n : ℕ) → Contains positives.now p → Contains negatives.now n → Contains room.old.rows p × Contains room.old.columns n }
+    requires { (p n : ℕ) → Contains positives.now p → Contains negatives.now n
+        → Contains room.old.rows p × Contains room.old.columns n }
     ensures { Relates room.old room.new (λ p n. Contains positives.now p × Contains negatives.now n) }
 {
     for p in positives {

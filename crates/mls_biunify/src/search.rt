@@ -8,7 +8,8 @@ ghost use Rattle.mls_biunify.specs.Relations.{IsGoal, IsGoalOf, IsRelated};
 ghost use Rattle.mls_biunify.specs.Rooms.{Holds, HoldsJust, HoldsStates};
 ghost use Rattle.mls_biunify.specs.steps.FirstClashes.{IsFirstOf, IsPairAt};
 ghost use Rattle.mls_biunify.specs.steps.Growth.{BySome, Relates};
-ghost use Rattle.mls_biunify.specs.steps.Consequences.{ByFunctions, ByField, ByRecords, ByHeads, Follows, HasConsequences};
+ghost use Rattle.mls_biunify.specs.steps.Consequences.{ByFunctions, ByField, ByRecords, ByHeads, Follows};
+ghost use Rattle.mls_biunify.specs.steps.Consequences.{HasConsequences};
 
 use crate::clash::{clash_of, earlier};
 use crate::found::Found;
@@ -133,7 +134,8 @@ fn add_after(
     requires held { Holds found.old positive.0 negative.0 }
     requires negative { IsState a.now Negative negative.0 }
     ensures follows { OnOk result (Follows a.now found.old found.new) }
-    ensures has { OnOk result ((q m : ℕ) → HasFlow a.now negative.0 q → Holds found.old q m → Holds found.new positive.0 m) }
+    ensures has { OnOk result ((q m : ℕ) → HasFlow a.now negative.0 q → Holds found.old q m
+        → Holds found.new positive.0 m) }
 {
     for q in a.partners(negative).as_slice() {
         add_row(alloc, found, *q, positive.0)?;
@@ -153,7 +155,8 @@ fn add_before(
     requires held { Holds found.old positive.0 negative.0 }
     requires positive { IsState a.now Positive positive.0 }
     ensures follows { OnOk result (Follows a.now found.old found.new) }
-    ensures has { OnOk result ((q m : ℕ) → Holds found.old q m → HasFlow a.now m positive.0 → Holds found.new q negative.0) }
+    ensures has { OnOk result ((q m : ℕ) → Holds found.old q m → HasFlow a.now m positive.0
+        → Holds found.new q negative.0) }
 {
     for m in a.partners(positive).as_slice() {
         add_column(alloc, found, *m, negative.0)?;

@@ -6,7 +6,8 @@ ghost use Rattle.mls_automaton.specs.Models.{IsClosed};
 ghost use Rattle.mls_biunify.specs.Rooms.{Holds, HoldsStates};
 ghost use Rattle.mls_biunify.specs.Solved.{IsSolved, ReachesBy};
 ghost use Rattle.mls_biunify.specs.steps.Numbers.{ByOne};
-ghost use Rattle.mls_biunify.specs.steps.Settling.{AreChanges, AreMade, HasChangeOf, IsChange, IsFitting, IsTouched, Makes};
+ghost use Rattle.mls_biunify.specs.steps.Settling.{AreChanges, AreMade, HasChangeOf, IsChange, IsFitting, IsTouched};
+ghost use Rattle.mls_biunify.specs.steps.Settling.{Makes};
 ghost use Rattle.mls_biunify.specs.steps.Solving.{AreMembers, IsTarget};
 
 use crate::found::Found;
@@ -131,7 +132,8 @@ fn add_reaching(
 ) -> Result<(), Memory>
     requires closed { IsClosed a.now }
     requires in_range { s.0 < length a.now.states }
-    ensures { OnOk result ((j : ℕ) → Contains members.new j ↔ Contains members.old j ⊎ ReachesBy a.now (Holds found.now) (polarity_at a.now s.0) s.0 j) }
+    ensures { OnOk result ((j : ℕ) → Contains members.new j ↔ Contains members.old j
+        ⊎ ReachesBy a.now (Holds found.now) (polarity_at a.now s.0) s.0 j) }
 {
     match a.polarity(s) {
         Polarity::Positive => {
@@ -147,7 +149,8 @@ fn add_reaching(
 
 // Adds the states that are related to one of the negative ones.
 fn add_above(members: &mut StateSet, found: &Found, negatives: &[usize]) -> Result<(), Memory>
-    ensures { OnOk result ((j : ℕ) → Contains members.new j ↔ Contains members.old j ⊎ ByOne negatives.now (λ n p. Holds found.now p n) j) }
+    ensures { OnOk result ((j : ℕ) → Contains members.new j ↔ Contains members.old j
+        ⊎ ByOne negatives.now (λ n p. Holds found.now p n) j) }
 {
     for n in negatives {
         add_all(members, found.above(StateId(*n)))?;
@@ -157,7 +160,8 @@ fn add_above(members: &mut StateSet, found: &Found, negatives: &[usize]) -> Resu
 
 // Adds the states to which one of the positive ones is related.
 fn add_below(members: &mut StateSet, found: &Found, positives: &[usize]) -> Result<(), Memory>
-    ensures { OnOk result ((j : ℕ) → Contains members.new j ↔ Contains members.old j ⊎ ByOne positives.now (λ p n. Holds found.now p n) j) }
+    ensures { OnOk result ((j : ℕ) → Contains members.new j ↔ Contains members.old j
+        ⊎ ByOne positives.now (λ p n. Holds found.now p n) j) }
 {
     for p in positives {
         add_all(members, found.below(StateId(*p)))?;
@@ -175,7 +179,8 @@ fn ends_of(
     requires closed { IsClosed a.now }
     requires states { All (IsState a.now polarity) members.now }
     ensures positive { polarity ≡ Positive → IfOk result (λ ends. ends ≡ []) }
-    ensures negative { polarity ≡ Negative → IfOk result (λ ends. (q : ℕ) → Contains ends q ↔ IsTarget a.now members.now q) }
+    ensures negative { polarity ≡ Negative
+        → IfOk result (λ ends. (q : ℕ) → Contains ends q ↔ IsTarget a.now members.now q) }
 {
     match polarity {
         Polarity::Positive => Ok(StateSet::new(alloc)),

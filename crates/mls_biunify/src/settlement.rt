@@ -1,5 +1,6 @@
 //! The heads and edges of the solved automaton, over states that keep their numbers.
-ghost use Rattle.std.specs.Prelude.{◌≡◌, ◌↔◌, ◌⊎◌, ℕ, ◌<◌, ◌≤◌, List, true, false, get_or, length, map, All, Contains, IfOk, OnErr, OnOk};
+ghost use Rattle.std.specs.Prelude.{◌≡◌, ◌↔◌, ◌⊎◌, ℕ, ◌<◌, ◌≤◌, List, true, false, get_or, length, map, All, Contains};
+ghost use Rattle.std.specs.Prelude.{IfOk, OnErr, OnOk};
 ghost use Rattle.mls_automaton.specs.declared.automaton.Head.{Head};
 ghost use Rattle.mls_automaton.specs.declared.automaton.Polarity.TheVariants.{Positive, Negative};
 ghost use Rattle.mls_automaton.specs.Automata.{HasFlow, head_at, polarity_at};
@@ -8,7 +9,8 @@ ghost use Rattle.mls_automaton.specs.Models.{HasRisingLabels, HasStatesIn};
 ghost use Rattle.mls_biunify.specs.Live.{IsStateIn};
 ghost use Rattle.mls_biunify.specs.Rooms.{Holds};
 ghost use Rattle.mls_biunify.specs.Solved.{IsNewFlow};
-ghost use Rattle.mls_biunify.specs.steps.Settlement.{AddsEdges, AreFit, AreNewEdges, AreNewHeads, GivenBy, IsEdgeAt, IsEdgeFrom, IsTouched, Links, StoresHeads, Unlinks};
+ghost use Rattle.mls_biunify.specs.steps.Settlement.{AddsEdges, AreFit, AreNewEdges, AreNewHeads, GivenBy, IsEdgeAt};
+ghost use Rattle.mls_biunify.specs.steps.Settlement.{IsEdgeFrom, IsTouched, Links, StoresHeads, Unlinks};
 ghost use Rattle.mls_biunify.specs.steps.Solving.{AreMembers, IsSolvedFlow, IsSolvedState};
 ghost use Rattle.mls_biunify.specs.steps.Tables.{HoldsThere, IsNumbered};
 
@@ -68,7 +70,8 @@ fn members(
 // The set, and the positive states that are related to one of the negative ones.
 fn with_above(set: StateSet, relation: &Relation, negatives: &[usize]) -> Result<StateSet, Memory>
     requires { All (λ n. n < relation.now.negatives) negatives.now }
-    ensures { IfOk result (λ all. (j : ℕ) → Contains all j ↔ (Contains set j ⊎ GivenBy negatives.now (λ n p. Holds relation.now p n) j)) }
+    ensures { IfOk result (λ all. (j : ℕ)
+        → Contains all j ↔ (Contains set j ⊎ GivenBy negatives.now (λ n p. Holds relation.now p n) j)) }
 {
     let mut all = set;
     for n in negatives {
@@ -80,7 +83,8 @@ fn with_above(set: StateSet, relation: &Relation, negatives: &[usize]) -> Result
 // The set, and the negative states to which one of the positive ones is related.
 fn with_below(set: StateSet, relation: &Relation, positives: &[usize]) -> Result<StateSet, Memory>
     requires { All (λ p. p < relation.now.positives) positives.now }
-    ensures { IfOk result (λ all. (j : ℕ) → Contains all j ↔ (Contains set j ⊎ GivenBy positives.now (λ p n. Holds relation.now p n) j)) }
+    ensures { IfOk result (λ all. (j : ℕ)
+        → Contains all j ↔ (Contains set j ⊎ GivenBy positives.now (λ p n. Holds relation.now p n) j)) }
 {
     let mut all = set;
     for p in positives {
@@ -98,7 +102,8 @@ fn combined_head(
     members: &[usize],
 ) -> Result<Head, Memory>
     requires { All (λ j. get_or table.now.there j false ≡ true) members.now }
-    ensures parts { IfOk result (λ head. IsSameParts (parts_of head) (combined polarity (map (λ j. parts_of (head_at table.now.automaton j)) members.now))) }
+    ensures parts { IfOk result (λ head. IsSameParts (parts_of head)
+        (combined polarity (map (λ j. parts_of (head_at table.now.automaton j)) members.now))) }
     ensures labels { IfOk result (λ head. HasRisingLabels head.fields) }
 {
     if members.is_empty() {
@@ -119,7 +124,8 @@ fn new_head(alloc: Global, relation: &Relation, table: &Table, s: StateId) -> Re
     requires there { get_or table.now.there s.0 false ≡ true }
     requires rows { table.now.limit ≤ relation.now.positives }
     requires columns { table.now.limit ≤ relation.now.negatives }
-    ensures { IfOk result (λ h. IsSolvedState table.now.automaton (Holds relation.now) s.0 (record { polarity = polarity_at table.now.automaton s.0; head = h })) }
+    ensures { IfOk result (λ h. IsSolvedState table.now.automaton (Holds relation.now) s.0
+        (record { polarity = polarity_at table.now.automaton s.0; head = h })) }
 {
     let polarity = table.polarity(s);
     let members = members(alloc, relation, table, s)?;
@@ -150,7 +156,8 @@ pub fn new_heads(
 
 // Puts the edges from a state to these ones behind those of a list.
 fn push_edges(edges: &mut Vec<(usize, usize)>, n: usize, targets: &[usize]) -> Result<(), Memory>
-    ensures { OnOk result ((x : ℕ × ℕ) → Contains edges.new.items x ↔ (Contains edges.old.items x ⊎ GivenBy targets.now (λ q y. y ≡ (n, q)) x)) }
+    ensures { OnOk result ((x : ℕ × ℕ)
+        → Contains edges.new.items x ↔ (Contains edges.old.items x ⊎ GivenBy targets.now (λ q y. y ≡ (n, q)) x)) }
 {
     for q in targets {
         edges.push((n, *q))?;
@@ -170,7 +177,9 @@ fn push_edges_from(
     requires negative { IsStateIn table.now.automaton table.now.there Negative n.0 }
     requires rows { table.now.limit ≤ relation.now.positives }
     requires columns { table.now.limit ≤ relation.now.negatives }
-    ensures { OnOk result ((x : ℕ × ℕ) → Contains edges.new.items x ↔ (Contains edges.old.items x ⊎ IsEdgeFrom table.now.automaton (Holds relation.now) n.0 x)) }
+    ensures { OnOk result ((x : ℕ × ℕ)
+        → Contains edges.new.items x ↔
+        (Contains edges.old.items x ⊎ IsEdgeFrom table.now.automaton (Holds relation.now) n.0 x)) }
 {
     let members = members(alloc, relation, table, n)?;
     for m in members.as_slice() {
@@ -191,7 +200,9 @@ fn push_edges_at(
     requires there { get_or table.now.there s.0 false ≡ true }
     requires rows { table.now.limit ≤ relation.now.positives }
     requires columns { table.now.limit ≤ relation.now.negatives }
-    ensures { OnOk result ((x : ℕ × ℕ) → Contains edges.new.items x ↔ (Contains edges.old.items x ⊎ IsEdgeAt table.now.automaton (Holds relation.now) s.0 x)) }
+    ensures { OnOk result ((x : ℕ × ℕ)
+        → Contains edges.new.items x ↔
+        (Contains edges.old.items x ⊎ IsEdgeAt table.now.automaton (Holds relation.now) s.0 x)) }
 {
     match table.polarity(s) {
         Polarity::Positive => Ok(()),
@@ -223,7 +234,8 @@ pub fn new_edges(
 
 // Adds these edges. After an error there are the same edges as before.
 pub fn link_all(table: &mut Table, alloc: Global, edges: &[(usize, usize)]) -> Result<(), Memory>
-    requires { (n p : ℕ) → Contains edges.now (n, p) → IsStateIn table.old.automaton table.old.there Negative n × IsStateIn table.old.automaton table.old.there Positive p }
+    requires { (n p : ℕ) → Contains edges.now (n, p) → IsStateIn table.old.automaton table.old.there Negative n
+        × IsStateIn table.old.automaton table.old.there Positive p }
     ensures ok { OnOk result (AddsEdges table.old table.new (λ n p. Contains edges.now (n, p))) }
     ensures err { OnErr result (AddsEdges table.old table.new (λ n p. ⊥)) }
 {
@@ -262,7 +274,8 @@ fn link(
 
 // Takes these edges out.
 fn unlink_all(table: &mut Table, edges: &[(usize, usize)])
-    requires { (n p : ℕ) → Contains edges.now (n, p) → (get_or table.old.there n false ≡ true) × (get_or table.old.there p false ≡ true) }
+    requires { (n p : ℕ) → Contains edges.now (n, p) → (get_or table.old.there n false ≡ true)
+        × (get_or table.old.there p false ≡ true) }
     ensures { Unlinks table.old edges.now table.new }
 {
     for i in 0..edges.len() {

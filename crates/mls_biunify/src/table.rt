@@ -1,5 +1,6 @@
 //! States under numbers, with flow edges.
-ghost use Rattle.std.specs.Prelude.{◌≡◌, ◌≢◌, ◌↔◌, ◌⊎◌, ◌<◌, ℕ, [], true, false, get_or, Contains, IfOk, IsTrue, OnErr, OnOk};
+ghost use Rattle.std.specs.Prelude.{◌≡◌, ◌≢◌, ◌↔◌, ◌⊎◌, ◌<◌, ℕ, [], true, false, get_or, Contains, IfOk, IsTrue, OnErr};
+ghost use Rattle.std.specs.Prelude.{OnOk};
 ghost use Rattle.mls_automaton.specs.declared.automaton.Polarity.TheVariants.{Positive, Negative};
 ghost use Rattle.mls_automaton.specs.Automata.{HasFlow, head_at, polarity_at};
 ghost use Rattle.mls_automaton.specs.Models.{HasRisingLabels, HasStatesIn, IsClosed};
@@ -83,7 +84,8 @@ impl Table {
 
     // Puts a number into a set, if it is that of a state.
     fn push_number(&self, set: &mut StateSet, s: usize) -> Result<(), Memory>
-        ensures { OnOk result ((j : ℕ) → Contains set.new j ↔ (Contains set.old j ⊎ ((j ≡ s) × (get_or self.now.there s false ≡ true)))) }
+        ensures { OnOk result ((j : ℕ)
+            → Contains set.new j ↔ (Contains set.old j ⊎ ((j ≡ s) × (get_or self.now.there s false ≡ true)))) }
     {
         if self.contains(s) {
             return set.insert(StateId(s));
@@ -138,7 +140,8 @@ impl Table {
     pub fn insert(&mut self, polarity: Polarity, head: Head) -> Result<StateId, Memory>
         requires states { HasStatesIn (IsStateIn self.old.automaton self.old.there) polarity head }
         requires labels { HasRisingLabels head.fields }
-        ensures inserts { IfOk result (λ id. InsertsState self.old self.new id.0 (record { polarity = polarity; head = head })) }
+        ensures inserts { IfOk result (λ id. InsertsState self.old self.new id.0
+            (record { polarity = polarity; head = head })) }
         ensures automaton { OnErr result (self.new.automaton ≡ self.old.automaton) }
         ensures there { OnErr result (self.new.there ≡ self.old.there) }
     {
@@ -152,7 +155,8 @@ impl Table {
     pub fn edge(&mut self, negative: StateId, positive: StateId) -> Result<(), Memory>
         requires negative { IsStateIn self.old.automaton self.old.there Negative negative.0 }
         requires positive { IsStateIn self.old.automaton self.old.there Positive positive.0 }
-        ensures flows { OnOk result ((n p : ℕ) → HasFlow self.new.automaton n p ↔ HasFlow self.old.automaton n p ⊎ ((n ≡ negative.0) × (p ≡ positive.0))) }
+        ensures flows { OnOk result ((n p : ℕ) → HasFlow self.new.automaton n p ↔ HasFlow self.old.automaton n p
+            ⊎ ((n ≡ negative.0) × (p ≡ positive.0))) }
         ensures same { OnErr result ((n p : ℕ) → HasFlow self.new.automaton n p ↔ HasFlow self.old.automaton n p) }
         ensures once { HasFlow self.old.automaton negative.0 positive.0 → self.new ≡ self.old }
         ensures states { self.new.automaton.states ≡ self.old.automaton.states }
@@ -165,7 +169,8 @@ impl Table {
     // Gives a state another head.
     pub fn set_head(&mut self, s: StateId, head: Head)
         requires there { get_or self.old.there s.0 false ≡ true }
-        requires states { HasStatesIn (IsStateIn self.old.automaton self.old.there) (polarity_at self.old.automaton s.0) head }
+        requires states { HasStatesIn (IsStateIn self.old.automaton self.old.there)
+            (polarity_at self.old.automaton s.0) head }
         requires labels { HasRisingLabels head.fields }
         ensures sets { SetsHead self.old self.new s.0 head }
         ensures is { IsNumbered self.new }

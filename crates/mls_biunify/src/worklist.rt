@@ -7,7 +7,8 @@ ghost use Rattle.mls_biunify.specs.Live.{IsStateIn};
 ghost use Rattle.mls_biunify.specs.Relations.{IsGoal, IsRelated};
 ghost use Rattle.mls_biunify.specs.Rooms.{Holds, HoldsJust};
 ghost use Rattle.mls_biunify.specs.steps.Growth.{BySome, Relates};
-ghost use Rattle.mls_biunify.specs.steps.Consequences.{ByFunctions, ByField, ByRecords, ByHeads, Follows, HasConsequences};
+ghost use Rattle.mls_biunify.specs.steps.Consequences.{ByFunctions, ByField, ByRecords, ByHeads, Follows};
+ghost use Rattle.mls_biunify.specs.steps.Consequences.{HasConsequences};
 ghost use Rattle.mls_biunify.specs.steps.Tables.{HoldsThere};
 
 use crate::goal::Goal;
@@ -18,9 +19,11 @@ use mls_automaton::state_set::{StateId, StateSet};
 use mls_base::memory::Memory;
 
 // Makes the relation the least closed one of the goals. Each pair is taken once, at the cost of the members of the sets
-// that its heads name in the same place, and of the pairs found so far at the other end of each edge at one of its states.
+// that its heads name in the same place, and of the pairs found so far at the other end of each edge at one of its
+// states.
 pub fn relate(room: &mut Relation, table: &Table, goals: &[Goal]) -> Result<(), Memory>
-    requires goals { All (λ g. IsStateIn table.now.automaton table.now.there Positive g.positive.0 × IsStateIn table.now.automaton table.now.there Negative g.negative.0) goals.now }
+    requires goals { All (λ g. IsStateIn table.now.automaton table.now.there Positive g.positive.0
+        × IsStateIn table.now.automaton table.now.there Negative g.negative.0) goals.now }
     ensures relation { OnOk result (HoldsJust room.new (IsRelated table.now.automaton (IsGoal goals.now))) }
     ensures fits { OnOk result (table.now.limit ≤ room.new.positives) }
 {
@@ -96,7 +99,8 @@ fn add_after(
     requires positive { IsStateIn table.now.automaton table.now.there Positive positive.0 }
     requires negative { IsStateIn table.now.automaton table.now.there Negative negative.0 }
     ensures follows { OnOk result (Follows table.now.automaton room.old room.new) }
-    ensures has { OnOk result ((q m : ℕ) → HasFlow table.now.automaton negative.0 q → Holds room.old q m → Holds room.new positive.0 m) }
+    ensures has { OnOk result ((q m : ℕ) → HasFlow table.now.automaton negative.0 q → Holds room.old q m
+        → Holds room.new positive.0 m) }
 {
     for q in table.after(negative).as_slice() {
         copy_row(room, *q, positive.0)?;
@@ -117,7 +121,8 @@ fn add_before(
     requires positive { IsStateIn table.now.automaton table.now.there Positive positive.0 }
     requires negative { IsStateIn table.now.automaton table.now.there Negative negative.0 }
     ensures follows { OnOk result (Follows table.now.automaton room.old room.new) }
-    ensures has { OnOk result ((q m : ℕ) → Holds room.old q m → HasFlow table.now.automaton m positive.0 → Holds room.new q negative.0) }
+    ensures has { OnOk result ((q m : ℕ) → Holds room.old q m → HasFlow table.now.automaton m positive.0
+        → Holds room.new q negative.0) }
 {
     for m in table.before(positive).as_slice() {
         copy_column(room, *m, negative.0)?;
@@ -182,7 +187,8 @@ fn add_by_functions(
 }
 
 fn add_by_arms(room: &mut Relation, arms: &Arms, others: &Arms) -> Result<(), Memory>
-    requires { (p n : ℕ) → ByFunctions (Some arms.now) (Some others.now) p n → (p < room.old.positives) × (n < room.old.negatives) }
+    requires { (p n : ℕ) → ByFunctions (Some arms.now) (Some others.now) p n
+        → (p < room.old.positives) × (n < room.old.negatives) }
     ensures { OnOk result (Relates room.old room.new (ByFunctions (Some arms.now) (Some others.now))) }
 {
     add_sets(room, others.domain.as_slice(), arms.domain.as_slice())?;
@@ -208,7 +214,8 @@ fn add_by_records(
 }
 
 fn add_fields(room: &mut Relation, fields: &FieldSets, others: &[FieldSet]) -> Result<(), Memory>
-    requires { (p n : ℕ) → BySome others.now (ByField fields.now) p n → (p < room.old.positives) × (n < room.old.negatives) }
+    requires { (p n : ℕ) → BySome others.now (ByField fields.now) p n
+        → (p < room.old.positives) × (n < room.old.negatives) }
     ensures { OnOk result (Relates room.old room.new (BySome others.now (ByField fields.now))) }
 {
     for other in others {
@@ -229,7 +236,8 @@ fn add_field(room: &mut Relation, fields: &FieldSets, other: &FieldSet) -> Resul
 
 // Relates each of the positive states to each of the negative ones.
 fn add_sets(room: &mut Relation, positives: &[usize], negatives: &[usize]) -> Result<(), Memory>
-    requires { (p n : ℕ) → Contains positives.now p → Contains negatives.now n → (p < room.old.positives) × (n < room.old.negatives) }
+    requires { (p n : ℕ) → Contains positives.now p → Contains negatives.now n
+        → (p < room.old.positives) × (n < room.old.negatives) }
     ensures { OnOk result (Relates room.old room.new (λ p n. Contains positives.now p × Contains negatives.now n)) }
 {
     for p in positives {

@@ -20,8 +20,8 @@ pub record IsDerivable (globals : List Scheme) (binding : ResolvedBinding) (s : 
   pub nodes : binding.term.nodes ≡ postorder 0 term_tree
   pub derives : Derives (record { globals = globals; lets = env.empty }) term_tree s
 
--- the text of each section's type is read as a scheme without binders, which is derivable for its binding, over the known
--- schemes and those of the sections before it
+-- the text of each section's type is read as a scheme without binders, which is derivable for its binding, over the
+-- known schemes and those of the sections before it
 abbrev pub AreDerivable : (known : List ReadScheme) → List ResolvedBinding → List Section → Type 0
 AreDerivable known [] [] = Unit {0}
 AreDerivable known (binding ∷ bindings) (section ∷ sections) =
@@ -46,9 +46,13 @@ AllowedIsDerivable =
     → AreDerivable known bindings sections
 
 -- where every step is allowed, none is refused, and there is one first refused step
-pub record HasOneVerdict (known : List ReadScheme) (bindings : List ResolvedBinding) (sections : List Section) : Type 0 where
-  pub not_both : (refused : ℕ) → AreSectionsAllowed known bindings sections → HasFirstRefused known 0 bindings sections refused → ⊥
-  pub one_refused : (refused other : ℕ) → HasFirstRefused known 0 bindings sections refused → HasFirstRefused known 0 bindings sections other → refused ≡ other
+pub record HasOneVerdict (known : List ReadScheme) (bindings : List ResolvedBinding)
+    (sections : List Section) : Type 0 where
+  pub not_both : (refused : ℕ) → AreSectionsAllowed known bindings sections
+      → HasFirstRefused known 0 bindings sections refused → ⊥
+  pub one_refused : (refused other : ℕ) → HasFirstRefused known 0 bindings sections refused
+      → HasFirstRefused known 0 bindings sections other → refused ≡ other
 
 abbrev pub OneVerdict : Type 0
-OneVerdict = (known : List ReadScheme) (bindings : List ResolvedBinding) (sections : List Section) → HasOneVerdict known bindings sections
+OneVerdict = (known : List ReadScheme) (bindings : List ResolvedBinding) (sections : List Section)
+    → HasOneVerdict known bindings sections

@@ -24,7 +24,8 @@ after_let b k number = record b { lets = b.lets ++ (k, number) ∷ [] }
 abbrev pub AreAllowed : Before → List SectionLine → Type 0
 AreAllowed b [] = Unit {0}
 AreAllowed b (line.Let k number ∷ rest) = AreAllowed (after_let b k number) rest
-AreAllowed b (line.Step step ∷ rest) = IsAllowed b (puts_of rest) (pairs_of rest) step × AreAllowed (after_step b step) rest
+AreAllowed b (line.Step step ∷ rest) =
+    IsAllowed b (puts_of rest) (pairs_of rest) step × AreAllowed (after_step b step) rest
 AreAllowed b (line.Put x n ∷ rest) = AreAllowed b rest
 AreAllowed b (line.Pair mode i j ∷ rest) = AreAllowed b rest
 
@@ -41,15 +42,18 @@ abbrev pub HasRefused : Before → ℕ → List SectionLine → ℕ → Type 0
 HasRefused b n [] refused = ⊥
 HasRefused b n (line.Let k number ∷ rest) refused = HasRefused (after_let b k number) n rest refused
 HasRefused b n (line.Step step ∷ rest) refused =
-    ((IsAllowed b (puts_of rest) (pairs_of rest) step → ⊥) × (refused ≡ n)) ⊎ (IsAllowed b (puts_of rest) (pairs_of rest) step × HasRefused (after_step b step) (suc n) rest refused)
+    ((IsAllowed b (puts_of rest) (pairs_of rest) step → ⊥) × (refused ≡ n))
+    ⊎ (IsAllowed b (puts_of rest) (pairs_of rest) step × HasRefused (after_step b step) (suc n) rest refused)
 HasRefused b n (line.Put x m ∷ rest) refused = HasRefused b n rest refused
 HasRefused b n (line.Pair mode i j ∷ rest) refused = HasRefused b n rest refused
 
 -- what stands before the lines of a section about this binding
 abbrev pub at_start : List Scheme → ResolvedBinding → Section → Before
-at_start globals binding section = record { term_nodes = binding.term.nodes; globals = globals; book = section.nodes; steps = []; lets = [] }
+at_start globals binding section =
+    record { term_nodes = binding.term.nodes; globals = globals; book = section.nodes; steps = []; lets = [] }
 
--- the end of a section is allowed: it has the name of the binding, and its last step gives the whole term the type that was read
+-- the end of a section is allowed: it has the name of the binding, and its last step gives the whole term the type that
+-- was read
 pub record IsEndAllowed (binding : ResolvedBinding) (section : Section) (read : ReadScheme) : Type 0 where
   pub name : section.name ≡ binding.name
   pub earlier : List StepLine
@@ -67,7 +71,8 @@ pub record IsHeadRead (section : Section) (read : ReadScheme) : Type 0 where
   pub begins : (i : ℕ) → i < length read.book → node_at section.nodes i ≡ node_at read.book i
 
 -- the section is about the binding, in an environment of these schemes, and each of its steps and its end are allowed
-pub record IsSectionAllowed (globals : List Scheme) (binding : ResolvedBinding) (section : Section) (read : ReadScheme) : Type 0 where
+pub record IsSectionAllowed (globals : List Scheme) (binding : ResolvedBinding) (section : Section)
+    (read : ReadScheme) : Type 0 where
   pub head : IsHeadRead section read
   pub lines : AreAllowed (at_start globals binding section) section.lines
   pub end : IsEndAllowed binding section read
@@ -80,21 +85,25 @@ schemes_of known = map scheme_of known
 abbrev pub AreSectionsAllowed : (known : List ReadScheme) → List ResolvedBinding → List Section → Type 0
 AreSectionsAllowed known [] [] = Unit {0}
 AreSectionsAllowed known (binding ∷ bindings) (section ∷ sections) =
-    (read : ReadScheme) × IsSectionAllowed (schemes_of known) binding section read × AreSectionsAllowed (known ++ read ∷ []) bindings sections
+    (read : ReadScheme) × IsSectionAllowed (schemes_of known) binding section read
+    × AreSectionsAllowed (known ++ read ∷ []) bindings sections
 AreSectionsAllowed known _ _ = ⊥
 
--- The first step of a section that is not allowed has this number, where its first step has the number n and its end counts as one;
--- a section whose head is not read has none that is.
-pub data HasRefusedStep (globals : List Scheme) (n : ℕ) (binding : ResolvedBinding) (section : Section) (refused : ℕ) : Type 0 where
-  no_head : ((read : ReadScheme) → IsHeadRead section read → ⊥) → refused ≡ n → HasRefusedStep globals n binding section refused
-  a_step : (read : ReadScheme) → IsHeadRead section read → HasRefused (at_start globals binding section) n section.lines refused
+-- The first step of a section that is not allowed has this number, where its first step has the number n and its end
+-- counts as one; a section whose head is not read has none that is.
+pub data HasRefusedStep (globals : List Scheme) (n : ℕ) (binding : ResolvedBinding) (section : Section) (refused : ℕ) :
+    Type 0 where
+  no_head : ((read : ReadScheme) → IsHeadRead section read → ⊥) → refused ≡ n
+      → HasRefusedStep globals n binding section refused
+  a_step : (read : ReadScheme) → IsHeadRead section read
+      → HasRefused (at_start globals binding section) n section.lines refused
       → HasRefusedStep globals n binding section refused
   the_end : (read : ReadScheme) → IsHeadRead section read → AreAllowed (at_start globals binding section) section.lines
       → (IsEndAllowed binding section read → ⊥) → refused ≡ n + length (steps_of section.lines)
       → HasRefusedStep globals n binding section refused
 
--- The first step of a derivation that is not allowed has this number, where steps are counted from n on and each end counts as one.
--- Where sections are missing or too many, it is the first step that the first of them would have or has.
+-- The first step of a derivation that is not allowed has this number, where steps are counted from n on and each end
+-- counts as one. Where sections are missing or too many, it is the first step that the first of them would have or has.
 abbrev pub HasFirstRefused : (known : List ReadScheme) → ℕ → List ResolvedBinding → List Section → ℕ → Type 0
 HasFirstRefused known n [] [] refused = ⊥
 HasFirstRefused known n [] (section ∷ sections) refused = refused ≡ n

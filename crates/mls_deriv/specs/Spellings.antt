@@ -74,7 +74,8 @@ line_text l = line_words l ++ codes "\n"
 
 abbrev pub section_text : Section → List ℕ
 section_text s =
-    codes "val " ++ s.name ++ codes " : " ++ s.text ++ codes "\n" ++ flat_map node_line s.nodes ++ flat_map line_text s.lines
+    codes "val " ++ s.name ++ codes " : " ++ s.text ++ codes "\n" ++ flat_map node_line s.nodes
+    ++ flat_map line_text s.lines
     ++ codes "end\n"
 
 abbrev pub derivation_text : Derivation → List ℕ

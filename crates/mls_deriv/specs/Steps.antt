@@ -1,5 +1,6 @@
 -- Which steps of a section are allowed.
-use Rattle.std.specs.Prelude.{◌≡◌, ◌⊎◌, ◌↔◌, Bool, ℕ, ◌+◌, ◌<◌, ◌≤◌, List, [], ◌∷◌, map, length, All, slice_get, option_map, Contains, IsSome, Option, Some}
+use Rattle.std.specs.Prelude.{◌≡◌, ◌⊎◌, ◌↔◌, Bool, ℕ, ◌+◌, ◌<◌, ◌≤◌, List, [], ◌∷◌, map, length, All, slice_get}
+use Rattle.std.specs.Prelude.{option_map, Contains, IsSome, Option, Some}
 use Rattle.std.specs.FinMap as env
 use Rattle.std.specs.Ordering.{nat_cmp}
 use Rattle.mls_book.specs.declared.book.Field.{Field}
@@ -71,8 +72,8 @@ pub record HasFrom (book : List Node) (n : ℕ) (other : List Node) : Type 0 whe
   pub within : n + length other ≤ length book
   pub nodes : (i : ℕ) → i < length other → node_at book (n + i) ≡ raised n (node_at other i)
 
--- what a step can refer to: the term that the section is about, the schemes of its environment, the nodes of the section,
--- the steps before it, and the let lines before it
+-- what a step can refer to: the term that the section is about, the schemes of its environment, the nodes of the
+-- section, the steps before it, and the let lines before it
 pub record Before : Type 0 where
   pub term_nodes : List TermNode
   pub globals : List Scheme
@@ -91,29 +92,34 @@ pub record Says (b : Before) (number part : ℕ) (s : Scheme) : Type 0 where
 abbrev pub AllSay : Before → List ℕ → List Part → Scheme → List Field → Type 0
 AllSay b [] [] s fields = Unit {0}
 AllSay b (number ∷ numbers) (part ∷ parts) s fields =
-    ((i : NodeId) × (field_at part.label fields ≡ Some i) × Says b number part.child (over s s.env i.0)) × AllSay b numbers parts s fields
+    ((i : NodeId) × (field_at part.label fields ≡ Some i) × Says b number part.child (over s s.env i.0))
+    × AllSay b numbers parts s fields
 AllSay b _ _ s fields = ⊥
 
 -- the fields have the labels of the parts and no others
 abbrev pub HaveLabelsOf : List Part → List Field → Type 0
-HaveLabelsOf parts fields = (label : List ℕ) → IsSome (field_at label fields) ↔ Contains (map (λ part. part.label) parts) label
+HaveLabelsOf parts fields = (label : List ℕ)
+    → IsSome (field_at label fields) ↔ Contains (map (λ part. part.label) parts) label
 
 -- a binder's node is kept by a subsumption: there is a pair for it, or it is a `Top`
 abbrev pub IsKept : List Node → List Pair → Option ℕ → ℕ → Type 0
 IsKept book pairs found n = ((m : ℕ) × (found ≡ Some m) × Claims pairs Rl m n) ⊎ (node_at book n ≡ node.Top)
 
--- The step is allowed by its rule. The rules are those of typing, where the premises are earlier steps; each asks that the step is
--- about a part of the term of its form.
-pub data IsAllowedByRule (b : Before) (puts : List Put) (pairs : List Pair) (step : StepLine) (s : Scheme) : Type 0 where
+-- The step is allowed by its rule. The rules are those of typing, where the premises are earlier steps; each asks that
+-- the step is about a part of the term of its form.
+pub data IsAllowedByRule (b : Before) (puts : List Put) (pairs : List Pair) (step : StepLine) (s : Scheme) :
+    Type 0 where
   var : (x : ℕ) → step.rule ≡ rule.Var → form_at b.term_nodes step.node ≡ Some (form.Bound x)
       → s.env ≡ env.insert env.empty x s.root
       → IsAllowedByRule b puts pairs step s
   -- a let-bound name has the scheme of the step that a let line gave it; this step may be about any part
-  use_let : (number k : ℕ) (first : StepLine) → step.rule ≡ rule.Use number → form_at b.term_nodes step.node ≡ Some (form.Inner k)
+  use_let : (number k : ℕ) (first : StepLine) → step.rule ≡ rule.Use number
+      → form_at b.term_nodes step.node ≡ Some (form.Inner k)
       → env.find nat_cmp k b.lets ≡ Some number → slice_get b.steps number ≡ Some first → s ≡ conclusion b.book first
       → IsAllowedByRule b puts pairs step s
   -- a name of the environment: the book of its scheme stands among the nodes
-  use_name : (n : NodeId) (g : ℕ) (u : Scheme) → step.rule ≡ rule.Name n → form_at b.term_nodes step.node ≡ Some (form.Global g)
+  use_name : (n : NodeId) (g : ℕ) (u : Scheme) → step.rule ≡ rule.Name n
+      → form_at b.term_nodes step.node ≡ Some (form.Global g)
       → slice_get b.globals g ≡ Some u → HasFrom b.book n.0 u.book → s.env ≡ env.empty → s.root ≡ n.0 + u.root
       → IsAllowedByRule b puts pairs step s
   lit_number : (value : ℕ) → step.rule ≡ rule.Lit → form_at b.term_nodes step.node ≡ Some (form.Number value)
@@ -122,31 +128,38 @@ pub data IsAllowedByRule (b : Before) (puts : List Put) (pairs : List Pair) (ste
   lit_truth : (value : Bool) → step.rule ≡ rule.Lit → form_at b.term_nodes step.node ≡ Some (form.Truth value)
       → s.env ≡ env.empty → node_at b.book s.root ≡ node.Bool
       → IsAllowedByRule b puts pairs step s
-  fun : (number x body : ℕ) (d : Env) (i j : NodeId) → step.rule ≡ rule.Fun number → form_at b.term_nodes step.node ≡ Some (form.Fun x body)
+  fun : (number x body : ℕ) (d : Env) (i j : NodeId) → step.rule ≡ rule.Fun number
+      → form_at b.term_nodes step.node ≡ Some (form.Fun x body)
       → s.env ≡ env.remove d x → Takes b.book d x i → node_at b.book s.root ≡ node.Arrow i j
       → Says b number body (over s d j.0)
       → IsAllowedByRule b puts pairs step s
-  app : (first second function argument f : ℕ) (i : NodeId) → step.rule ≡ rule.App first second → form_at b.term_nodes step.node ≡ Some (form.Apply function argument)
+  app : (first second function argument f : ℕ) (i : NodeId) → step.rule ≡ rule.App first second
+      → form_at b.term_nodes step.node ≡ Some (form.Apply function argument)
       → node_at b.book f ≡ node.Arrow i (record { 0 = s.root })
       → Says b first function (over s s.env f) → Says b second argument (over s s.env i.0)
       → IsAllowedByRule b puts pairs step s
-  make : (numbers : List ℕ) (parts : List Part) (fields : List Field) → step.rule ≡ rule.Make numbers → form_at b.term_nodes step.node ≡ Some (form.Make parts)
+  make : (numbers : List ℕ) (parts : List Part) (fields : List Field) → step.rule ≡ rule.Make numbers
+      → form_at b.term_nodes step.node ≡ Some (form.Make parts)
       → node_at b.book s.root ≡ node.Rcd fields → HaveLabelsOf parts fields → (parts ≡ [] → s.env ≡ env.empty)
       → AllSay b numbers parts s fields
       → IsAllowedByRule b puts pairs step s
-  proj : (number body i : ℕ) (label : List ℕ) (field : Field) → step.rule ≡ rule.Proj number → form_at b.term_nodes step.node ≡ Some (form.Project body label)
+  proj : (number body i : ℕ) (label : List ℕ) (field : Field) → step.rule ≡ rule.Proj number
+      → form_at b.term_nodes step.node ≡ Some (form.Project body label)
       → node_at b.book i ≡ node.Rcd (field ∷ []) → field.label ≡ label → field.node.0 ≡ s.root
       → Says b number body (over s s.env i)
       → IsAllowedByRule b puts pairs step s
-  choice : (first second third condition one other i : ℕ) → step.rule ≡ rule.If first second third → form_at b.term_nodes step.node ≡ Some (form.If condition one other)
+  choice : (first second third condition one other i : ℕ) → step.rule ≡ rule.If first second third
+      → form_at b.term_nodes step.node ≡ Some (form.If condition one other)
       → node_at b.book i ≡ node.Bool
       → Says b first condition (over s s.env i) → Says b second one s → Says b third other s
       → IsAllowedByRule b puts pairs step s
-  let_in : (first second k e e' : ℕ) (d1 d2 : Env) (t1 : ℕ) → step.rule ≡ rule.Let first second → form_at b.term_nodes step.node ≡ Some (form.Let k e e')
+  let_in : (first second k e e' : ℕ) (d1 d2 : Env) (t1 : ℕ) → step.rule ≡ rule.Let first second
+      → form_at b.term_nodes step.node ≡ Some (form.Let k e e')
       → env.find nat_cmp k b.lets ≡ Some first → IsMeet b.book d1 d2 s.env
       → Says b first e (over s d1 t1) → Says b second e' (over s d2 s.root)
       → IsAllowedByRule b puts pairs step s
-  fix : (number x body : ℕ) (d : Env) → step.rule ≡ rule.Rec number → form_at b.term_nodes step.node ≡ Some (form.Rec x body)
+  fix : (number x body : ℕ) (d : Env) → step.rule ≡ rule.Rec number
+      → form_at b.term_nodes step.node ≡ Some (form.Rec x body)
       → s.env ≡ env.remove d x → env.get d x ≡ Some s.root
       → Says b number body (over s d s.root)
       → IsAllowedByRule b puts pairs step s

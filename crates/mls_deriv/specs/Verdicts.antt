@@ -8,7 +8,9 @@ use Rattle.mls_deriv.specs.declared.verify.Verified.TheVariants.{Yes, No}
 use Rattle.mls_deriv.specs.Laws.{AreDerivable}
 use Rattle.mls_deriv.specs.Sections.{AreSectionsAllowed, HasFirstRefused}
 
--- yes where each step is allowed, which then is a proof that the stated types are derivable; no with the first step that is not
+-- yes where each step is allowed, which then is a proof that the stated types are derivable; no with the first step
+-- that is not
 abbrev pub IsVerdict : List ReadScheme → List ResolvedBinding → List Section → Verified → Type 0
-IsVerdict known bindings sections Yes = AreSectionsAllowed known bindings sections × AreDerivable known bindings sections
+IsVerdict known bindings sections Yes =
+    AreSectionsAllowed known bindings sections × AreDerivable known bindings sections
 IsVerdict known bindings sections (No n) = HasFirstRefused known 0 bindings sections n

@@ -70,7 +70,8 @@ fn is_found(
     step: &StepLine,
 ) -> bool
     ensures { IsTrue result ↔ (IsPlain (length book.now) step.now × HasRule book.now steps.now (get nat_cmp lets.now)
-        (declared.now ++ earlier.now) (put_in table.now) (Holds table.now) lines.now step.now step.now.rule (form_at nodes.now step.now.node)) }
+        (declared.now ++ earlier.now) (put_in table.now) (Holds table.now) lines.now step.now step.now.rule
+        (form_at nodes.now step.now.node)) }
 {
     is_plain(book, step)
         && has_rule(
@@ -99,7 +100,8 @@ fn has_rule(
     lines: &[SectionLine],
     step: &StepLine,
 ) -> bool
-    ensures { IsTrue result ↔ HasRule book.now steps.now (get nat_cmp lets.now) (declared.now ++ earlier.now) (put_in table.now)
+    ensures { IsTrue result ↔ HasRule book.now steps.now (get nat_cmp lets.now) (declared.now ++ earlier.now)
+        (put_in table.now)
         (Holds table.now) lines.now step.now step.now.rule (form_at nodes.now step.now.node) }
 {
     if let StepRule::Sub(number) = &step.rule {
@@ -121,7 +123,8 @@ fn by_form(
     step: &StepLine,
     form: &TermForm,
 ) -> bool
-    ensures { IsTrue result ↔ ByForm book.now steps.now (get nat_cmp lets.now) (declared.now ++ earlier.now) step.now step.now.rule form.now }
+    ensures { IsTrue result ↔ ByForm book.now steps.now (get nat_cmp lets.now)
+        (declared.now ++ earlier.now) step.now step.now.rule form.now }
 {
     match &step.rule {
         StepRule::Var => by_var(step, form),

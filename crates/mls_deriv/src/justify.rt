@@ -81,7 +81,8 @@ fn label_fits(table: &Table, mode: Mode, fields: &Fields, others: &Fields, label
 
 /// Whether each field of the right record is in the left one and lower there.
 fn labels_fit(table: &Table, mode: Mode, fields: &Fields, others: &Fields) -> bool
-    ensures { IsTrue result ↔ All (λ field. LabelFits (Holds table.now) mode fields.now others.now field.label) others.now }
+    ensures { IsTrue result ↔ All (λ field. LabelFits
+        (Holds table.now) mode fields.now others.now field.label) others.now }
 {
     others.as_slice().iter().all(|field| label_fits(table, mode, fields, others, &field.label))
 }
@@ -129,13 +130,15 @@ fn by_nodes(table: &Table, mode: Mode, i: usize, j: usize, left: &Node, right: &
 }
 
 fn by_one(table: &Table, mode: Mode, i: usize, j: usize, left: &Node, right: &Node) -> bool
-    ensures { IsTrue result ↔ (ByLeft (put_in table.now) (Holds table.now) mode j left.now ⊎ ByRight (put_in table.now) (Holds table.now) mode i right.now) }
+    ensures { IsTrue result ↔ (ByLeft (put_in table.now) (Holds table.now) mode j left.now
+        ⊎ ByRight (put_in table.now) (Holds table.now) mode i right.now) }
 {
     by_left(table, mode, j, left) || by_right(table, mode, i, right)
 }
 
 fn by_other(table: &Table, mode: Mode, i: usize, j: usize, left: &Node, right: &Node) -> bool
-    ensures { IsTrue result ↔ (ByBoth (put_in table.now) (Holds table.now) mode left.now right.now ⊎ ((mode ≡ Mode.Pp) × (i ≡ j))) }
+    ensures { IsTrue result ↔ (ByBoth (put_in table.now) (Holds table.now) mode left.now right.now
+        ⊎ ((mode ≡ Mode.Pp) × (i ≡ j))) }
 {
     by_both(table, mode, left, right) || (mode == Mode::Pp && i == j)
 }

@@ -2,7 +2,8 @@
 ghost use Rattle.std.specs.Prelude.{◌≡◌, ◌++◌, IfOk, OnOk};
 ghost use Rattle.std.specs.List.{flat_map};
 ghost use Rattle.mls_deriv.specs.declared.derivation.SectionLine.TheVariants.{Step};
-ghost use Rattle.mls_deriv.specs.Spellings.{derivation_text, section_text, line_text, line_words, mode_word, rule_words};
+ghost use Rattle.mls_deriv.specs.Spellings.{derivation_text, section_text, line_text, line_words, mode_word};
+ghost use Rattle.mls_deriv.specs.Spellings.{rule_words};
 ghost use Rattle.mls_deriv.specs.Spellings.{node_line, node_words, field_words, entry_words, number_word, number_words};
 
 use crate::derivation::{BinderNode, Derivation, Mode, Section, SectionLine, StepLine, StepRule};

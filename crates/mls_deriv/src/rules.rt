@@ -1,14 +1,17 @@
 //! What each rule of a step asks.
-ghost use Rattle.std.specs.Prelude.{◌≡◌, ◌↔◌, ◌+◌, ◌++◌, ◌∷◌, [], All, IsTrue, is_some, Some, map, option_map, slice_get};
+ghost use Rattle.std.specs.Prelude.{◌≡◌, ◌↔◌, ◌+◌, ◌++◌, ◌∷◌, [], All, IsTrue, is_some, Some, map, option_map};
+ghost use Rattle.std.specs.Prelude.{slice_get};
 ghost use Rattle.std.specs.BTreeMap.{get};
 ghost use Rattle.std.specs.Ordering.{nat_cmp};
 ghost use Rattle.mls_book.specs.Books.{node_at};
 ghost use Rattle.mls_term.specs.Derivations.{IsMeetAt};
 ghost use Rattle.mls_deriv.specs.Steps.{raised, raised_field, HasFrom};
 ghost use Rattle.mls_book.specs.declared.book.Node.TheVariants.{Int, Bool, Top, Arrow, Meet};
-ghost use Rattle.mls_deriv.specs.inner.Rules.{Given, ByVar, ByUse, ByName, ByLit, ByFun, ByApp, ByMake, ByProj, ByIf, ByLet};
+ghost use Rattle.mls_deriv.specs.inner.Rules.{Given, ByVar, ByUse, ByName, ByLit, ByFun, ByApp, ByMake, ByProj, ByIf};
+ghost use Rattle.mls_deriv.specs.inner.Rules.{ByLet};
 ghost use Rattle.mls_deriv.specs.inner.Rules.{ByRec, node_in, IsFunction, IsDomain, IsApplication};
-ghost use Rattle.mls_deriv.specs.inner.Rules.{IsFieldOf, AreFieldsOf, IsRecord, IsOneField, AreBranches, IsMeetIn, child_of};
+ghost use Rattle.mls_deriv.specs.inner.Rules.{IsFieldOf, AreFieldsOf, IsRecord, IsOneField, AreBranches, IsMeetIn};
+ghost use Rattle.mls_deriv.specs.inner.Rules.{child_of};
 
 use crate::derivation::{BinderNode, StepLine};
 use crate::justify::node_or;
@@ -64,7 +67,8 @@ fn is_let(lets: &BTreeMap<usize, usize>, k: usize, number: usize) -> bool
 
 // Whether the step of this number concludes what this one does.
 fn concludes_as(steps: &Steps, step: &StepLine, number: usize) -> bool
-    ensures { IsTrue result ↔ Given (slice_get steps.now number) (λ s. (step.now.env ≡ s.env) × (step.now.root ≡ s.root)) }
+    ensures { IsTrue result ↔ Given (slice_get steps.now number)
+        (λ s. (step.now.env ≡ s.env) × (step.now.root ≡ s.root)) }
 {
     match steps.get(number) {
         None => false,
@@ -107,7 +111,8 @@ fn scheme_at<'a>(
 
 // Whether the step has the scheme of a name, whose book stands from node `n` on.
 fn is_named(book: &Book, known: Option<&ReadScheme>, step: &StepLine, n: NodeId) -> bool
-    ensures { IsTrue result ↔ Given (option_map (λ read. read.now) known.entry) (λ read. HasFrom book.now n.0 read.book × (step.now.env ≡ []) × (step.now.root.0 ≡ n.0 + read.root.0)) }
+    ensures { IsTrue result ↔ Given (option_map (λ read. read.now) known.entry) (λ read. HasFrom book.now n.0 read.book
+        × (step.now.env ≡ []) × (step.now.root.0 ≡ n.0 + read.root.0)) }
 {
     match known {
         None => false,
@@ -520,7 +525,8 @@ fn are_met(
     right: &[BinderNode],
     both: &[BinderNode],
 ) -> bool
-    ensures { IsTrue result ↔ All (λ entry. IsMeetAt book.now (node_in left.now entry.binder) (node_in right.now entry.binder) (node_in both.now entry.binder)) binders.now }
+    ensures { IsTrue result ↔ All (λ entry. IsMeetAt book.now (node_in left.now entry.binder)
+        (node_in right.now entry.binder) (node_in both.now entry.binder)) binders.now }
 {
     binders
         .iter()
@@ -547,7 +553,8 @@ fn is_meet_of(
     right: Option<NodeId>,
     both: Option<NodeId>,
 ) -> bool
-    ensures { IsTrue result ↔ IsMeetAt book.now (option_map (λ id. id.0) left) (option_map (λ id. id.0) right) (option_map (λ id. id.0) both) }
+    ensures { IsTrue result ↔ IsMeetAt book.now (option_map (λ id. id.0) left) (option_map (λ id. id.0) right)
+        (option_map (λ id. id.0) both) }
 {
     match left {
         None => both == right,

@@ -37,7 +37,8 @@ fn is_instance(book: &Book, table: &Table, step: &StepLine, first: &StepLine) ->
 
 // Whether the node of each binder of the second environment is kept.
 fn are_kept(book: &Book, table: &Table, env: &[BinderNode], first: &[BinderNode]) -> bool
-    ensures { IsTrue result ↔ All (λ entry. IsKeptIn book.now (Holds table.now) (node_in env.now entry.binder) entry.node.0) first.now }
+    ensures { IsTrue result ↔ All (λ entry. IsKeptIn book.now (Holds table.now)
+        (node_in env.now entry.binder) entry.node.0) first.now }
 {
     first.iter().all(|entry| is_kept(book, table, node_in(env, entry.binder), entry.node))
 }

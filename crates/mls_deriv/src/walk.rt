@@ -1,5 +1,6 @@
 //! The check of the lines of a section.
-ghost use Rattle.std.specs.Prelude.{◌≡◌, ◌≢◌, ◌↔◌, ◌++◌, ◌+◌, ◌<◌, [], suc, drop, IfOk, OnOk, IsTrue, Some, None, if◌then◌else◌, length, nat_eq};
+ghost use Rattle.std.specs.Prelude.{◌≡◌, ◌≢◌, ◌↔◌, ◌++◌, ◌+◌, ◌<◌, [], suc, drop, IfOk, OnOk, IsTrue, Some, None};
+ghost use Rattle.std.specs.Prelude.{if◌then◌else◌, length, nat_eq};
 ghost use Rattle.std.specs.BTreeMap.{get};
 ghost use Rattle.std.specs.Ordering.{nat_cmp};
 ghost use Rattle.mls_book.specs.Books.{IsClosedBook};
@@ -105,7 +106,8 @@ fn check_lines<'a>(
 ) -> Result<bool, Memory>
     requires closed { IsClosedBook section.now.nodes }
     requires none { steps.old ≡ [] }
-    ensures { IfOk result (AreChecked (at_start (schemes_of (declared.now ++ earlier.now)) binding.now section.now) section.now.lines steps.new) }
+    ensures { IfOk result (AreChecked
+        (at_start (schemes_of (declared.now ++ earlier.now)) binding.now section.now) section.now.lines steps.new) }
 {
     let mut lets = BTreeMap::new(alloc);
     for i in 0..section.lines.len() {
@@ -131,9 +133,11 @@ fn take_line<'a>(
 ) -> Result<bool, Memory>
     requires closed { IsClosedBook section.now.nodes }
     requires low { i < length section.now.lines }
-    requires come { HasCome (at_start (schemes_of (declared.now ++ earlier.now)) binding.now section.now) section.now.lines
+    requires come { HasCome (at_start
+        (schemes_of (declared.now ++ earlier.now)) binding.now section.now) section.now.lines
         (drop i section.now.lines) steps.old (get nat_cmp lets.old) }
-    ensures { IfOk result (GoesOn (at_start (schemes_of (declared.now ++ earlier.now)) binding.now section.now) section.now.lines
+    ensures { IfOk result (GoesOn (at_start
+        (schemes_of (declared.now ++ earlier.now)) binding.now section.now) section.now.lines
         (drop (i + 1) section.now.lines) steps.new (get nat_cmp lets.new)) }
 {
     let lines = section.lines.as_slice();
@@ -168,7 +172,8 @@ fn take_line<'a>(
 
 // Notes the step of a let number, unless it has one.
 fn note_let(lets: &mut BTreeMap<usize, usize>, k: usize, number: usize) -> Result<(), Memory>
-    ensures { OnOk result ((q : _) → get nat_cmp lets.new q ≡ or_else (get nat_cmp lets.old q) (if nat_eq k q then Some number else None)) }
+    ensures { OnOk result ((q : _)
+        → get nat_cmp lets.new q ≡ or_else (get nat_cmp lets.old q) (if nat_eq k q then Some number else None)) }
 {
     if !lets.contains_key(&k) {
         lets.insert(k, number)?;

@@ -12,7 +12,8 @@ abbrev pub HasAllPairs : List Node → List Pair → Type 0
 HasAllPairs book pairs = (mode : Mode) (i j : ℕ) → i < length book → j < length book → Claims pairs mode i j
 
 -- The pairs of a step: they justify themselves, and each that follows from the claims is among them.
-pub record IsListOf (book : List Node) (puts : List Put) (base claims : Mode → ℕ → ℕ → Type 0) (pairs : List Pair) : Type 0 where
+pub record IsListOf (book : List Node) (puts : List Put) (base claims : Mode → ℕ → ℕ → Type 0)
+    (pairs : List Pair) : Type 0 where
   pub justified : AreJustified book puts pairs
   pub holds : (mode : Mode) (i j : ℕ) → i < length book → j < length book
       → IsShown book puts base claims true mode i j → Claims pairs mode i j

@@ -36,7 +36,8 @@ Enters a IsRelated IsPair parts type_place n i =
 -- The nodes of the states of a constraint, beside those of the type `b`. `value` is what may flow in at a negative
 -- state; it has no variable of its own. A positive state is the join of its head and of the values of the states with
 -- an edge to it; a negative state is the meet of its head and its value.
-pub record IsLayout (book : List Node) (a b : Automaton) (IsRelated IsPair : ℕ → ℕ → Type 0) (place type_place : ℕ → ℕ) : Type 0 where
+pub record IsLayout (book : List Node) (a b : Automaton) (IsRelated IsPair : ℕ → ℕ → Type 0) (place type_place : ℕ
+    → ℕ) : Type 0 where
   pub type : IsTypeLayout book b type_place
   pub parts : ℕ → List ℕ
   pub value : ℕ → ℕ
@@ -50,7 +51,8 @@ pub record IsLayout (book : List Node) (a b : Automaton) (IsRelated IsPair : ℕ
 
 -- The pairs that the steps of the part claim: a related pair of states; a state and one of the type that it is paired
 -- with; and two states of the type in order.
-pub data IsPartClaim (a b : Automaton) (IsRelated IsPair : ℕ → ℕ → Type 0) (place type_place : ℕ → ℕ) (i j : ℕ) : Type 0 where
+pub data IsPartClaim (a b : Automaton) (IsRelated IsPair : ℕ → ℕ → Type 0) (place type_place : ℕ → ℕ) (i j : ℕ) :
+    Type 0 where
   related : (p n : ℕ) → IsRelated p n → place p ≡ i → place n ≡ j
       → IsPartClaim a b IsRelated IsPair place type_place i j
   below_type : (q s : ℕ) → IsPair q s → polarity_at a q ≡ Positive → place q ≡ i → type_place s ≡ j

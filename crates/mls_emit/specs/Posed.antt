@@ -8,7 +8,8 @@ use Rattle.mls_automaton.specs.Heads.{set_at}
 use Rattle.mls_term.specs.declared.term.Part.{Part}
 use Rattle.mls_term.specs.declared.term.TermNode.{TermNode}
 use Rattle.mls_term.specs.declared.term.TermForm.TheVariants as form
-use Rattle.mls_term.specs.Terms.{TermTree, TermFields, bound, inner, global, number, truth, fun, apply, make, project, choice, local, fix, no_field, a_field}
+use Rattle.mls_term.specs.Terms.{TermTree, TermFields, bound, inner, global, number, truth, fun, apply, make, project}
+use Rattle.mls_term.specs.Terms.{choice, local, fix, no_field, a_field}
 use Rattle.mls_deriv.specs.Steps.{form_at}
 
 -- a function from these states to those
@@ -17,7 +18,8 @@ HasArms a s domain codomain = (head_at a s).function ≡ Some (record { domain =
 
 -- What a node of each form asks of the states of its parts. The binders around are those of the scope, from the
 -- outermost on, and rise. What the uses of names and the lets ask of their nodes is given.
-module _ (nodes : List TermNode) (a : Automaton) (IsGoal : ℕ → ℕ → Type 0) (root binder : ℕ → ℕ) (IsUse : List ℕ → ℕ → Type 0) where
+module _ (nodes : List TermNode) (a : Automaton) (IsGoal : ℕ → ℕ → Type 0) (root binder : ℕ → ℕ) (IsUse : List ℕ → ℕ
+    → Type 0) where
   abbrev mutual
     pub IsPosed : List ℕ → ℕ → TermTree → Type 0
     IsPosed scope i (bound at x) = (form_at nodes i ≡ Some (form.Bound x)) × Contains scope x

@@ -50,8 +50,10 @@ pub data IsShown (book : List Node) (puts : List Put) (base claims : Mode → �
   rcds : {level : Bool} {mode : Mode} {i j : ℕ} (fields others : List Field) → node_at book i ≡ node.Rcd fields
       → node_at book j ≡ node.Rcd others
       → (partner : (label : List ℕ) (k : NodeId) → field_at label others ≡ Some k → NodeId)
-      → ((label : List ℕ) (k : NodeId) (e : field_at label others ≡ Some k) → field_at label fields ≡ Some (partner label k e))
-      → ((label : List ℕ) (k : NodeId) (e : field_at label others ≡ Some k) → IsShown book puts base claims true mode (partner label k e).0 k.0)
+      → ((label : List ℕ) (k : NodeId) (e : field_at label others ≡ Some k)
+      → field_at label fields ≡ Some (partner label k e))
+      → ((label : List ℕ) (k : NodeId) (e : field_at label others ≡ Some k)
+      → IsShown book puts base claims true mode (partner label k e).0 k.0)
       → IsShown book puts base claims level mode i j
   put_left : {level : Bool} {mode : Mode} {i j : ℕ} (x n : ℕ) → node_at book i ≡ node.Var x
       → left_put mode puts x ≡ Some n → IsShown book puts base claims level Pp n j

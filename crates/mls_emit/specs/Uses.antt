@@ -24,7 +24,8 @@ Shows book variables s x = (i : ℕ) × Contains (variables s) i × (node_at boo
 -- sign, is the tree of its variables and of parts, each with a head of its own that lies within the head of the copy.
 -- A declared type may have several functions or records in one place. Where a negative and a positive place show one
 -- variable, there is an edge between their copies.
-pub record IsNameLayout (book : List Node) (a : Automaton) (IsPlace : ℕ → Type 0) (sign : ℕ → Polarity) (place copy : ℕ → ℕ) : Type 0 where
+pub record IsNameLayout (book : List Node) (a : Automaton) (IsPlace : ℕ → Type 0) (sign : ℕ → Polarity) (place copy : ℕ
+    → ℕ) : Type 0 where
   pub parts : ℕ → List ℕ
   pub variables : ℕ → List ℕ
   pub own : ℕ → ℕ → Parts
@@ -40,15 +41,18 @@ pub record IsNameLayout (book : List Node) (a : Automaton) (IsPlace : ℕ → Ty
       → Shows book variables p x → HasFlow a (copy n) (copy p)
 
 -- Each variable of the type stands for the join of the copies of the negative places that show it.
-pub record ArePuts (book : List Node) (IsPlace : ℕ → Type 0) (sign : ℕ → Polarity) (variables : ℕ → List ℕ) (place copy : ℕ → ℕ) (puts : List Put) : Type 0 where
+pub record ArePuts (book : List Node) (IsPlace : ℕ → Type 0) (sign : ℕ → Polarity) (variables : ℕ → List ℕ)
+    (place copy : ℕ → ℕ) (puts : List Put) : Type 0 where
   pub joined : ℕ → ℕ
   pub put : (s x : ℕ) → IsPlace s → Shows book variables s x → put_at puts x ≡ Some (joined x)
   pub tree : (s x : ℕ) → IsPlace s → Shows book variables s x
-      → IsTree book Positive (λ i. (n : ℕ) × IsPlace n × (sign n ≡ Negative) × Shows book variables n x × (place (copy n) ≡ i)) (joined x)
+      → IsTree book Positive (λ i. (n : ℕ) × IsPlace n × (sign n ≡ Negative) × Shows book variables n x
+      × (place (copy n) ≡ i)) (joined x)
 
 -- a positive place of the type is below its copy, where its variables stand for their nodes, and a negative place is
 -- above its copy
-pub data IsUseClaim (IsPlace : ℕ → Type 0) (sign : ℕ → Polarity) (place type_place copy : ℕ → ℕ) (mode : Mode) (i j : ℕ) : Type 0 where
+pub data IsUseClaim (IsPlace : ℕ → Type 0) (sign : ℕ → Polarity) (place type_place copy : ℕ → ℕ) (mode : Mode)
+    (i j : ℕ) : Type 0 where
   below_copy : (s : ℕ) → IsPlace s → sign s ≡ Positive → mode ≡ Lr → type_place s ≡ i → place (copy s) ≡ j
       → IsUseClaim IsPlace sign place type_place copy mode i j
   above_copy : (s : ℕ) → IsPlace s → sign s ≡ Negative → mode ≡ Rl → place (copy s) ≡ i → type_place s ≡ j

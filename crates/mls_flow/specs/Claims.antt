@@ -40,4 +40,5 @@ kept_at marks i = get_or marks i false
 -- the marks are those of the greatest set of claims that stand together
 pub record IsGreatest (claims : List Claim) (marks : List Bool) : Type 0 where
   pub together : StandTogether claims (kept_at marks)
-  pub greatest : (kept : ℕ → Bool) → StandTogether claims kept → (i : ℕ) → i < length claims → kept i ≡ true → kept_at marks i ≡ true
+  pub greatest : (kept : ℕ → Bool) → StandTogether claims kept → (i : ℕ) → i < length claims → kept i ≡ true
+      → kept_at marks i ≡ true

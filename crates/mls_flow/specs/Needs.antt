@@ -1,5 +1,6 @@
 -- What pairs of states need, by which their heads are matched, and the claims that say it by numbers.
-use Rattle.std.specs.Prelude.{◌≡◌, ◌⊎◌, ◌↔◌, ℕ, ◌<◌, Bool, true, cond, List, [], ◌∷◌, ◌++◌, map, length, All, Contains, Option, Some, None, get_or, is_some, unwrap_or}
+use Rattle.std.specs.Prelude.{◌≡◌, ◌⊎◌, ◌↔◌, ℕ, ◌<◌, Bool, true, cond, List, [], ◌∷◌, ◌++◌, map, length, All, Contains}
+use Rattle.std.specs.Prelude.{Option, Some, None, get_or, is_some, unwrap_or}
 use Rattle.std.specs.List.{list_all}
 use Rattle.mls_automaton.specs.declared.automaton.Arms.{Arms}
 use Rattle.mls_automaton.specs.declared.automaton.FieldSet.{FieldSet}
@@ -17,7 +18,8 @@ only set = get_or set 0 0
 
 -- the domains the other way round, and the codomains
 abbrev pub function_needs : Option Arms → Option Arms → Option (List Flow)
-function_needs (Some arms) (Some others) = Some (flow (only others.domain) (only arms.domain) ∷ flow (only arms.codomain) (only others.codomain) ∷ [])
+function_needs (Some arms) (Some others) =
+    Some (flow (only others.domain) (only arms.domain) ∷ flow (only arms.codomain) (only others.codomain) ∷ [])
 function_needs _ _ = None
 
 -- whether the first record has each label of the second
@@ -73,7 +75,8 @@ AreNeedsMet R (Some needs) = All (λ (f : Flow). R f.negative.0 f.positive.0) ne
 -- what a pair stands on, by the numbers of the pairs
 pub record IsClaimOf (a : Automaton) (list : List Flow) (f : Flow) (c : Claim) : Type 0 where
   pub holds : (c.holds ≡ true) ↔ HoldsAtOnce a f.negative.0 f.positive.0
-  pub first : IsNumbered list c.first (function_needs (head_at a f.negative.0).function (head_at a f.positive.0).function)
+  pub first : IsNumbered list c.first
+      (function_needs (head_at a f.negative.0).function (head_at a f.positive.0).function)
   pub second : IsNumbered list c.second (record_needs (head_at a f.negative.0).fields (head_at a f.positive.0).fields)
 
 -- a claim for each of the first pairs

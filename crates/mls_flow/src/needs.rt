@@ -107,7 +107,8 @@ fn field_need(fields: &[FieldSet], other: &FieldSet) -> Option<Flow>
     requires lower { HasSingleFields (Some fields.now) }
     requires rising { AreRising fields.now }
     requires upper { IsSingle other.now.set }
-    ensures some { IfSome result (λ need. (has_all fields.now (other.now ∷ []) ≡ true) × (need ≡ field_need fields.now other.now)) }
+    ensures some { IfSome result (λ need. (has_all fields.now (other.now ∷ []) ≡ true)
+        × (need ≡ field_need fields.now other.now)) }
     ensures none { result ≡ None → has_all fields.now (other.now ∷ []) ≡ false }
 {
     match set_of(fields, &other.label) {

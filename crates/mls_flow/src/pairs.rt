@@ -1,5 +1,6 @@
 //! Pairs of states, numbered as they are found.
-ghost use Rattle.std.specs.Prelude.{◌≡◌, ◌≢◌, ◌⊎◌, ◌<◌, ◌++◌, ◌∷◌, [], length, Contains, IfOk, IfSome, OnOk, OnErr, Some, None, option_copied};
+ghost use Rattle.std.specs.Prelude.{◌≡◌, ◌≢◌, ◌⊎◌, ◌<◌, ◌++◌, ◌∷◌, [], length, Contains, IfOk, IfSome, OnOk, OnErr};
+ghost use Rattle.std.specs.Prelude.{Some, None, option_copied};
 ghost use Rattle.mls_automaton.specs.Automata.{flow};
 ghost use Rattle.mls_flow.specs.Pairs.{IsAt};
 ghost use Rattle.mls_flow.specs.steps.Numbering.{number_in};
@@ -55,7 +56,8 @@ impl Pairs {
     pub fn number(&mut self, negative: StateId, positive: StateId) -> Result<usize, Memory>
         requires { negative.0 < self.old.states }
         ensures states { OnOk result (self.new.states ≡ self.old.states) }
-        ensures behind { OnOk result ((self.new.list ≡ self.old.list) ⊎ (self.new.list ≡ self.old.list ++ flow negative.0 positive.0 ∷ [])) }
+        ensures behind { OnOk result ((self.new.list ≡ self.old.list)
+            ⊎ (self.new.list ≡ self.old.list ++ flow negative.0 positive.0 ∷ [])) }
         ensures number { IfOk result (λ k. IsAt self.new.list k negative.0 positive.0) }
     {
         if let Some(number) = find(self.rows.as_slice(), negative.0, positive.0) {
@@ -126,7 +128,8 @@ fn note(
     requires { negative < length rows.old.items }
     ensures len { length rows.new.items ≡ length rows.old.items }
     ensures here { OnOk result (number_in rows.new.items negative positive ≡ Some number) }
-    ensures others { OnOk result ((n p : _) → (n ≢ negative) ⊎ (p ≢ positive) → number_in rows.new.items n p ≡ number_in rows.old.items n p) }
+    ensures others { OnOk result ((n p : _) → (n ≢ negative) ⊎ (p ≢ positive)
+        → number_in rows.new.items n p ≡ number_in rows.old.items n p) }
     ensures err { OnErr result ((n p : _) → number_in rows.new.items n p ≡ number_in rows.old.items n p) }
 {
     rows[negative].insert(positive, number)?;

@@ -2,7 +2,8 @@
 ghost use Rattle.std.specs.Prelude.{◌≡◌, ◌<◌, ◌++◌, ◌∷◌, [], cond, length, map, All, Contains, IfOk, OnOk};
 ghost use Rattle.std.specs.List.{fold};
 ghost use Rattle.mls_flow.specs.Claims.{IsAmong, IsGreatest, IsWayAmong};
-ghost use Rattle.mls_flow.specs.steps.Losing.{AddsUses, AreLosses, AreLost, IsIn, IsUsesOf, all_of, close, is_left, without};
+ghost use Rattle.mls_flow.specs.steps.Losing.{AddsUses, AreLosses, AreLost, IsIn, IsUsesOf, all_of, close, is_left};
+ghost use Rattle.mls_flow.specs.steps.Losing.{without};
 
 use mls_base::list::List;
 use mls_base::memory::Memory;
@@ -109,7 +110,8 @@ fn add_way(
     members: &Option<List<usize>>,
 ) -> Result<(), Memory>
     requires { IsWayAmong (length uses.old.items) members.now }
-    ensures { OnOk result (AddsUses uses.old.items uses.new.items (λ u j. (u ≡ record { claim = claim; is_second = is_second }) × IsIn members.now j)) }
+    ensures { OnOk result (AddsUses uses.old.items uses.new.items
+        (λ u j. (u ≡ record { claim = claim; is_second = is_second }) × IsIn members.now j)) }
 {
     match members {
         None => Ok(()),
@@ -173,7 +175,8 @@ fn lose_all(
 ) -> Result<(), Memory>
     requires uses { IsUsesOf claims.now uses.now }
     requires losses { AreLosses claims.now 0 (record { left = left.old.items; lost = lost.old.items }) }
-    ensures { OnOk result (AreLosses claims.now (length lost.new.items) (record { left = left.new.items; lost = lost.new.items })) }
+    ensures { OnOk result (AreLosses claims.now (length lost.new.items)
+        (record { left = left.new.items; lost = lost.new.items })) }
 {
     let mut next = 0;
     while next < lost.len() {
@@ -186,7 +189,8 @@ fn lose_all(
 // Takes these lists away.
 fn lose_uses(left: &mut Vec<Left>, lost: &mut Vec<usize>, uses: &[Use]) -> Result<(), Memory>
     requires { All (λ u. u.claim < length left.old.items) uses.now }
-    ensures { OnOk result (record { left = left.new.items; lost = lost.new.items } ≡ fold close (record { left = left.old.items; lost = lost.old.items }) uses.now) }
+    ensures { OnOk result (record { left = left.new.items; lost = lost.new.items }
+        ≡ fold close (record { left = left.old.items; lost = lost.old.items }) uses.now) }
 {
     for used in uses {
         lose_use(left, lost, *used)?;
@@ -197,7 +201,8 @@ fn lose_uses(left: &mut Vec<Left>, lost: &mut Vec<usize>, uses: &[Use]) -> Resul
 // Takes one list away.
 fn lose_use(left: &mut Vec<Left>, lost: &mut Vec<usize>, used: Use) -> Result<(), Memory>
     requires { used.claim < length left.old.items }
-    ensures { OnOk result (record { left = left.new.items; lost = lost.new.items } ≡ close (record { left = left.old.items; lost = lost.old.items }) used) }
+    ensures { OnOk result (record { left = left.new.items; lost = lost.new.items }
+        ≡ close (record { left = left.old.items; lost = lost.old.items }) used) }
 {
     let before = left[used.claim];
     let after = before.without(used.is_second);

@@ -16,4 +16,5 @@ NoFaultBesideAModule = (text : List ℕ) (m : Module) (fault : Fault) → IsModu
 
 -- the first fault of a text stands in it, or at its end
 abbrev pub FaultIsInText : Type 0
-FaultIsInText = (text : List ℕ) (fault : Fault) → HasFirstFault text fault → fault_place (length text) fault ≤ length text
+FaultIsInText = (text : List ℕ) (fault : Fault) → HasFirstFault text fault
+    → fault_place (length text) fault ≤ length text

@@ -1,5 +1,7 @@
--- The constraints of each form: an automaton over those of the parts, with goals. What models of it give, the expression has.
-use Rattle.std.specs.Prelude.{◌≡◌, ◌⊎◌, ℕ, suc, ◌+◌, true, false, not, List, [], ◌∷◌, ◌++◌, map, filter, length, All, Contains, IsSome, ◌↔◌, Some, None}
+-- The constraints of each form: an automaton over those of the parts, with goals. What models of it give, the
+-- expression has.
+use Rattle.std.specs.Prelude.{◌≡◌, ◌⊎◌, ℕ, suc, ◌+◌, true, false, not, List, [], ◌∷◌, ◌++◌, map, filter, length, All}
+use Rattle.std.specs.Prelude.{Contains, IsSome, ◌↔◌, Some, None}
 use Rattle.std.specs.Ordering.{nat_cmp, eq_by_cmp}
 use Rattle.mls_book.specs.declared.book.Node.{Node}
 use Rattle.mls_book.specs.Books.{IsClosedBook}
@@ -25,8 +27,9 @@ pub record Constraint : Type 0 where
   pub scheme : Scheme
   pub goals : List (ℕ × ℕ)
 
--- A model of the automaton gives the type `f` where the binders have these types: its states are types of one closed book, the goals
--- hold, the root is below `f`, and the states of each binder are above the binder's type. Here a binder may have several states.
+-- A model of the automaton gives the type `f` where the binders have these types: its states are types of one closed
+-- book, the goals hold, the root is below `f`, and the states of each binder are above the binder's type. Here a binder
+-- may have several states.
 pub record HasTypes (c : Constraint) (types : ℕ → Predicate) (f : Predicate) : Type 0 where
   pub nodes : List Node
   pub closed : IsClosedBook nodes
@@ -90,7 +93,14 @@ abbrev pub positive : Head → State
 positive h = record { polarity = Positive; head = h }
 
 abbrev pub function_head : List ℕ → List ℕ → Head
-function_head domain codomain = record { boolean = false; integer = false; function = Some (record { domain = domain; codomain = codomain }); fields = None }
+function_head domain codomain =
+    record {
+      boolean = false;
+      integer = false;
+      function = Some
+          (record { domain = domain; codomain = codomain });
+      fields = None;
+    }
 
 abbrev pub record_head : List FieldSet → Head
 record_head fields = record { boolean = false; integer = false; function = None; fields = Some fields }
@@ -103,7 +113,8 @@ int_head = record { boolean = false; integer = true; function = None; fields = N
 
 -- the states of a binder, and the entries of the others
 abbrev pub states_of : ℕ → List EnvEntry → List ℕ
-states_of x env = map (λ (entry : EnvEntry). entry.state.0) (filter (λ (entry : EnvEntry). eq_by_cmp nat_cmp entry.binder x) env)
+states_of x env = map (λ (entry : EnvEntry). entry.state.0)
+    (filter (λ (entry : EnvEntry). eq_by_cmp nat_cmp entry.binder x) env)
 
 abbrev pub without : ℕ → List EnvEntry → List EnvEntry
 without x env = filter (λ (entry : EnvEntry). not (eq_by_cmp nat_cmp entry.binder x)) env
@@ -119,7 +130,8 @@ bound_constraint x = no_goals (record {
 })
 
 abbrev pub literal_constraint : Head → Constraint
-literal_constraint h = no_goals (record { automaton = record { states = positive h ∷ []; flows = [] }; env = []; root = id 0 })
+literal_constraint h = no_goals
+    (record { automaton = record { states = positive h ∷ []; flows = [] }; env = []; root = id 0 })
 
 -- a function: from the states of its binder to the root of its body
 abbrev pub fun_constraint : ℕ → Scheme → Constraint
@@ -142,7 +154,8 @@ project_constraint label s =
     let n = size s.automaton in
     record {
       scheme = record {
-        automaton = grown s.automaton (negative empty_head ∷ positive empty_head ∷ negative (record_head (record { label = label; set = n ∷ [] } ∷ [])) ∷ []) (flow n (suc n) ∷ []);
+        automaton = grown s.automaton (negative empty_head ∷ positive empty_head ∷ negative
+            (record_head (record { label = label; set = n ∷ [] } ∷ [])) ∷ []) (flow n (suc n) ∷ []);
         env = s.env;
         root = id (suc n);
       };
@@ -156,7 +169,8 @@ apply_constraint s t =
     let n = size j.automaton in
     record {
       scheme = record {
-        automaton = grown j.automaton (negative empty_head ∷ positive empty_head ∷ negative (function_head ((size s.automaton + t.root.0) ∷ []) (n ∷ [])) ∷ []) (flow n (suc n) ∷ []);
+        automaton = grown j.automaton (negative empty_head ∷ positive empty_head ∷ negative
+            (function_head ((size s.automaton + t.root.0) ∷ []) (n ∷ [])) ∷ []) (flow n (suc n) ∷ []);
         env = j.env;
         root = id (suc n);
       };
@@ -170,11 +184,13 @@ choice_constraint r s t =
     let n = size j.automaton in
     record {
       scheme = record {
-        automaton = grown j.automaton (negative bool_head ∷ negative empty_head ∷ positive empty_head ∷ []) (flow (suc n) (suc (suc n)) ∷ []);
+        automaton = grown j.automaton (negative bool_head ∷ negative empty_head ∷ positive empty_head ∷ [])
+            (flow (suc n) (suc (suc n)) ∷ []);
         env = j.env;
         root = id (suc (suc n));
       };
-      goals = (r.root.0, n) ∷ (size r.automaton + s.root.0, suc n) ∷ (size r.automaton + (size s.automaton + t.root.0), suc n) ∷ [];
+      goals = (r.root.0, n) ∷ (size r.automaton + s.root.0, suc n) ∷
+          (size r.automaton + (size s.automaton + t.root.0), suc n) ∷ [];
     }
 
 -- a let: the second part, and what the first part needs
@@ -186,7 +202,8 @@ let_constraint s t =
 -- these fields have the labels of the parts, each with the root of its part, in the order of the text
 abbrev pub AreRoots : TermFields → List ℕ → List FieldSet → Type 0
 AreRoots no_field [] fields = Unit {0}
-AreRoots (a_field label e rest) (root ∷ roots) fields = (set_at fields label ≡ Some (root ∷ [])) × AreRoots rest roots fields
+AreRoots (a_field label e rest) (root ∷ roots) fields =
+    (set_at fields label ≡ Some (root ∷ [])) × AreRoots rest roots fields
 AreRoots _ _ fields = ⊥
 
 -- the fields of a record's head: sorted, and of no other labels
@@ -200,7 +217,12 @@ pub record AreFieldsOf (parts : TermFields) (roots : List ℕ) (fields : List Fi
 abbrev pub make_constraint : List FieldSet → List Scheme → Constraint
 make_constraint fields ss =
     let j = joined ss in
-    no_goals (record { automaton = grown j.automaton (positive (record_head fields) ∷ []) []; env = j.env; root = id (size j.automaton) })
+    no_goals (record {
+      automaton = grown j.automaton (positive (record_head fields) ∷ []) [];
+      env = j.env;
+      root = id
+          (size j.automaton);
+    })
 
 -- what a list of parts has
 abbrev pub AllHaveTypes : (ℕ → Predicate) → List Scheme → List Predicate → Type 0
@@ -208,8 +230,8 @@ AllHaveTypes types [] [] = Unit {0}
 AllHaveTypes types (s ∷ ss) (f ∷ fs) = HasTypes (no_goals s) types f × AllHaveTypes types ss fs
 AllHaveTypes types _ _ = ⊥
 
--- One state for two of a binder: a new negative state with the combined head and the edges of both. The entries of the binder at
--- the two states give way to one at the new state.
+-- One state for two of a binder: a new negative state with the combined head and the edges of both. The entries of the
+-- binder at the two states give way to one at the new state.
 pub record IsMerged (s t : Scheme) : Type 0 where
   pub binder : ℕ
   pub first : ℕ
@@ -219,8 +241,13 @@ pub record IsMerged (s t : Scheme) : Type 0 where
   pub root_is : t.root ≡ s.root
   pub first_there : Contains s.env (record { binder = binder; state = id first })
   pub second_there : Contains s.env (record { binder = binder; state = id second })
-  pub head_is : (value : ℕ → Predicate) → head_value Negative value head ≡ meet (head_value Negative value (head_at s.automaton first)) (head_value Negative value (head_at s.automaton second))
-  pub flows_are : (n p : ℕ) → HasFlow t.automaton n p ↔ HasFlow s.automaton n p ⊎ ((n ≡ size s.automaton) × (HasFlow s.automaton first p ⊎ HasFlow s.automaton second p))
+  pub head_is : (value : ℕ → Predicate)
+      → head_value Negative value head ≡ meet (head_value Negative value (head_at s.automaton first))
+      (head_value Negative value (head_at s.automaton second))
+  pub flows_are : (n p : ℕ) → HasFlow t.automaton n p ↔ HasFlow s.automaton n p
+      ⊎ ((n ≡ size s.automaton) × (HasFlow s.automaton first p ⊎ HasFlow s.automaton second p))
   pub entry : Contains t.env (record { binder = binder; state = id (size s.automaton) })
-  pub kept : (e : EnvEntry) → Contains s.env e → (e ≡ record { binder = binder; state = id first }) ⊎ ((e ≡ record { binder = binder; state = id second }) ⊎ Contains t.env e)
-  pub old : (e : EnvEntry) → Contains t.env e → (e ≡ record { binder = binder; state = id (size s.automaton) }) ⊎ Contains s.env e
+  pub kept : (e : EnvEntry) → Contains s.env e → (e ≡ record { binder = binder; state = id first })
+      ⊎ ((e ≡ record { binder = binder; state = id second }) ⊎ Contains t.env e)
+  pub old : (e : EnvEntry) → Contains t.env e → (e ≡ record { binder = binder; state = id (size s.automaton) })
+      ⊎ Contains s.env e

@@ -1,5 +1,6 @@
 -- The loop over the nodes in postorder: what a node takes of the schemes of finished parts, and what it answers.
-use Rattle.std.specs.Prelude.{◌≡◌, ◌≢◌, ℕ, suc, ◌+◌, ◌<◌, List, [], ◌∷◌, length, map, slice_get, All, Contains, cond, Option, Some, None}
+use Rattle.std.specs.Prelude.{◌≡◌, ◌≢◌, ℕ, suc, ◌+◌, ◌<◌, List, [], ◌∷◌, length, map, slice_get, All, Contains, cond}
+use Rattle.std.specs.Prelude.{Option, Some, None}
 use Rattle.std.specs.BTreeMap.{BTreeMap, get}
 use Rattle.std.specs.Ordering.{nat_cmp, eq_by_cmp}
 use Rattle.std.specs.List.{AllPairs}
@@ -24,8 +25,10 @@ use Rattle.mls_infer.specs.declared.node.Source.{Source}
 use Rattle.mls_infer.specs.declared.node.Source.TheVariants as source
 use Rattle.mls_infer.specs.declared.solve.NoSolution.{NoSolution}
 use Rattle.mls_infer.specs.declared.solve.NoSolution.TheVariants as no_solution
-use Rattle.mls_infer.specs.Constraints.{Constraint, HasStates, int_head, bool_head, bound_constraint, literal_constraint, fun_constraint}
-use Rattle.mls_infer.specs.Constraints.{fix_constraint, apply_constraint, project_constraint, choice_constraint, let_constraint}
+use Rattle.mls_infer.specs.Constraints.{Constraint, HasStates, int_head, bool_head, bound_constraint}
+use Rattle.mls_infer.specs.Constraints.{literal_constraint, fun_constraint}
+use Rattle.mls_infer.specs.Constraints.{fix_constraint, apply_constraint, project_constraint, choice_constraint}
+use Rattle.mls_infer.specs.Constraints.{let_constraint}
 use Rattle.mls_infer.specs.Finished.{Finished, Has, HasEach, child_of}
 use Rattle.mls_infer.specs.Inference.{IsKindAt, schemes_in}
 use Rattle.mls_infer.specs.Joining.{part_labels}
@@ -93,7 +96,8 @@ CanStep scope node done = HasParts node done
 -- a node is a known name with this scheme
 pub data IsNamed (scope : Scope) (node : TermForm) (done : Finished) (s : Scheme) : Type 0 where
   is_copied : (k i : ℕ) → node ≡ form.Inner k → scope.first_of k ≡ Some i → Has done i s → IsNamed scope node done s
-  is_read : (g : ℕ) (t : book.Scheme) → node ≡ form.Global g → slice_get scope.globals g ≡ Some t → IsReadAs s t → IsNamed scope node done s
+  is_read : (g : ℕ) (t : book.Scheme) → node ≡ form.Global g → slice_get scope.globals g ≡ Some t → IsReadAs s t
+      → IsNamed scope node done s
 
 -- the scheme of a node: that of a known name, or a solution of its constraint
 pub data IsAnswer (scope : Scope) (node : TermForm) (done : Finished) (s : Scheme) : Type 0 where
@@ -121,8 +125,8 @@ pub record IsStop (node : TermForm) (done : Finished) (m : SiteKind) : Type 0 wh
   pub none : HasNoTypes constraint
   pub first : TellsFirstClash constraint (no_solution.Clash m)
 
--- Whatever schemes the steps answer, each node that is left can be inferred; where one stops, `Fails` holds of its number and kind,
--- and in the end `Ends` holds.
+-- Whatever schemes the steps answer, each node that is left can be inferred; where one stops, `Fails` holds of its
+-- number and kind, and in the end `Ends` holds.
 module _ (scope : Scope) (Fails : ℕ → SiteKind → Type 0) (Ends : Finished → Type 0) where
   abbrev pub GoesOn : List TermNode → Finished → Type 0
   GoesOn [] done = Ends done
@@ -144,7 +148,8 @@ abbrev mutual
   HasFirsts firsts n (make at fields) = HaveFirsts firsts n fields
   HasFirsts firsts n (project at e label) = HasFirsts firsts n e
   HasFirsts firsts n (choice at c e f) =
-      HasFirsts firsts n c × HasFirsts firsts (n + suc (before c)) e × HasFirsts firsts (n + suc (before c) + suc (before e)) f
+      HasFirsts firsts n c × HasFirsts firsts (n + suc (before c)) e
+      × HasFirsts firsts (n + suc (before c) + suc (before e)) f
   HasFirsts firsts n (local at k e f) =
       (firsts k ≡ Some (n + before e)) × HasFirsts firsts n e × HasFirsts firsts (n + suc (before e)) f
   HasFirsts firsts n (fix at x e) = HasFirsts firsts n e
@@ -170,7 +175,8 @@ first_in (node ∷ rest) k = or_earlier (first_in rest k) (first_at node.form k)
 abbrev pub without_env : Scheme → Scheme
 without_env s = record { automaton = s.automaton; env = []; root = s.root }
 
--- The whole expression is inferred: the scheme of its root is there, and without its environment it is a most general one.
+-- The whole expression is inferred: the scheme of its root is there, and without its environment it is a most general
+-- one.
 pub record IsInferred (globals : List book.Scheme) (whole : TermTree) (done : Finished) : Type 0 where
   pub scheme : Scheme
   pub there : Has done (before whole) scheme

@@ -55,5 +55,7 @@ part_labels parts = map (λ (part : Part). part.label) parts
 
 -- the first n labels have these roots, and no other has one
 pub record AreRows (n : ℕ) (labels : List (List ℕ)) (roots : List ℕ) (rows : Rows) : Type 0 where
-  pub there : (k : ℕ) (d : List ℕ) (r : ℕ) → k < n → row_at rows (get_or labels k d) ≡ Some (record { 0 = get_or roots k r })
-  pub back : (q : List ℕ) (s : StateId) → row_at rows q ≡ Some s → (k : ℕ) × (k < n) × ((d : List ℕ) → get_or labels k d ≡ q) × ((r : ℕ) → get_or roots k r ≡ s.0)
+  pub there : (k : ℕ) (d : List ℕ) (r : ℕ) → k < n
+      → row_at rows (get_or labels k d) ≡ Some (record { 0 = get_or roots k r })
+  pub back : (q : List ℕ) (s : StateId) → row_at rows q ≡ Some s
+      → (k : ℕ) × (k < n) × ((d : List ℕ) → get_or labels k d ≡ q) × ((r : ℕ) → get_or roots k r ≡ s.0)

@@ -34,7 +34,8 @@ AreNegative a env = (entry : EnvEntry) → Contains env entry → IsState a Nega
 
 -- they ascend by their binders
 abbrev pub BindersAscend : List EnvEntry → Type 0
-BindersAscend env = (i j : ℕ) (d : EnvEntry) → i ≤ j → j < length env → (get_or env i d).binder ≤ (get_or env j d).binder
+BindersAscend env = (i j : ℕ) (d : EnvEntry) → i ≤ j → j < length env
+    → (get_or env i d).binder ≤ (get_or env j d).binder
 
 abbrev pub HasSameMembers : {A : Type 0} → List A → List A → Type 0
 HasSameMembers xs ys = (x : _) → Contains xs x ↔ Contains ys x
@@ -45,14 +46,16 @@ pub record IsExtended (a b : Automaton) : Type 0 where
   pub heads : (s : ℕ) → s < length a.states → head_at b s ≡ head_at a s
   pub flows : (n p : ℕ) → n < length a.states → HasFlow b n p ↔ HasFlow a n p
 
--- The second automaton has the states of the first and more. Constraints over it, with the second entries, have the same
--- types as those over the first, with the first entries, whatever their other entries, their root and their goals.
+-- The second automaton has the states of the first and more. Constraints over it, with the second entries, have the
+-- same types as those over the first, with the first entries, whatever their other entries, their root and their goals.
 pub record Merges (a : Automaton) (env : List EnvEntry) (b : Automaton) (fewer : List EnvEntry) : Type 0 where
   pub closed : IsClosed b
   pub extended : IsExtended a b
   pub states : (p : Polarity) (s : ℕ) → IsState a p s → IsState b p s
   pub negative : AreNegative b fewer
-  pub types : (others : List EnvEntry) (root : StateId) (goals : List (ℕ × ℕ)) → AreNegative a others → IsState a Positive root.0 → AreBetween a goals → HaveSameTypes (over a (env ++ others) root goals) (over b (fewer ++ others) root goals)
+  pub types : (others : List EnvEntry) (root : StateId) (goals : List (ℕ × ℕ)) → AreNegative a others
+      → IsState a Positive root.0 → AreBetween a goals
+      → HaveSameTypes (over a (env ++ others) root goals) (over b (fewer ++ others) root goals)
 
 -- the new state has the combined head and all edges of the two
 pub record IsMet (first second state : ℕ) (old new : Automaton) : Type 0 where
@@ -67,8 +70,10 @@ pub record IsGroup (env : List EnvEntry) (start end : ℕ) : Type 0 where
   pub other : (d : EnvEntry) → end < length env → (get_or env end d).binder ≢ (get_or env start d).binder
 
 -- the entries before this place have given way to these, whose binders are below those of the rest
-pub record IsMergedTo (a : Automaton) (entries : List EnvEntry) (i : ℕ) (b : Automaton) (merged : List EnvEntry) : Type 0 where
+pub record IsMergedTo (a : Automaton) (entries : List EnvEntry) (i : ℕ) (b : Automaton)
+    (merged : List EnvEntry) : Type 0 where
   pub within : i ≤ length entries
   pub merges : Merges a (take i entries) b merged
   pub rise : BindersRise merged
-  pub below : (e : EnvEntry) → Contains merged e → (k : ℕ) (d : EnvEntry) → i ≤ k → k < length entries → e.binder < (get_or entries k d).binder
+  pub below : (e : EnvEntry) → Contains merged e → (k : ℕ) (d : EnvEntry) → i ≤ k → k < length entries
+      → e.binder < (get_or entries k d).binder

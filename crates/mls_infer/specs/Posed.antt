@@ -26,4 +26,5 @@ IsGoalOf a g = IsState a Positive g.positive.0 × IsState a Negative g.negative.
 -- the constraint of a record whose parts have these labels, in the order of the text
 abbrev pub IsMadeOf : List (List ℕ) → List Scheme → Constraint → Type 0
 IsMadeOf labels ss c =
-    (fields : List FieldSet) × ((parts : TermFields) → labels_of parts ≡ labels → AreFieldsOf parts (joined ss).roots fields) × (c ≡ make_constraint fields ss)
+    (fields : List FieldSet) × ((parts : TermFields) → labels_of parts ≡ labels
+    → AreFieldsOf parts (joined ss).roots fields) × (c ≡ make_constraint fields ss)

@@ -77,7 +77,8 @@ impl Finished {
         requires there { (ss : _) × HasEach self.old (map child_of parts.now) ss }
         requires distinct { AllPairs (λ i j. i ≢ j) (map child_of parts.now) }
         ensures taken { IfOk result (λ ss. HasEach self.old (map child_of parts.now) ss) }
-        ensures kept { OnOk result ((j : _) → (Contains (map child_of parts.now) j → ⊥) → slice_get self.new j ≡ slice_get self.old j) }
+        ensures kept { OnOk result ((j : _) → (Contains (map child_of parts.now) j → ⊥)
+            → slice_get self.new j ≡ slice_get self.old j) }
         ensures size { length self.new ≡ length self.old }
     {
         let mut schemes = List::new(alloc);

@@ -22,7 +22,8 @@ pub(crate) fn firsts_of(alloc: Global, nodes: &[TermNode]) -> Result<BTreeMap<us
 
 // Notes the first part of a node that is a let.
 fn note(firsts: &mut BTreeMap<usize, usize>, form: &TermForm) -> Result<(), Memory>
-    ensures { OnOk result ((k : _) → get nat_cmp firsts.new k ≡ or_earlier (first_at form.now k) (get nat_cmp firsts.old k)) }
+    ensures { OnOk result ((k : _)
+        → get nat_cmp firsts.new k ≡ or_earlier (first_at form.now k) (get nat_cmp firsts.old k)) }
 {
     if let TermForm::Let(number, first, _) = form {
         firsts.insert(*number, *first)?;

@@ -12,7 +12,8 @@ ghost use Rattle.mls_infer.specs.Steps.{IsSolution};
 ghost use Rattle.mls_shape.specs.Simplified.{IsSimplified};
 ghost use Rattle.mls_term.specs.WellFormed.{IsTerm};
 ghost use Rattle.mls_term.specs.Terms.{postorder};
-ghost use Rattle.mls_infer.specs.Finishing.{AreReads, CanStep, FailsIn, GoesOnIn, HasKindIn, IsAnswerBy, IsInferred, KeepsOthers};
+ghost use Rattle.mls_infer.specs.Finishing.{AreReads, CanStep, FailsIn, GoesOnIn, HasKindIn, IsAnswerBy, IsInferred};
+ghost use Rattle.mls_infer.specs.Finishing.{KeepsOthers};
 ghost use Rattle.mls_infer.specs.Finishing.{StopsAt, first_in, scope_of};
 ghost use Rattle.mls_infer.specs.Inference.{AreNames, IsBestFor, IsFirstWithout, TellsKindOf, schemes_in};
 
@@ -36,9 +37,9 @@ use std::collections::{BTreeMap, BTreeSet};
 ///
 /// # Errors
 ///
-/// `NoScheme` exactly where the expression has none: with the first node in postorder that has none, each let-bound name
-/// around it having its most general scheme; its kind is that of the first clash of its constraint over most general
-/// schemes of its parts. `Memory` where memory is wanting.
+/// `NoScheme` exactly where the expression has none: with the first node in postorder that has none, each let-bound
+/// name around it having its most general scheme; its kind is that of the first clash of its constraint over most
+/// general schemes of its parts. `Memory` where memory is wanting.
 pub fn infer(alloc: Global, names: &Names, term: &Term) -> Result<Scheme, InferFault>
     requires names { AreNames names.now }
     requires term { IsTerm (length names.now.schemes) term.now.nodes term.now.binders term.now.lets }
@@ -89,7 +90,8 @@ fn infer_nodes(
     requires goes { (t : _) × (nodes.now ≡ postorder 0 t) × GoesOnIn (scope_of names.now firsts.now) t nodes.now [] }
     ensures ok { IfOk result (λ done. (t : _) → nodes.now ≡ postorder 0 t → IsInferred (schemes_in names.now) t done) }
     ensures err { IfErr result (λ fault. (t : _) → nodes.now ≡ postorder 0 t → FailsIn (schemes_in names.now) t fault) }
-    ensures kind { IfErr result (λ fault. (t : _) → nodes.now ≡ postorder 0 t → HasKindIn (schemes_in names.now) t fault) }
+    ensures kind { IfErr result (λ fault. (t : _) → nodes.now ≡ postorder 0 t
+        → HasKindIn (schemes_in names.now) t fault) }
 {
     let mut done = Finished::new(alloc);
     let mut walks = Walks::new(alloc);

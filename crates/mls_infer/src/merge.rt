@@ -7,7 +7,8 @@ ghost use Rattle.mls_automaton.specs.Models.{IsClosed};
 ghost use Rattle.mls_automaton.specs.Schemes.{IsScheme};
 ghost use Rattle.mls_biunify.specs.Relations.{IsGoalOf};
 ghost use Rattle.mls_infer.specs.Constraints.{HasStates};
-ghost use Rattle.mls_infer.specs.Merges.{AreNegative, BindersAscend, HasSameMembers, HaveSameTypes, IsExtended, IsGroup, IsMet, Merges, solvable_constraint};
+ghost use Rattle.mls_infer.specs.Merges.{AreNegative, BindersAscend, HasSameMembers, HaveSameTypes, IsExtended};
+ghost use Rattle.mls_infer.specs.Merges.{IsGroup, IsMet, Merges, solvable_constraint};
 ghost use Rattle.mls_infer.specs.Posed.{constraint_of};
 
 use crate::constraints::Constraints;
@@ -162,7 +163,8 @@ fn add_flows(automaton: &mut Automaton, state: StateId, ends: &StateSet) -> Resu
     requires state { IsState automaton.old Negative state.0 }
     requires ends { All (IsState automaton.old Positive) ends.now }
     ensures states { automaton.new.states ≡ automaton.old.states }
-    ensures flows { OnOk result ((s p : _) → HasFlow automaton.new s p ↔ HasFlow automaton.old s p ⊎ ((s ≡ state.0) × Contains ends.now p)) }
+    ensures flows { OnOk result ((s p : _) → HasFlow automaton.new s p ↔ HasFlow automaton.old s p
+        ⊎ ((s ≡ state.0) × Contains ends.now p)) }
 {
     for end in ends.as_slice() {
         automaton.add_flow(state, StateId(*end))?;

@@ -7,7 +7,8 @@ ghost use Rattle.mls_automaton.specs.Environments.{BindersRise};
 ghost use Rattle.mls_automaton.specs.Schemes.{IsScheme};
 ghost use Rattle.mls_term.specs.declared.term.TermForm.TheVariants as form;
 ghost use Rattle.mls_infer.specs.Finished.{Has, child_of};
-ghost use Rattle.mls_infer.specs.Finishing.{AreReads, CanStep, HasParts, IsNamedBy, IsPosedAs, IsPosedBy, KeepsOthers, scope_of};
+ghost use Rattle.mls_infer.specs.Finishing.{AreReads, CanStep, HasParts, IsNamedBy, IsPosedAs, IsPosedBy, KeepsOthers};
+ghost use Rattle.mls_infer.specs.Finishing.{scope_of};
 ghost use Rattle.mls_infer.specs.Inference.{AreNames, schemes_in};
 
 use crate::constraints::Constraints;

@@ -9,7 +9,8 @@ ghost use Rattle.mls_biunify.specs.Clashes.{Clashes, label_of};
 ghost use Rattle.mls_biunify.specs.Relations.{IsGoalOf};
 ghost use Rattle.mls_infer.specs.Constraints.{HasStates};
 ghost use Rattle.mls_infer.specs.Posed.{constraint_of};
-ghost use Rattle.mls_infer.specs.Solved.{ClashesFirst, HasField, IsClashWithout, IsSolvedFor, TellsFirstClash, TellsKind};
+ghost use Rattle.mls_infer.specs.Solved.{ClashesFirst, HasField, IsClashWithout, IsSolvedFor, TellsFirstClash};
+ghost use Rattle.mls_infer.specs.Solved.{TellsKind};
 ghost use Rattle.mls_infer.specs.Steps.{IsSolution};
 
 use crate::constraints::Constraints;
@@ -44,7 +45,8 @@ impl From<Memory> for NoSolution {
 }
 
 /// The scheme that has just the types of the constraints. Without goals it is that of the constraints themselves; else
-/// their automaton is solved in place, in time that grows with the pairs that are related and the states at their edges.
+/// their automaton is solved in place, in time that grows with the pairs that are related and the states at their
+/// edges.
 ///
 /// # Errors
 ///

@@ -107,8 +107,8 @@ impl Walks {
         self.sizes.push(walk.size)
     }
 
-    /// What is known before a node is done, by its parts. The walk of a let is always due, since it needs the root of its
-    /// second part alone.
+    /// What is known before a node is done, by its parts. The walk of a let is always due, since it needs the root of
+    /// its second part alone.
     pub(crate) fn walk_of(&self, node: &TermForm, simplifies: bool) -> Walk {
         Walk {
             size: self.of_parts(node),

@@ -1,5 +1,6 @@
 -- What a store and a sink in memory hold whose listed calls fail.
-use Rattle.std.specs.Prelude.{ℕ, ◌+◌, min, nat_lt, ◌==◌, List, [], ◌∷◌, Bool, map, filter, find, length, Option, Some, option_map}
+use Rattle.std.specs.Prelude.{ℕ, ◌+◌, min, nat_lt, ◌==◌, List, [], ◌∷◌, Bool, map, filter, find, length, Option, Some}
+use Rattle.std.specs.Prelude.{option_map}
 use Rattle.std.specs.List.{list_any}
 use Rattle.mls_base.specs.Files.{Files}
 use Rattle.mls_io.specs.Counts.{Count, count_of, no_count}

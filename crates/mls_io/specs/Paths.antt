@@ -50,7 +50,8 @@ EachMisses name (old ∷ olds) (new ∷ news) = Misses name old new × EachMisse
 
 -- Some members answered that they have no such file, the next one answered otherwise, and those behind it were not
 -- asked.
-pub record StopsEarly (olds news : List Holdings) (name : List ℕ) (limit : ℕ) (before after : List ℕ) (answer : Fetch) : Type 0 where
+pub record StopsEarly (olds news : List Holdings) (name : List ℕ) (limit : ℕ) (before after : List ℕ)
+    (answer : Fetch) : Type 0 where
   pub front : List Holdings
   pub later_front : List Holdings
   pub old : Holdings

@@ -47,7 +47,8 @@ abbrev pub KeepsUnlessFound : Fetch → List ℕ → List ℕ → Type 0
 KeepsUnlessFound answer before after = answer ≢ Found → after ≡ before
 
 -- all that a store says of an answer
-pub record IsAsked (old new : Holdings) (name : List ℕ) (limit : ℕ) (before after : List ℕ) (answer : Fetch) : Type 0 where
+pub record IsAsked (old new : Holdings) (name : List ℕ) (limit : ℕ) (before after : List ℕ)
+    (answer : Fetch) : Type 0 where
   pub follows : Follows old new
   pub found : answer ≡ Found → GivesFound old name limit before after
   pub missing : GivesMissing old new name answer

@@ -156,7 +156,8 @@ impl Sink for MemSink {
     fn put(&mut self, piece: &[u8]) -> Put
         ensures follows { Follows (failing_written self.old) (failing_written self.new) }
         ensures all { result ≡ Put.All → TakesAll (failing_written self.old) (failing_written self.new) piece.now }
-        ensures failed { result ≡ Put.Failed → TakesSome (failing_written self.old) (failing_written self.new) piece.now }
+        ensures failed { result ≡ Put.Failed
+            → TakesSome (failing_written self.old) (failing_written self.new) piece.now }
         ensures memory { result ≡ Put.Memory → TakesNone (failing_written self.old) (failing_written self.new) }
         ensures empty { piece.now ≡ [] → result ≡ Put.All }
         ensures kept { result ≡ Put.Failed → IsSomeAnd (kept_at self.old.failing self.old.puts.value)

@@ -42,8 +42,8 @@ impl<R: Print + Drop> Sink for OutSink<R> {
 
     ghost written = { untold_written };
 
-    /// Writes in a loop, at least a byte each turn, and tries a write again that a signal interrupts. A write that takes
-    /// nothing of what is left is a fault.
+    /// Writes in a loop, at least a byte each turn, and tries a write again that a signal interrupts. A write that
+    /// takes nothing of what is left is a fault.
     fn put(&mut self, piece: &[u8]) -> Put {
         if write_whole(&mut io::writer(&self.rt), piece) {
             Put::All

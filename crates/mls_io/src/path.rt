@@ -74,7 +74,8 @@ impl Store for SearchPath {
 
     /// Asks the members in turn. Missing goes on to the next one, and any other answer is that of the path.
     fn fetch(&mut self, name: &str, limit: usize, into: &mut Vec<u8>) -> Fetch
-        ensures follows { Follows (⟦<SearchPath as Store>⟧.holdings self.old) (⟦<SearchPath as Store>⟧.holdings self.new) }
+        ensures follows { Follows (⟦<SearchPath as Store>⟧.holdings self.old)
+            (⟦<SearchPath as Store>⟧.holdings self.new) }
         ensures found { result ≡ Fetch.Found → GivesFound
             (⟦<SearchPath as Store>⟧.holdings self.old) name.now limit into.old.items into.new.items }
         ensures missing { GivesMissing
@@ -118,7 +119,8 @@ mod tests {
         MemStore::new(alloc, vec![in alloc; file]?, vec![in alloc; failing]?)
     }
 
-    // Three stores, of which the second has a file of the same name as the first, and the third fails at its third call.
+    // Three stores, of which the second has a file of the same name as the first, and the third fails at its third
+    // call.
     fn members(alloc: Global) -> Result<Vec<Box<dyn Store>>, Memory> {
         let mut members: Vec<Box<dyn Store>> = Vec::new(alloc);
         members.push(Box::new(alloc, store_of(alloc, "a.ml", "near", 9)?)?)?;

@@ -23,7 +23,8 @@ SignaturesAreValid =
 -- the entries have the same names and equivalent schemes, one after the other
 abbrev pub AreAlike : List SigEntry → List SigEntry → Type 0
 AreAlike [] [] = Unit {0}
-AreAlike (e ∷ es) (f ∷ fs) = (e.name ≡ f.name) × AreEquivalent (scheme_of e.scheme) (scheme_of f.scheme) × AreAlike es fs
+AreAlike (e ∷ es) (f ∷ fs) = (e.name ≡ f.name) × AreEquivalent (scheme_of e.scheme) (scheme_of f.scheme)
+    × AreAlike es fs
 AreAlike _ _ = ⊥
 
 -- two signatures of a module over the same interfaces are alike

@@ -17,8 +17,8 @@ pub record IsWithoutScheme (m : Module) (imports : List Interface) (k node : ℕ
   pub resolves : Resolves m (declared_names imports) resolved
   pub none : HasNoEntry imports resolved.bindings k node
 
--- The module has no signature for this reason. Which kind is told of an expression without a scheme is left open: what a
--- kind says of an expression is not defined yet.
+-- The module has no signature for this reason. Which kind is told of an expression without a scheme is left open: what
+-- a kind says of an expression is not defined yet.
 abbrev pub HasModuleFault : Module → List Interface → ModuleFault → Type 0
 HasModuleFault m imports (UnknownName at) = HasUnknownName m (declared_names imports) (names.UnknownName at)
 HasModuleFault m imports (NoScheme k site) = IsWithoutScheme m imports k site.node

@@ -28,8 +28,8 @@ use mls_term::term::ResolvedBinding;
 use mls_typetext::scheme::Names;
 use std::alloc::Global;
 
-/// The signature of a module, where these are the interfaces of its imports, in order: for each binding its most general
-/// scheme, over what the operators, the imports and the entries of the earlier bindings mean.
+/// The signature of a module, where these are the interfaces of its imports, in order: for each binding its most
+/// general scheme, over what the operators, the imports and the entries of the earlier bindings mean.
 ///
 /// # Errors
 ///

@@ -257,7 +257,8 @@ impl Resolver {
 
     // What the use of a name becomes.
     fn use_of(&self, name: &Name) -> Option<TermForm>
-        ensures { result ≡ option_map (λ m. use_form (meant_of m)) (get (slice_cmp nat_cmp) self.now.meanings name.now) }
+        ensures { result ≡ option_map (λ m. use_form (meant_of m))
+            (get (slice_cmp nat_cmp) self.now.meanings name.now) }
     {
         match self.meanings.get(name) {
             Some(Meaning::Binder(x)) => Some(TermForm::Bound(*x)),

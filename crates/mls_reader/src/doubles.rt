@@ -79,7 +79,8 @@ impl Given {
     fn take(&mut self, alloc: Global, event: Event) -> Result<Option<Fault>, Memory>
         ensures { IfOk result (λ fault. (rest : List Next)
             → doubles_in self.old.imports self.old.bindings (reverse self.old.records.items) (event ∷ rest)
-            ≡ fault_before fault (doubles_in self.new.imports self.new.bindings (reverse self.new.records.items) rest)) }
+            ≡ fault_before fault (doubles_in self.new.imports self.new.bindings
+            (reverse self.new.records.items) rest)) }
     {
         match event {
             Event::Import(at, name) => {
@@ -107,7 +108,8 @@ impl Given {
 
     // Adds a label to the innermost record that is open, and says whether it is new there.
     fn add_label(&mut self, name: Name) -> Result<bool, Memory>
-        ensures labels { IfOk result (AddsLabel name (reverse self.old.records.items) (reverse self.new.records.items)) }
+        ensures labels { IfOk result (AddsLabel name (reverse self.old.records.items)
+            (reverse self.new.records.items)) }
         ensures others { OnOk result ((self.new.imports ≡ self.old.imports) × (self.new.bindings ≡ self.old.bindings)) }
     {
         match self.records.pop() {

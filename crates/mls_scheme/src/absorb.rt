@@ -5,7 +5,8 @@ ghost use Rattle.mls_automaton.specs.Automata.{HasFlow, IsState};
 ghost use Rattle.mls_automaton.specs.Models.{IsClosed};
 ghost use Rattle.mls_automaton.specs.Schemes.{IsScheme};
 ghost use Rattle.mls_scheme.specs.Merged.{HasModelsOfBoth, IsAbsorbed, IsMerged, MeetsBinders};
-ghost use Rattle.mls_scheme.specs.steps.Meeting.{AddsMet, HasBinders, HasSameFront, IsPairIn, IsPutTogether, first_of, second_of};
+ghost use Rattle.mls_scheme.specs.steps.Meeting.{AddsMet, HasBinders, HasSameFront, IsPairIn, IsPutTogether, first_of};
+ghost use Rattle.mls_scheme.specs.steps.Meeting.{second_of};
 
 use crate::environments::{Shared, meet_envs, raise_all};
 use mls_automaton::automaton::{Automaton, Polarity};

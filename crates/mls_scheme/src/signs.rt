@@ -2,7 +2,8 @@
 ghost use Rattle.std.specs.Prelude.{◌≡◌, ◌<◌, ◌++◌, length, get_or, is_some, true, false, All, IfOk, OnOk, None};
 ghost use Rattle.mls_book.specs.Books.{IsClosedBook};
 ghost use Rattle.mls_book.specs.declared.book.Field.{Field};
-ghost use Rattle.mls_scheme.specs.steps.Signs.{AddsLayer, AreSigned, child_tasks, field_tasks, layer_tasks, sign_at, with_sign};
+ghost use Rattle.mls_scheme.specs.steps.Signs.{AddsLayer, AreSigned, child_tasks, field_tasks, layer_tasks, sign_at};
+ghost use Rattle.mls_scheme.specs.steps.Signs.{with_sign};
 
 use crate::layer::atoms_of;
 use crate::visits::Visits;

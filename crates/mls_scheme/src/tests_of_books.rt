@@ -17,9 +17,10 @@ use std::test::Fail;
 // The scheme of `fun x -> x`.
 const IDENTITY: &str = "- + +f0>1 0~1 *2";
 
-// The test of a word such as `cod.i`, which functions pass whose codomain passes `int`. The parts of a word: a number is a
-// variable that passes, `i` and `b` are `int` and `bool`, `f` is every function and `r` every record, `dom` and `cod` ask of
-// a function, `no` asks that the label `l` lacks, any other name asks of that label; `-` is no more than nothing.
+// The test of a word such as `cod.i`, which functions pass whose codomain passes `int`. The parts of a word: a number
+// is a variable that passes, `i` and `b` are `int` and `bool`, `f` is every function and `r` every record, `dom` and
+// `cod` ask of a function, `no` asks that the label `l` lacks, any other name asks of that label; `-` is no more than
+// nothing.
 fn test_of(alloc: Global, word: &str) -> Result<Test, Memory> {
     let mut test = nothing(alloc);
     for part in word.rsplit('.') {

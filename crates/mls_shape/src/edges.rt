@@ -6,7 +6,8 @@ ghost use Rattle.mls_automaton.specs.Automata.{IsState};
 ghost use Rattle.mls_automaton.specs.Models.{IsClosed};
 ghost use Rattle.mls_shape.specs.declared.register.SetState.{SetState};
 ghost use Rattle.mls_shape.specs.steps.Building.{IsSetOf};
-ghost use Rattle.mls_shape.specs.steps.Edges.{AddsFlows, AddsHolders, AreHolders, AreStatesFor, IsEdge, IsHolder, IsTarget};
+ghost use Rattle.mls_shape.specs.steps.Edges.{AddsFlows, AddsHolders, AreHolders, AreStatesFor, IsEdge, IsHolder};
+ghost use Rattle.mls_shape.specs.steps.Edges.{IsTarget};
 
 use crate::register::SetState;
 use mls_automaton::automaton::{Automaton, Polarity};

@@ -10,8 +10,8 @@ use mls_automaton::scheme::Scheme;
 use mls_base::memory::Memory;
 use std::alloc::Global;
 
-/// The simplified scheme: deterministic, over the states alone that heads reach from its root and its binders, no two of
-/// which are alike, and without redundant edges. It is made by `determinise`, `drop_redundant_flows`, `minimise` and
+/// The simplified scheme: deterministic, over the states alone that heads reach from its root and its binders, no two
+/// of which are alike, and without redundant edges. It is made by `determinise`, `drop_redundant_flows`, `minimise` and
 /// `keep_reachable`, in this order.
 ///
 /// # Errors

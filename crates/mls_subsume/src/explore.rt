@@ -2,12 +2,14 @@
 ghost use Rattle.std.specs.Prelude.{◌≡◌, ◌<◌, length, All, IfOk, OnOk, Some};
 ghost use Rattle.mls_automaton.specs.Automata.{head_at};
 ghost use Rattle.mls_automaton.specs.Heads.{AreRising, set_at};
-ghost use Rattle.mls_automaton.specs.Models.{HasArmsIn, HasFieldsIn, HasRisingLabels, HasSingleArms, HasSingleFields, IsClosed, IsDeterministic, IsSingle};
+ghost use Rattle.mls_automaton.specs.Models.{HasArmsIn, HasFieldsIn, HasRisingLabels, HasSingleArms, HasSingleFields};
+ghost use Rattle.mls_automaton.specs.Models.{IsClosed, IsDeterministic, IsSingle};
 ghost use Rattle.mls_automaton.specs.Schemes.{IsScheme};
 ghost use Rattle.mls_automaton.specs.declared.automaton.Polarity.TheVariants.{Positive};
 ghost use Rattle.mls_flow.specs.Needs.{only};
 ghost use Rattle.mls_subsume.specs.Searches.{IsRising, IsSearch, met_at};
-ghost use Rattle.mls_subsume.specs.steps.Targets.{Follows, field_target, field_targets, function_targets, head_targets, record_targets};
+ghost use Rattle.mls_subsume.specs.steps.Targets.{Follows, field_target, field_targets, function_targets, head_targets};
+ghost use Rattle.mls_subsume.specs.steps.Targets.{record_targets};
 
 use crate::queue::Queue;
 use crate::verdict::{StatePair, Step};

@@ -1,5 +1,6 @@
 //! Pairs of states in the order in which they are met, each once, with the way back to the roots.
-ghost use Rattle.std.specs.Prelude.{◌≡◌, ◌↔◌, ◌⊎◌, ◌<◌, ◌≤◌, ◌++◌, ◌∷◌, [], length, Contains, reverse, IfOk, OnOk, OnErr, IsTrue};
+ghost use Rattle.std.specs.Prelude.{◌≡◌, ◌↔◌, ◌⊎◌, ◌<◌, ◌≤◌, ◌++◌, ◌∷◌, [], length, Contains, reverse, IfOk, OnOk};
+ghost use Rattle.std.specs.Prelude.{OnErr, IsTrue};
 ghost use Rattle.mls_subsume.specs.Searches.{met_at};
 ghost use Rattle.mls_subsume.specs.steps.Queues.{IsLinkBelow, IsMet, Meets, met_of, partners_at, steps_by, visit_at};
 

@@ -4,7 +4,8 @@ ghost use Rattle.clap.specs.Walk.{rows_of, rule_of, texts};
 ghost use Rattle.clap.specs.Simple.{app_of, shape_of};
 ghost use Rattle.clap.specs.Matches.{found_of};
 ghost use Rattle.clap.specs.declared.builder.command.Command.TheViews.{out-Command as fields_of};
-ghost use Rattle.mls_top.specs.steps.CommandLines.{module_subcommands, one_word, program, program_of, subcommand, words_of};
+ghost use Rattle.mls_top.specs.steps.CommandLines.{module_subcommands, one_word, program, program_of, subcommand};
+ghost use Rattle.mls_top.specs.steps.CommandLines.{words_of};
 
 use clap::{Arg, ArgAction, ArgMatches};
 use std::alloc::{AllocError, Global};

@@ -44,8 +44,8 @@ pub data Outcome : Type 0 where
   best : Scheme → Outcome
   none : ℕ → Outcome
 
--- Inference of an expression whose first node has the number n. It takes the parts in order, and stops at the first that
--- has no scheme.
+-- Inference of an expression whose first node has the number n. It takes the parts in order, and stops at the first
+-- that has no scheme.
 -- The scheme of a node may be any that allows just the types of its row.
 mutual
   pub data Infers : Known → ℕ → TermTree → Outcome → Type 0 where

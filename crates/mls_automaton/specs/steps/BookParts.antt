@@ -1,6 +1,7 @@
 -- The book of an automaton, part by part: for each state a chain over its edges; then for each state eight nodes, the
 -- last of which is its own; then for each state a chain over each set that its head names.
-use Rattle.std.specs.Prelude.{◌≡◌, ◌↔◌, ℕ, zero, suc, ◌+◌, ◌*◌, ◌<◌, Bool, true, false, List, [], ◌∷◌, ◌++◌, map, length, get_or, All, Contains, Option, Some, None}
+use Rattle.std.specs.Prelude.{◌≡◌, ◌↔◌, ℕ, zero, suc, ◌+◌, ◌*◌, ◌<◌, Bool, true, false, List, [], ◌∷◌, ◌++◌, map}
+use Rattle.std.specs.Prelude.{length, get_or, All, Contains, Option, Some, None}
 use Rattle.mls_book.specs.declared.book.Field.{Field}
 use Rattle.mls_book.specs.declared.book.NodeId.{NodeId}
 use Rattle.mls_book.specs.declared.book.Node.{Node}
@@ -69,7 +70,8 @@ function_width (Some arms) = set_width arms.domain + set_width arms.codomain
 
 abbrev pub function_node : Polarity → ℕ → Option Arms → Node
 function_node p n None = none_node p
-function_node p n (Some arms) = node.Arrow (id (n + length arms.domain)) (id (n + set_width arms.domain + length arms.codomain))
+function_node p n (Some arms) =
+    node.Arrow (id (n + length arms.domain)) (id (n + set_width arms.domain + length arms.codomain))
 
 abbrev pub fields_width : List FieldSet → ℕ
 fields_width [] = 0
@@ -77,7 +79,8 @@ fields_width (field ∷ rest) = set_width field.set + fields_width rest
 
 abbrev pub fields_from : ℕ → List FieldSet → List Field
 fields_from n [] = []
-fields_from n (field ∷ rest) = record { label = field.label; node = id (n + length field.set) } ∷ fields_from (n + set_width field.set) rest
+fields_from n (field ∷ rest) =
+    record { label = field.label; node = id (n + length field.set) } ∷ fields_from (n + set_width field.set) rest
 
 abbrev pub record_width : Option (List FieldSet) → ℕ
 record_width None = 0
@@ -100,7 +103,8 @@ part_nodes p n h =
 
 -- The joins (or meets) of the four parts, which begin at m, and of the node of the edges.
 abbrev pub join_nodes : Polarity → ℕ → ℕ → List Node
-join_nodes p edges m = both_node p (m + 2) (m + 3) ∷ both_node p (m + 1) (m + 4) ∷ both_node p m (m + 5) ∷ both_node p edges (m + 6) ∷ []
+join_nodes p edges m = both_node p (m + 2) (m + 3) ∷ both_node p (m + 1) (m + 4) ∷ both_node p m
+    (m + 5) ∷ both_node p edges (m + 6) ∷ []
 
 -- the eight nodes of a state, which begin at m
 abbrev pub state_nodes : Polarity → ℕ → ℕ → ℕ → Head → List Node
@@ -116,18 +120,22 @@ place_at first s = first + 8 * s + 7
 -- The chains over the sets of a head, from n on.
 abbrev pub function_sets : Polarity → (ℕ → ℕ) → ℕ → Option Arms → List Node
 function_sets p place n None = []
-function_sets p place n (Some arms) = set_nodes (opposite p) n (map place arms.domain) ++ set_nodes p (n + set_width arms.domain) (map place arms.codomain)
+function_sets p place n (Some arms) =
+    set_nodes (opposite p) n (map place arms.domain)
+    ++ set_nodes p (n + set_width arms.domain) (map place arms.codomain)
 
 abbrev pub fields_sets : Polarity → (ℕ → ℕ) → ℕ → List FieldSet → List Node
 fields_sets p place n [] = []
-fields_sets p place n (field ∷ rest) = set_nodes p n (map place field.set) ++ fields_sets p place (n + set_width field.set) rest
+fields_sets p place n (field ∷ rest) =
+    set_nodes p n (map place field.set) ++ fields_sets p place (n + set_width field.set) rest
 
 abbrev pub record_sets : Polarity → (ℕ → ℕ) → ℕ → Option (List FieldSet) → List Node
 record_sets p place n None = []
 record_sets p place n (Some fields) = fields_sets p place n fields
 
 abbrev pub head_sets : Polarity → (ℕ → ℕ) → ℕ → Head → List Node
-head_sets p place n h = function_sets p place n h.function ++ record_sets p place (n + function_width h.function) h.fields
+head_sets p place n h = function_sets p place n h.function
+    ++ record_sets p place (n + function_width h.function) h.fields
 
 -- how many nodes the sets of the states below k have
 abbrev pub width_to : Automaton → ℕ → ℕ
@@ -164,21 +172,27 @@ pub record AreEdges (a : Automaton) (k : ℕ) (nodes : List Node) (edges : List 
 -- the first k states are there, from `first` on, and their sets begin at `sets`
 pub record AreStates (a : Automaton) (edges : List ℕ) (first sets k : ℕ) (nodes : List Node) : Type 0 where
   pub size : length nodes ≡ start_at first k
-  pub each : (s : ℕ) → s < k → HasPart nodes (start_at first s) (state_nodes (polarity_at a s) (get_or edges s 0) (start_at first s) (sets + width_to a s) (head_at a s))
+  pub each : (s : ℕ) → s < k → HasPart nodes (start_at first s)
+      (state_nodes (polarity_at a s) (get_or edges s 0) (start_at first s) (sets + width_to a s) (head_at a s))
   pub heads : All (HasHeadBelow (sets + width_to a k)) nodes
 
 -- the sets of the first k states are there
 pub record AreSets (a : Automaton) (first sets k : ℕ) (nodes : List Node) : Type 0 where
   pub size : length nodes ≡ sets + width_to a k
-  pub each : (s : ℕ) → s < k → HasPart nodes (sets + width_to a s) (head_sets (polarity_at a s) (place_at first) (sets + width_to a s) (head_at a s))
+  pub each : (s : ℕ) → s < k → HasPart nodes (sets + width_to a s)
+      (head_sets (polarity_at a s) (place_at first) (sets + width_to a s) (head_at a s))
 
 -- the whole book
 pub record IsLaid (a : Automaton) (first : ℕ) (nodes : List Node) : Type 0 where
   pub edges : List ℕ
   pub has_edges : (s : ℕ) → s < length a.states → HasEdges nodes a s (get_or edges s 0)
   pub sets : ℕ
-  pub has_states : (s : ℕ) → s < length a.states → HasPart nodes (start_at first s) (state_nodes (polarity_at a s) (get_or edges s 0) (start_at first s) (sets + width_to a s) (head_at a s))
-  pub has_sets : (s : ℕ) → s < length a.states → HasPart nodes (sets + width_to a s) (head_sets (polarity_at a s) (place_at first) (sets + width_to a s) (head_at a s))
+  pub has_states : (s : ℕ) → s < length a.states
+      → HasPart nodes (start_at first s)
+      (state_nodes (polarity_at a s) (get_or edges s 0) (start_at first s) (sets + width_to a s) (head_at a s))
+  pub has_sets : (s : ℕ) → s < length a.states
+      → HasPart nodes (sets + width_to a s)
+      (head_sets (polarity_at a s) (place_at first) (sets + width_to a s) (head_at a s))
   pub heads : All (HasHeadBelow (length nodes)) nodes
 
 -- the second list of nodes begins with the first
@@ -197,11 +211,13 @@ abbrev pub env_node : ℕ → EnvEntry → EnvNode
 env_node first entry = record { binder = entry.binder; node = id (place_at first entry.state.0) }
 
 -- These partners were added behind the old nodes; the last node is that of all so far.
-pub record IsEdgesSoFar (states : ℕ) (p : Polarity) (s : ℕ) (old : List Node) (partners : List ℕ) (new : List Node) (last : ℕ) : Type 0 where
+pub record IsEdgesSoFar (states : ℕ) (p : Polarity) (s : ℕ) (old : List Node) (partners : List ℕ) (new : List Node)
+    (last : ℕ) : Type 0 where
   pub nodes : new ≡ old ++ edge_nodes p (length old) (map (λ j. variable_of states (edge_of p s j)) partners)
   pub end : last + 1 ≡ length new
 
 -- The same of the members of a set.
-pub record IsSetSoFar (p : Polarity) (first : ℕ) (old : List Node) (members : List ℕ) (new : List Node) (last : ℕ) : Type 0 where
+pub record IsSetSoFar (p : Polarity) (first : ℕ) (old : List Node) (members : List ℕ) (new : List Node)
+    (last : ℕ) : Type 0 where
   pub nodes : new ≡ old ++ set_nodes p (length old) (map (place_at first) members)
   pub end : last + 1 ≡ length new

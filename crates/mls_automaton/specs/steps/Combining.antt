@@ -13,7 +13,8 @@ abbrev pub IsSameFunction : Option Arms → Option Arms → Type 0
 IsSameFunction = IsSameOption (λ (f : Arms) g. IsSameSet f.domain g.domain × IsSameSet f.codomain g.codomain)
 
 abbrev pub IsSameRecord : Option (List ℕ → Option (List ℕ)) → Option (List ℕ → Option (List ℕ)) → Type 0
-IsSameRecord = IsSameOption (λ (f g : List ℕ → Option (List ℕ)). (label : List ℕ) → IsSameOption IsSameSet (f label) (g label))
+IsSameRecord = IsSameOption (λ (f g : List ℕ → Option (List ℕ)). (label : List ℕ)
+    → IsSameOption IsSameSet (f label) (g label))
 
 -- all labels are below this one
 abbrev pub AreBelow : List FieldSet → List ℕ → Type 0
@@ -23,7 +24,8 @@ AreBelow fields label = All (λ (field : FieldSet). slice_cmp nat_cmp field.labe
 pub record IsJoined (p : Polarity) (first second both : List FieldSet) : Type 0 where
   pub rising : AreRising both
   pub below : (label : List ℕ) → AreBelow first label → AreBelow second label → AreBelow both label
-  pub value : (label : List ℕ) → IsSameOption IsSameSet (set_at both label) (combined_sets p (set_at first label) (set_at second label))
+  pub value : (label : List ℕ) → IsSameOption IsSameSet (set_at both label)
+      (combined_sets p (set_at first label) (set_at second label))
 
 -- the polarity says whether a field of one record alone is there
 abbrev pub with_one : Polarity → List FieldSet → FieldSet → List FieldSet

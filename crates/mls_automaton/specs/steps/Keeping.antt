@@ -25,7 +25,8 @@ pub record AreKeptTo (n : ℕ) (marks : List Bool) (places numbers : List ℕ) :
   pub low : (i : ℕ) → i < length places → get_or places i 0 < n
   pub kept : (i : ℕ) → i < length places → IsKept marks (get_or places i 0)
   pub number_of : (i : ℕ) → i < length places → get_or numbers (get_or places i 0) 0 ≡ i
-  pub place : (s : ℕ) → s < n → IsKept marks s → (get_or numbers s 0 < length places) × (get_or places (get_or numbers s 0) 0 ≡ s)
+  pub place : (s : ℕ) → s < n → IsKept marks s
+      → (get_or numbers s 0 < length places) × (get_or places (get_or numbers s 0) 0 ≡ s)
 
 -- the state is there, and the members of the sets of its head keep their order
 abbrev pub IsKeptState : Automaton → (ℕ → ℕ) → ℕ → Type 0
@@ -47,7 +48,8 @@ pub record IsFlowOf (marks : List Bool) (number : ℕ → ℕ) (n p : ℕ) (f : 
 
 -- the automaton has just the edges of the list whose ends are both kept
 abbrev pub HasFlowsOf : List Bool → (ℕ → ℕ) → List Flow → Automaton → Type 0
-HasFlowsOf marks number flows b = (n p : ℕ) → HasFlow b n p ↔ ((f : Flow) × Contains flows f × IsFlowOf marks number n p f)
+HasFlowsOf marks number flows b =
+    (n p : ℕ) → HasFlow b n p ↔ ((f : Flow) × Contains flows f × IsFlowOf marks number n p f)
 
 -- the second automaton has the edges of the first and this one, if its ends are kept
 abbrev pub AddsFlowOf : List Bool → (ℕ → ℕ) → Flow → Automaton → Automaton → Type 0

@@ -26,4 +26,5 @@ pub record IsForgottenAt (n s : ℕ) (old new : List (List ℕ)) : Type 0 where
 -- the same at both ends of each of these edges that has an end from n on
 pub record AreForgotten (n : ℕ) (flows : List Flow) (old new : List (List ℕ)) : Type 0 where
   pub shrinks : Shrinks n old new
-  pub gone : (f : Flow) → Contains flows f → (n ≤ f.negative.0) ⊎ (n ≤ f.positive.0) → HasLowPartners n new f.negative.0 × HasLowPartners n new f.positive.0
+  pub gone : (f : Flow) → Contains flows f → (n ≤ f.negative.0) ⊎ (n ≤ f.positive.0)
+      → HasLowPartners n new f.negative.0 × HasLowPartners n new f.positive.0

@@ -11,12 +11,14 @@ use Rattle.mls_biunify.specs.Rooms.{Room, Holds}
 
 -- by the functions of a positive and a negative state
 abbrev pub ByFunctions : Option Arms → Option Arms → ℕ → ℕ → Type 0
-ByFunctions (Some arms) (Some others) p n = (Contains others.domain p × Contains arms.domain n) ⊎ (Contains arms.codomain p × Contains others.codomain n)
+ByFunctions (Some arms) (Some others) p n =
+    (Contains others.domain p × Contains arms.domain n) ⊎ (Contains arms.codomain p × Contains others.codomain n)
 ByFunctions _ _ p n = ⊥
 
 -- by the fields of both at one label
 abbrev pub ByField : List FieldSet → FieldSet → ℕ → ℕ → Type 0
-ByField fields other p n = (set : List ℕ) × (set_at fields other.label ≡ Some set) × Contains set p × Contains other.set n
+ByField fields other p n = (set : List ℕ) × (set_at fields other.label ≡ Some set) × Contains set p
+    × Contains other.set n
 
 -- by their records
 abbrev pub ByRecords : Option (List FieldSet) → Option (List FieldSet) → ℕ → ℕ → Type 0
@@ -59,5 +61,7 @@ second_of room k = (get_or room.pairs k (0, 0)).1
 pub record AreTaken (a : Automaton) (old : Room) (next : ℕ) (room : Room) : Type 0 where
   pub follows : Follows a old room
   pub in_range : next ≤ length room.pairs
-  pub heads : (k q m : ℕ) → k < next → ByHeads (head_at a (first_of room k)) (head_at a (second_of room k)) q m → Holds room q m
-  pub flows : (j k : ℕ) → j < next → k < next → HasFlow a (second_of room j) (first_of room k) → Holds room (first_of room j) (second_of room k)
+  pub heads : (k q m : ℕ) → k < next → ByHeads (head_at a (first_of room k)) (head_at a (second_of room k)) q m
+      → Holds room q m
+  pub flows : (j k : ℕ) → j < next → k < next → HasFlow a (second_of room j) (first_of room k)
+      → Holds room (first_of room j) (second_of room k)

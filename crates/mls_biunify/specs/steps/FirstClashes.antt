@@ -12,7 +12,8 @@ use Rattle.mls_biunify.specs.Rooms.{Room}
 -- the first kind in which two heads clash, if they clash
 abbrev pub IsFirstKind : Head → Head → Option ClashKind → Type 0
 IsFirstKind h k None = (kind : ClashKind) → Clashes h k kind → ⊥
-IsFirstKind h k (Some first) = Clashes h k first × ((kind : ClashKind) → Clashes h k kind → IsTrue (is_le (slice_cmp nat_cmp (kind_key k first) (kind_key k kind))))
+IsFirstKind h k (Some first) = Clashes h k first
+    × ((kind : ClashKind) → Clashes h k kind → IsTrue (is_le (slice_cmp nat_cmp (kind_key k first) (kind_key k kind))))
 
 -- the first clash of a relation, if there is one
 abbrev pub IsFirstOf : Automaton → (ℕ → ℕ → Type 0) → Option Clash → Type 0

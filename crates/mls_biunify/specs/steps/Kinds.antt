@@ -9,7 +9,8 @@ use Rattle.mls_automaton.specs.Heads.{set_at}
 
 -- the first of the four kinds that has the bit
 abbrev pub first_kind : Bool → Bool → Bool → Bool → Option HeadKind
-first_kind b i f r = cond b (Some kind.Bool) (cond i (Some kind.Int) (cond f (Some kind.Function) (cond r (Some kind.Rcd) None)))
+first_kind b i f r = cond b (Some kind.Bool)
+    (cond i (Some kind.Int) (cond f (Some kind.Function) (cond r (Some kind.Rcd) None)))
 
 -- the first kind of the head that is another one than this
 abbrev pub other_kind : Head → HeadKind → Option HeadKind
@@ -24,7 +25,8 @@ is_unlike h k j = has_kind j h && is_some (other_kind k j)
 
 -- the first kind of the first head beside which the second head has another one
 abbrev pub unlike_kind : Head → Head → Option HeadKind
-unlike_kind h k = first_kind (is_unlike h k kind.Bool) (is_unlike h k kind.Int) (is_unlike h k kind.Function) (is_unlike h k kind.Rcd)
+unlike_kind h k = first_kind (is_unlike h k kind.Bool) (is_unlike h k kind.Int) (is_unlike h k kind.Function)
+    (is_unlike h k kind.Rcd)
 
 -- whether there is no such field
 abbrev pub lacks : List FieldSet → FieldSet → Bool

@@ -32,7 +32,8 @@ pub record IsCell (t : Tables) (x : ℕ) : Type 0 where
 
 -- the states of these lines have their numbers as places
 abbrev pub ArePlaced : (places lines : List ℕ) (count : ℕ) → Type 0
-ArePlaced places lines count = (k : ℕ) → k < count → (get_or lines k 0 < length places) × (get_or places (get_or lines k 0) 0 ≡ k)
+ArePlaced places lines count = (k : ℕ) → k < count
+    → (get_or lines k 0 < length places) × (get_or places (get_or lines k 0) 0 ≡ k)
 
 -- the places of the cells are linked by their rows and by their columns, with space for all
 pub record AreLinkedCells (positives negatives : ℕ) (cells : Numbers) (by_row by_column : LinkTable) : Type 0 where

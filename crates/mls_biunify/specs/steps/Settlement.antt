@@ -22,7 +22,9 @@ IsTouched a pairs s = GivenBy pairs (TouchedBy a) s
 
 -- the new heads of these states
 pub record AreNewHeads (t : Numbered) (R : ℕ → ℕ → Type 0) (states : List ℕ) (heads : List (ℕ × Head)) : Type 0 where
-  pub each : (s : ℕ) (h : Head) → Contains heads (s, h) → (get_or t.there s false ≡ true) × IsSolvedState t.automaton R s (record { polarity = polarity_at t.automaton s; head = h })
+  pub each : (s : ℕ) (h : Head) → Contains heads (s, h)
+      → (get_or t.there s false ≡ true)
+      × IsSolvedState t.automaton R s (record { polarity = polarity_at t.automaton s; head = h })
   pub all : (s : ℕ) → Contains states s → (h : Head) × Contains heads (s, h)
 
 -- all new edges and no others but some old ones
@@ -43,7 +45,9 @@ pub record StoresHeads (old new : Numbered) (heads : List (ℕ × Head)) : Type 
   pub flows : new.automaton.flows ≡ old.automaton.flows
   pub size : length new.automaton.states ≡ length old.automaton.states
   pub limit : new.limit ≡ old.limit
-  pub stored : (s : ℕ) → ((h : Head) × Contains heads (s, h) × (state_at new.automaton s ≡ record { polarity = polarity_at old.automaton s; head = h })) ⊎ (((h : Head) → Contains heads (s, h) → ⊥) × (state_at new.automaton s ≡ state_at old.automaton s))
+  pub stored : (s : ℕ) → ((h : Head) × Contains heads (s, h)
+      × (state_at new.automaton s ≡ record { polarity = polarity_at old.automaton s; head = h }))
+      ⊎ (((h : Head) → Contains heads (s, h) → ⊥) × (state_at new.automaton s ≡ state_at old.automaton s))
 
 -- the edges of the solved automaton from a state, and from one that is negative
 abbrev pub IsEdgeFrom : Automaton → (ℕ → ℕ → Type 0) → ℕ → ℕ × ℕ → Type 0
@@ -70,4 +74,5 @@ pub record Unlinks (old : Numbered) (edges : List (ℕ × ℕ)) (new : Numbered)
 abbrev pub AreFit : Numbered → List (ℕ × Head) → Type 0
 AreFit t heads =
     (s : ℕ) (h : Head) → Contains heads (s, h)
-    → (get_or t.there s false ≡ true) × HasStatesIn (IsStateIn t.automaton t.there) (polarity_at t.automaton s) h × HasRisingLabels h.fields
+    → (get_or t.there s false ≡ true) × HasStatesIn (IsStateIn t.automaton t.there) (polarity_at t.automaton s) h
+    × HasRisingLabels h.fields

@@ -49,5 +49,6 @@ pub record AreMade (old : Automaton) (changes : List Change) (new : Automaton) :
   pub polarity : (s : ℕ) → polarity_at new s ≡ polarity_at old s
   pub states : (s : ℕ) → IsMadeAt old changes new s
   pub kept : (n q : ℕ) → HasFlow old n q → HasFlow new n q
-  pub sound : (n q : ℕ) → HasFlow new n q → HasFlow old n q ⊎ ((c : Change) × Contains changes c × (c.state.0 ≡ n) × Contains c.ends q)
+  pub sound : (n q : ℕ) → HasFlow new n q
+      → HasFlow old n q ⊎ ((c : Change) × Contains changes c × (c.state.0 ≡ n) × Contains c.ends q)
   pub complete : (c : Change) → Contains changes c → (q : ℕ) → Contains c.ends q → HasFlow new c.state.0 q

@@ -1,5 +1,6 @@
 -- States under numbers, with edges, and how they change.
-use Rattle.std.specs.Prelude.{◌≡◌, ◌≢◌, ◌↔◌, ◌⊎◌, ℕ, ◌<◌, Bool, true, false, List, map, length, get_or, Option, Some, None, is_some}
+use Rattle.std.specs.Prelude.{◌≡◌, ◌≢◌, ◌↔◌, ◌⊎◌, ℕ, ◌<◌, Bool, true, false, List, map, length, get_or, Option, Some}
+use Rattle.std.specs.Prelude.{None, is_some}
 use Rattle.slab.specs.Slab.{Slab}
 use Rattle.mls_automaton.specs.declared.automaton.Polarity.TheVariants.{Positive, Negative}
 use Rattle.mls_automaton.specs.declared.automaton.Head.{Head}
@@ -9,7 +10,8 @@ use Rattle.mls_biunify.specs.Live.{IsTable, IsStateIn, free_state}
 use Rattle.mls_biunify.specs.Rooms.{Room, Holds}
 use Rattle.mls_biunify.specs.steps.TwoWay.{TwoWay, flows_from}
 
--- the states, where free numbers stand as a positive state with nothing, and which numbers are there; they are below the limit
+-- the states, where free numbers stand as a positive state with nothing, and which numbers are there; they are below
+-- the limit
 pub record Numbered : Type 0 where
   pub automaton : Automaton
   pub there : List Bool
@@ -32,7 +34,8 @@ pub record IsNumbered (t : Numbered) : Type 0 where
 
 -- each pair is one of a positive and a negative state that are there
 abbrev pub HoldsThere : Numbered → Room → Type 0
-HoldsThere t room = (p n : ℕ) → Holds room p n → IsStateIn t.automaton t.there Positive p × IsStateIn t.automaton t.there Negative n
+HoldsThere t room = (p n : ℕ) → Holds room p n → IsStateIn t.automaton t.there Positive p
+    × IsStateIn t.automaton t.there Negative n
 
 -- one state came, under a number that was free
 pub record InsertsState (old new : Numbered) (s : ℕ) (state : State) : Type 0 where

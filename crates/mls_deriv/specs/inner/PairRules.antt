@@ -48,7 +48,8 @@ module _ (put : ℕ → Option ℕ) (claims : Mode → ℕ → ℕ → Type 0) (
   ByBoth node.Int node.Int = Unit {0}
   ByBoth (node.Var x) (node.Var y) = (x ≡ y) × (left_node mode put x ≡ None) × (right_node mode put x ≡ None)
   ByBoth (node.Arrow a b) (node.Arrow c d) = claims (exchanged mode) c.0 a.0 × claims mode b.0 d.0
-  ByBoth (node.Rcd fields) (node.Rcd others) = (label : List ℕ) (k : NodeId) → field_at label others ≡ Some k → (m : NodeId) × (field_at label fields ≡ Some m) × claims mode m.0 k.0
+  ByBoth (node.Rcd fields) (node.Rcd others) = (label : List ℕ) (k : NodeId) → field_at label others ≡ Some k
+      → (m : NodeId) × (field_at label fields ≡ Some m) × claims mode m.0 k.0
   ByBoth _ _ = ⊥
 
   -- the pair of nodes i and j, which are these
@@ -57,7 +58,8 @@ module _ (put : ℕ → Option ℕ) (claims : Mode → ℕ → ℕ → Type 0) (
 
 -- where the right record has this label, the left one has it too, and the fields are claimed
 abbrev pub LabelFits : (Mode → ℕ → ℕ → Type 0) → Mode → (fields others : List Field) → List ℕ → Type 0
-LabelFits claims mode fields others label = (k : NodeId) → field_at label others ≡ Some k → (m : NodeId) × (field_at label fields ≡ Some m) × claims mode m.0 k.0
+LabelFits claims mode fields others label = (k : NodeId) → field_at label others ≡ Some k
+    → (m : NodeId) × (field_at label fields ≡ Some m) × claims mode m.0 k.0
 
 abbrev pub AllLabelsFit : (Mode → ℕ → ℕ → Type 0) → Mode → (fields others : List Field) → Type 0
 AllLabelsFit claims mode fields others = (label : List ℕ) → LabelFits claims mode fields others label

@@ -1,5 +1,6 @@
 -- What the check of a step asks of its lists, rule by rule.
-use Rattle.std.specs.Prelude.{◌≡◌, ◌⊎◌, ◌==◌, ℕ, suc, ◌+◌, ◌-◌, ◌<◌, List, [], ◌∷◌, filter, find, length, slice_get, option_map, cond, not, nat_eq, bytes_eq, is_some, IsTrue, All, Option, Some, None}
+use Rattle.std.specs.Prelude.{◌≡◌, ◌⊎◌, ◌==◌, ℕ, suc, ◌+◌, ◌-◌, ◌<◌, List, [], ◌∷◌, filter, find, length, slice_get}
+use Rattle.std.specs.Prelude.{option_map, cond, not, nat_eq, bytes_eq, is_some, IsTrue, All, Option, Some, None}
 use Rattle.mls_book.specs.declared.book.Field.{Field}
 use Rattle.mls_book.specs.declared.book.NodeId.{NodeId}
 use Rattle.mls_book.specs.declared.book.Node.{Node}
@@ -76,11 +77,13 @@ ByVar step (form.Bound x) = step.env ≡ record { binder = x; node = step.root }
 ByVar step _ = ⊥
 
 abbrev pub ByUse : (steps : List StepLine) (let_of : ℕ → Option ℕ) (step : StepLine) → ℕ → TermForm → Type 0
-ByUse steps let_of step number (form.Inner k) = (let_of k ≡ Some number) × Given (slice_get steps number) (λ s. (step.env ≡ s.env) × (step.root ≡ s.root))
+ByUse steps let_of step number (form.Inner k) =
+    (let_of k ≡ Some number) × Given (slice_get steps number) (λ s. (step.env ≡ s.env) × (step.root ≡ s.root))
 ByUse steps let_of step number _ = ⊥
 
 abbrev pub ByName : (book : List Node) (known : List ReadScheme) (step : StepLine) → NodeId → TermForm → Type 0
-ByName book known step n (form.Global g) = Given (slice_get known g) (λ read. HasFrom book n.0 read.book × (step.env ≡ []) × (step.root.0 ≡ n.0 + read.root.0))
+ByName book known step n (form.Global g) =
+    Given (slice_get known g) (λ read. HasFrom book n.0 read.book × (step.env ≡ []) × (step.root.0 ≡ n.0 + read.root.0))
 ByName book known step n _ = ⊥
 
 abbrev pub ByLit : (book : List Node) (step : StepLine) → TermForm → Type 0
@@ -89,30 +92,36 @@ ByLit book step (form.Truth value) = (step.env ≡ []) × (node_at book step.roo
 ByLit book step _ = ⊥
 
 abbrev pub IsFunction : (book : List Node) (step : StepLine) → ℕ → StepLine → Node → Type 0
-IsFunction book step x body (node.Arrow i j) = (j ≡ body.root) × (step.env ≡ without x body.env) × IsDomain book (node_in body.env x) i.0
+IsFunction book step x body (node.Arrow i j) =
+    (j ≡ body.root) × (step.env ≡ without x body.env) × IsDomain book (node_in body.env x) i.0
 IsFunction book step x body _ = ⊥
 
 abbrev pub ByFun : (book : List Node) (steps : List StepLine) (step : StepLine) → ℕ → TermForm → Type 0
-ByFun book steps step number (form.Fun x body) = Given (about steps number body) (λ s. IsFunction book step x s (node_at book step.root.0))
+ByFun book steps step number (form.Fun x body) =
+    Given (about steps number body) (λ s. IsFunction book step x s (node_at book step.root.0))
 ByFun book steps step number _ = ⊥
 
 abbrev pub IsApplication : (book : List Node) (step : StepLine) → StepLine → StepLine → Type 0
 IsApplication book step function argument =
-    (function.env ≡ step.env) × (argument.env ≡ step.env) × (node_at book function.root.0 ≡ node.Arrow argument.root step.root)
+    (function.env ≡ step.env) × (argument.env ≡ step.env)
+    × (node_at book function.root.0 ≡ node.Arrow argument.root step.root)
 
 abbrev pub ByApp : (book : List Node) (steps : List StepLine) (step : StepLine) → ℕ → ℕ → TermForm → Type 0
-ByApp book steps step first second (form.Apply f a) = Given (about steps first f) (λ s. Given (about steps second a) (λ t. IsApplication book step s t))
+ByApp book steps step first second (form.Apply f a) =
+    Given (about steps first f) (λ s. Given (about steps second a) (λ t. IsApplication book step s t))
 ByApp book steps step first second _ = ⊥
 
 -- the step of a part has the field of its label
 abbrev pub IsFieldOf : (steps : List StepLine) (step : StepLine) → List Field → Option ℕ → Part → Type 0
 IsFieldOf steps step fields None part = ⊥
-IsFieldOf steps step fields (Some number) part = Given (about steps number part.child) (λ s. (s.env ≡ step.env) × (field_at part.label fields ≡ Some s.root))
+IsFieldOf steps step fields (Some number) part =
+    Given (about steps number part.child) (λ s. (s.env ≡ step.env) × (field_at part.label fields ≡ Some s.root))
 
 -- so have all, one step for each part
 abbrev pub AreFieldsOf : (steps : List StepLine) (step : StepLine) → List Field → List ℕ → List Part → Type 0
 AreFieldsOf steps step fields [] [] = Unit {0}
-AreFieldsOf steps step fields (number ∷ numbers) (part ∷ parts) = IsFieldOf steps step fields (Some number) part × AreFieldsOf steps step fields numbers parts
+AreFieldsOf steps step fields (number ∷ numbers) (part ∷ parts) =
+    IsFieldOf steps step fields (Some number) part × AreFieldsOf steps step fields numbers parts
 AreFieldsOf steps step fields _ _ = ⊥
 
 abbrev pub IsRecord : (steps : List StepLine) (step : StepLine) → List ℕ → List Part → Node → Type 0
@@ -131,28 +140,34 @@ IsOneField step label (node.Rcd fields) = fields ≡ record { label = label; nod
 IsOneField step label _ = ⊥
 
 abbrev pub ByProj : (book : List Node) (steps : List StepLine) (step : StepLine) → ℕ → TermForm → Type 0
-ByProj book steps step number (form.Project e label) = Given (about steps number e) (λ s. (s.env ≡ step.env) × IsOneField step label (node_at book s.root.0))
+ByProj book steps step number (form.Project e label) =
+    Given (about steps number e) (λ s. (s.env ≡ step.env) × IsOneField step label (node_at book s.root.0))
 ByProj book steps step number _ = ⊥
 
 abbrev pub AreBranches : (book : List Node) (step : StepLine) (condition first second : StepLine) → Type 0
 AreBranches book step condition first second =
-    (condition.env ≡ step.env) × (node_at book condition.root.0 ≡ node.Bool) × (first.env ≡ step.env) × (first.root ≡ step.root)
+    (condition.env ≡ step.env) × (node_at book condition.root.0 ≡ node.Bool) × (first.env ≡ step.env)
+    × (first.root ≡ step.root)
     × (second.env ≡ step.env) × (second.root ≡ step.root)
 
 abbrev pub ByIf : (book : List Node) (steps : List StepLine) (step : StepLine) → ℕ → ℕ → ℕ → TermForm → Type 0
 ByIf book steps step first second third (form.If c e f) =
-    Given (about steps first c) (λ s. Given (about steps second e) (λ t. Given (about steps third f) (λ u. AreBranches book step s t u)))
+    Given (about steps first c) (λ s. Given (about steps second e)
+    (λ t. Given (about steps third f) (λ u. AreBranches book step s t u)))
 ByIf book steps step first second third _ = ⊥
 
-abbrev pub ByLet : (book : List Node) (steps : List StepLine) (let_of : ℕ → Option ℕ) (step : StepLine) → ℕ → ℕ → TermForm → Type 0
+abbrev pub ByLet : (book : List Node) (steps : List StepLine) (let_of : ℕ → Option ℕ) (step : StepLine) → ℕ → ℕ
+    → TermForm → Type 0
 ByLet book steps let_of step first second (form.Let k e f) =
     (let_of k ≡ Some first)
-    × Given (about steps first e) (λ s. Given (about steps second f) (λ t. (t.root ≡ step.root) × IsMeetIn book s.env t.env step.env))
+    × Given (about steps first e) (λ s. Given (about steps second f)
+    (λ t. (t.root ≡ step.root) × IsMeetIn book s.env t.env step.env))
 ByLet book steps let_of step first second _ = ⊥
 
 abbrev pub ByRec : (steps : List StepLine) (step : StepLine) → ℕ → TermForm → Type 0
 ByRec steps step number (form.Rec x body) =
-    Given (about steps number body) (λ s. (s.root ≡ step.root) × (node_in s.env x ≡ Some s.root.0) × (step.env ≡ without x s.env))
+    Given (about steps number body) (λ s. (s.root ≡ step.root) × (node_in s.env x ≡ Some s.root.0)
+    × (step.env ≡ without x s.env))
 ByRec steps step number _ = ⊥
 
 -- a binder's node is kept by a subsumption
@@ -165,21 +180,27 @@ IsLowPut book None = Unit {0}
 IsLowPut book (Some n) = n < length book
 
 -- the lines that follow a step are shown
-abbrev pub AreShown : (book : List Node) (put : ℕ → Option ℕ) (claims : Mode → ℕ → ℕ → Type 0) → List SectionLine → Type 0
+abbrev pub AreShown : (book : List Node) (put : ℕ → Option ℕ) (claims : Mode → ℕ → ℕ → Type 0) → List SectionLine
+    → Type 0
 AreShown book put claims [] = Unit {0}
 AreShown book put claims (line.Let k number ∷ rest) = Unit {0}
 AreShown book put claims (line.Step next ∷ rest) = Unit {0}
 AreShown book put claims (line.Put x n ∷ rest) = IsLowPut book (put x) × AreShown book put claims rest
-AreShown book put claims (line.Pair mode i j ∷ rest) = IsShown book put claims mode i.0 j.0 × AreShown book put claims rest
+AreShown book put claims (line.Pair mode i j ∷ rest) =
+    IsShown book put claims mode i.0 j.0 × AreShown book put claims rest
 
 abbrev pub IsInstance : (book : List Node) (claims : Mode → ℕ → ℕ → Type 0) (step : StepLine) → StepLine → Type 0
-IsInstance book claims step first = claims Lr first.root.0 step.root.0 × All (λ entry. IsKeptIn book claims (node_in step.env entry.binder) entry.node.0) first.env
+IsInstance book claims step first = claims Lr first.root.0 step.root.0
+    × All (λ entry. IsKeptIn book claims (node_in step.env entry.binder) entry.node.0) first.env
 
-abbrev pub BySub : (book : List Node) (steps : List StepLine) (put : ℕ → Option ℕ) (claims : Mode → ℕ → ℕ → Type 0) (step : StepLine) → List SectionLine → ℕ → Type 0
-BySub book steps put claims step rest number = Given (about steps number step.node) (λ s. IsInstance book claims step s) × AreShown book put claims rest
+abbrev pub BySub : (book : List Node) (steps : List StepLine) (put : ℕ → Option ℕ) (claims : Mode → ℕ → ℕ → Type 0)
+    (step : StepLine) → List SectionLine → ℕ → Type 0
+BySub book steps put claims step rest number =
+    Given (about steps number step.node) (λ s. IsInstance book claims step s) × AreShown book put claims rest
 
 -- what the rule of the step asks, where the node that it is about has this form
-abbrev pub ByForm : (book : List Node) (steps : List StepLine) (let_of : ℕ → Option ℕ) (known : List ReadScheme) (step : StepLine) → StepRule → TermForm → Type 0
+abbrev pub ByForm : (book : List Node) (steps : List StepLine) (let_of : ℕ → Option ℕ) (known : List ReadScheme)
+    (step : StepLine) → StepRule → TermForm → Type 0
 ByForm book steps let_of known step rule.Var f = ByVar step f
 ByForm book steps let_of known step (rule.Use number) f = ByUse steps let_of step number f
 ByForm book steps let_of known step (rule.Name n) f = ByName book known step n f
@@ -193,7 +214,11 @@ ByForm book steps let_of known step (rule.Let first second) f = ByLet book steps
 ByForm book steps let_of known step (rule.Rec number) f = ByRec steps step number f
 ByForm book steps let_of known step (rule.Sub number) f = ⊥
 
--- what the rule of the step asks, where the node that it is about has this form, if there is one, and these lines follow
-abbrev pub HasRule : (book : List Node) (steps : List StepLine) (let_of : ℕ → Option ℕ) (known : List ReadScheme) (put : ℕ → Option ℕ) (claims : Mode → ℕ → ℕ → Type 0) (lines : List SectionLine) (step : StepLine) → StepRule → Option TermForm → Type 0
-HasRule book steps let_of known put claims lines step (rule.Sub number) form = BySub book steps put claims step lines number
+-- what the rule of the step asks, where the node that it is about has this form, if there is one, and these lines
+-- follow
+abbrev pub HasRule : (book : List Node) (steps : List StepLine) (let_of : ℕ → Option ℕ) (known : List ReadScheme)
+    (put : ℕ → Option ℕ) (claims : Mode → ℕ → ℕ → Type 0) (lines : List SectionLine) (step : StepLine) → StepRule
+    → Option TermForm → Type 0
+HasRule book steps let_of known put claims lines step (rule.Sub number) form =
+    BySub book steps put claims step lines number
 HasRule book steps let_of known put claims lines step rule form = Given form (ByForm book steps let_of known step rule)

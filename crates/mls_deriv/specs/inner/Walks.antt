@@ -12,7 +12,8 @@ use Rattle.mls_deriv.specs.declared.walk.Checked.{Checked}
 use Rattle.mls_deriv.specs.declared.walk.Checked.TheVariants.{Allowed, Refused}
 use Rattle.mls_deriv.specs.declared.verify.Verified.{Verified}
 use Rattle.mls_deriv.specs.declared.verify.Verified.TheVariants.{Yes, No}
-use Rattle.mls_deriv.specs.Sections.{AreAllowed, HasRefused, steps_of, IsSectionAllowed, HasRefusedStep, IsHeadRead, AreSectionsAllowed, HasFirstRefused}
+use Rattle.mls_deriv.specs.Sections.{AreAllowed, HasRefused, steps_of, IsSectionAllowed, HasRefusedStep, IsHeadRead}
+use Rattle.mls_deriv.specs.Sections.{AreSectionsAllowed, HasFirstRefused}
 use Rattle.mls_deriv.specs.Steps.{Before, IsRising}
 
 -- behind these steps and let lines
@@ -20,7 +21,8 @@ abbrev pub behind : Before → List StepLine → List (ℕ × ℕ) → Before
 behind b steps lets = record b { steps = steps; lets = lets }
 
 -- the lines up to these are allowed, and gave these steps and lets
-pub record HasCome (b : Before) (lines rest : List SectionLine) (steps : List StepLine) (let_of : ℕ → Option ℕ) : Type 0 where
+pub record HasCome (b : Before) (lines rest : List SectionLine) (steps : List StepLine) (let_of : ℕ
+    → Option ℕ) : Type 0 where
   pub given : List (ℕ × ℕ)
   pub lets_are : (k : ℕ) → let_of k ≡ env.find nat_cmp k given
   pub rising : (n : ℕ) (s : StepLine) → slice_get steps n ≡ Some s → IsRising s.env
@@ -40,7 +42,8 @@ GoesOn b lines rest steps let_of false = AreChecked b lines steps false
 
 -- the section is allowed and counts so many steps, or this is the first that is not
 abbrev pub IsChecked : List Scheme → ResolvedBinding → Section → ReadScheme → Checked → Type 0
-IsChecked globals binding section read (Allowed count) = IsSectionAllowed globals binding section read × (count ≡ length (steps_of section.lines))
+IsChecked globals binding section read (Allowed count) =
+    IsSectionAllowed globals binding section read × (count ≡ length (steps_of section.lines))
 IsChecked globals binding section read (Refused count) = (n : ℕ) → HasRefusedStep globals n binding section (n + count)
 
 -- the head of the section is read as this, or is not read
@@ -54,6 +57,8 @@ IsFound known bindings sections Yes = AreSectionsAllowed known bindings sections
 IsFound known bindings sections (No n) = HasFirstRefused known 0 bindings sections n
 
 -- the sections up to these are allowed, whose types were read as these, and they have so many steps and ends
-pub record HavePassed (known earlier : List ReadScheme) (count : ℕ) (bindings rest : List ResolvedBinding) (sections others : List Section) : Type 0 where
+pub record HavePassed (known earlier : List ReadScheme) (count : ℕ) (bindings rest : List ResolvedBinding)
+    (sections others : List Section) : Type 0 where
   pub allowed : AreSectionsAllowed (known ++ earlier) rest others → AreSectionsAllowed known bindings sections
-  pub refused : (r : ℕ) → HasFirstRefused (known ++ earlier) count rest others r → HasFirstRefused known 0 bindings sections r
+  pub refused : (r : ℕ) → HasFirstRefused (known ++ earlier) count rest others r
+      → HasFirstRefused known 0 bindings sections r

@@ -1,5 +1,6 @@
 -- How claims lose their ways to stand, one list at a time.
-use Rattle.std.specs.Prelude.{◌≡◌, ◌⊎◌, ◌↔◌, ℕ, ◌<◌, ◌+◌, Bool, true, false, not, cond, ◌||◌, ◌&&◌, List, [], ◌∷◌, ◌++◌, length, All, Contains, IsSome, Option, Some, None, get_or, is_some, set}
+use Rattle.std.specs.Prelude.{◌≡◌, ◌⊎◌, ◌↔◌, ℕ, ◌<◌, ◌+◌, Bool, true, false, not, cond, ◌||◌, ◌&&◌, List, [], ◌∷◌, ◌++◌}
+use Rattle.std.specs.Prelude.{length, All, Contains, IsSome, Option, Some, None, get_or, is_some, set}
 use Rattle.std.specs.List.{sum_by}
 use Rattle.mls_flow.specs.declared.standing.Claim.{Claim}
 use Rattle.mls_flow.specs.declared.standing.Left.{Left}
@@ -18,12 +19,14 @@ IsUse claims u j = IsIn (way (claim_at claims u.claim) u.is_second) j
 -- the uses that were added to those of each claim
 pub record AddsUses (old new : List (List Use)) (IsAdded : Use → ℕ → Type 0) : Type 0 where
   pub same_length : length new ≡ length old
-  pub just : (u : Use) (j : ℕ) → j < length old → Contains (get_or new j []) u ↔ (Contains (get_or old j []) u ⊎ IsAdded u j)
+  pub just : (u : Use) (j : ℕ) → j < length old
+      → Contains (get_or new j []) u ↔ (Contains (get_or old j []) u ⊎ IsAdded u j)
 
 -- for each claim the lists in which it stands
 pub record IsUsesOf (claims : List Claim) (uses : List (List Use)) : Type 0 where
   pub same_length : length uses ≡ length claims
-  pub just : (u : Use) (j : ℕ) → j < length claims → Contains (get_or uses j []) u ↔ ((u.claim < length claims) × IsUse claims u j)
+  pub just : (u : Use) (j : ℕ) → j < length claims
+      → Contains (get_or uses j []) u ↔ ((u.claim < length claims) × IsUse claims u j)
 
 -- all that a claim has is left
 abbrev pub all_of : Claim → Left
@@ -65,14 +68,17 @@ close s u =
 
 -- no set of claims that stand together has all of the list
 abbrev pub IsUnsupported : List Claim → Use → Type 0
-IsUnsupported claims u = (kept : ℕ → Bool) → StandTogether claims kept → AllIn kept (way (claim_at claims u.claim) u.is_second) → ⊥
+IsUnsupported claims u = (kept : ℕ → Bool) → StandTogether claims kept
+    → AllIn kept (way (claim_at claims u.claim) u.is_second) → ⊥
 
 -- What is left can stand, and what is not left cannot.
 pub record IsLeft (claims : List Claim) (lefts : List Left) : Type 0 where
   pub same_length : length lefts ≡ length claims
   pub holds : (i : ℕ) → i < length claims → (left_at lefts i).holds ≡ (claim_at claims i).holds
-  pub present : (i : ℕ) → i < length claims → (second : Bool) → is_open (left_at lefts i) second ≡ true → IsSome (way (claim_at claims i) second)
-  pub absent : (i : ℕ) → i < length claims → (second : Bool) → is_open (left_at lefts i) second ≡ false → IsUnsupported claims (record { claim = i; is_second = second })
+  pub present : (i : ℕ) → i < length claims → (second : Bool) → is_open (left_at lefts i) second ≡ true
+      → IsSome (way (claim_at claims i) second)
+  pub absent : (i : ℕ) → i < length claims → (second : Bool) → is_open (left_at lefts i) second ≡ false
+      → IsUnsupported claims (record { claim = i; is_second = second })
 
 abbrev pub weight : Left → ℕ
 weight l = cond (is_left l) 1 0
@@ -86,7 +92,8 @@ pub record AreLost (lefts : List Left) (lost : List ℕ) : Type 0 where
 -- no list in which one of the first lost claims stands is left
 abbrev pub AreTaken : List Claim → List Left → List ℕ → ℕ → Type 0
 AreTaken claims lefts lost next =
-    (k : ℕ) → k < next → (u : Use) → u.claim < length claims → IsUse claims u (get_or lost k 0) → is_open (left_at lefts u.claim) u.is_second ≡ false
+    (k : ℕ) → k < next → (u : Use) → u.claim < length claims → IsUse claims u (get_or lost k 0)
+    → is_open (left_at lefts u.claim) u.is_second ≡ false
 
 pub record AreLosses (claims : List Claim) (next : ℕ) (s : Losses) : Type 0 where
   pub is_left : IsLeft claims s.left

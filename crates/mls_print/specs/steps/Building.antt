@@ -20,7 +20,8 @@ abbrev pub IsNamed : Parts → List ℕ → Type 0
 IsNamed head set = IsArm head.function set ⊎ IsFieldOf head.fields set
 
 -- The row shows this set, whose sets are there now, and no set was added but those.
-pub record MakesRow (a : Automaton) (order : List ℕ) (p : Polarity) (set : List ℕ) (old new : List (List ℕ)) (row : Row) : Type 0 where
+pub record MakesRow (a : Automaton) (order : List ℕ) (p : Polarity) (set : List ℕ) (old new : List (List ℕ))
+    (row : Row) : Type 0 where
   pub adds : Adds (IsNamed (set_head a p set)) old new
   pub within : IsWithin (length new) row
   pub shows : ShowsRow a order (set_of new) p set row
@@ -36,7 +37,8 @@ pub record IsBuilding (a : Automaton) (order : List ℕ) (b : Builder) : Type 0 
   pub visited : All (IsVisitedSet a order) (sets_in b.register)
   pub rows : length b.rows.items ≤ length (sets_in b.register)
   pub within : All (IsWithin (length (sets_in b.register))) b.rows.items
-  pub shows : (i : ℕ) (d : Row) → i < length b.rows.items → (p : Polarity) → All (IsVisited a order p) (set_of (sets_in b.register) i)
+  pub shows : (i : ℕ) (d : Row) → i < length b.rows.items → (p : Polarity)
+      → All (IsVisited a order p) (set_of (sets_in b.register) i)
       → ShowsRow a order (set_of (sets_in b.register)) p (set_of (sets_in b.register) i) (get_or b.rows.items i d)
 
 -- the first set is that of this state alone

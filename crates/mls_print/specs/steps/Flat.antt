@@ -32,7 +32,11 @@ module _ {X : Type 0} (function : X → Option Arms) (fields : X → Option (Lis
   abbrev pub flat_function : List X → Option Arms
   flat_function xs =
       if list_any (λ x. is_some (function x)) xs
-      then Some (record { domain = flat_map (λ x. domain_in (function x)) xs; codomain = flat_map (λ x. codomain_in (function x)) xs })
+      then Some (record {
+        domain = flat_map (λ x. domain_in (function x)) xs;
+        codomain = flat_map
+            (λ x. codomain_in (function x)) xs;
+      })
       else None
 
   -- a positive set has the labels that no record of it lacks, a negative one those that some record of it has

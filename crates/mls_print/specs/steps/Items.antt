@@ -1,5 +1,6 @@
 -- The items of a set, from its row in the table.
-use Rattle.std.specs.Prelude.{◌≡◌, ℕ, Bool, true, false, not, ◌||◌, List, [], ◌∷◌, ◌++◌, map, codes, Contains, Option, Some, None, option_map, is_some}
+use Rattle.std.specs.Prelude.{◌≡◌, ℕ, Bool, true, false, not, ◌||◌, List, [], ◌∷◌, ◌++◌, map, codes, Contains, Option}
+use Rattle.std.specs.Prelude.{Some, None, option_map, is_some}
 use Rattle.std.specs.Global.{Vec}
 use Rattle.mls_automaton.specs.declared.automaton.Polarity.{Polarity}
 use Rattle.mls_print.specs.declared.components.Item.{Item as LaidItem}
@@ -9,11 +10,13 @@ use Rattle.mls_print.specs.declared.row.RowArms.{RowArms}
 use Rattle.mls_print.specs.declared.row.RowField.{RowField}
 use Rattle.mls_print.specs.Keys.{variable}
 use Rattle.mls_print.specs.Pieces.{name_of, opens, separator}
-use Rattle.mls_print.specs.steps.Printing.{Place, Item, tell, show, show_domain, LabelledSet, text, items_in_parens, bit_items, function_items, record_items, parts_items, is_alone}
+use Rattle.mls_print.specs.steps.Printing.{Place, Item, tell, show, show_domain, LabelledSet, text, items_in_parens}
+use Rattle.mls_print.specs.steps.Printing.{bit_items, function_items, record_items, parts_items, is_alone}
 use Rattle.mls_print.specs.steps.Tables.{arms_of, labelled}
 use Rattle.mls_print.specs.steps.Writing.{piece_of}
 
--- the item, where the table has these sets, inside these sets; no row tells what an item stands for here that only leaves a set
+-- the item, where the table has these sets, inside these sets; no row tells what an item stands for here that only
+-- leaves a set
 abbrev pub item_of : (ℕ → List ℕ) → List Place → LaidItem → Item
 item_of sets around (laid.Tell p) = tell (piece_of p)
 item_of sets around (laid.Show p n) = show around p (sets n)
@@ -58,10 +61,12 @@ row_components sets around p row =
 
 -- and all its items
 abbrev pub row_items : (ℕ → List ℕ) → List Place → Polarity → Row → List Item
-row_items sets around p row = parts_items around p row.variables.items row.boolean row.integer (arms_of sets row.function) (fields_of sets row)
+row_items sets around p row = parts_items around p row.variables.items row.boolean row.integer
+    (arms_of sets row.function) (fields_of sets row)
 
 abbrev pub row_is_alone : (ℕ → List ℕ) → Row → Bool
-row_is_alone sets row = is_alone row.variables.items row.boolean row.integer (arms_of sets row.function) (fields_of sets row)
+row_is_alone sets row = is_alone row.variables.items row.boolean row.integer (arms_of sets row.function)
+    (fields_of sets row)
 
 -- the set is one of the fields
 abbrev pub IsFieldSet : Option (List RowField) → ℕ → Type 0

@@ -1,5 +1,6 @@
 -- How far the layout of a text is.
-use Rattle.std.specs.Prelude.{◌≡◌, ℕ, ◌<◌, ◌≤◌, ◌==◌, Bool, codes, List, [], ◌∷◌, ◌++◌, length, map, get_or, reverse, All, Option, Some, None, if◌then◌else◌}
+use Rattle.std.specs.Prelude.{◌≡◌, ℕ, ◌<◌, ◌≤◌, ◌==◌, Bool, codes, List, [], ◌∷◌, ◌++◌, length, map, get_or, reverse}
+use Rattle.std.specs.Prelude.{All, Option, Some, None, if◌then◌else◌}
 use Rattle.mls_automaton.specs.declared.automaton.Polarity.TheVariants.{Positive}
 use Rattle.mls_automaton.specs.Automata.{Automaton}
 use Rattle.mls_automaton.specs.Models.{IsClosed}
@@ -35,9 +36,12 @@ outer (near ∷ far) = far
 abbrev pub told : Table → List Near → List LaidItem → List Item
 told table around [] = []
 told table around (laid.Leave n ∷ rest) = told table (outer around) rest
-told table around (laid.Tell p ∷ rest) = item_of (set_at table) (places table around) (laid.Tell p) ∷ told table around rest
-told table around (laid.Show p n ∷ rest) = item_of (set_at table) (places table around) (laid.Show p n) ∷ told table around rest
-told table around (laid.ShowDomain p n ∷ rest) = item_of (set_at table) (places table around) (laid.ShowDomain p n) ∷ told table around rest
+told table around (laid.Tell p ∷ rest) =
+    item_of (set_at table) (places table around) (laid.Tell p) ∷ told table around rest
+told table around (laid.Show p n ∷ rest) =
+    item_of (set_at table) (places table around) (laid.Show p n) ∷ told table around rest
+told table around (laid.ShowDomain p n ∷ rest) =
+    item_of (set_at table) (places table around) (laid.ShowDomain p n) ∷ told table around rest
 
 -- each set is left that is nearest there
 abbrev pub LeavesNearest : List Near → ℕ → Type 0
@@ -116,7 +120,8 @@ pub record IsSafe (table : Table) (w : Printer) : Type 0 where
 -- an item is done with
 pub record Advances (table : Table) (item : LaidItem) (old new : Printer) : Type 0 where
   pub safe : IsSafe table old → IsSafe table new
-  pub on_plan : (plan : Plan) → IsPlan plan table → IsOnPlan plan table (item ∷ reverse old.items.items) old → IsOnPlan plan table (reverse new.items.items) new
+  pub on_plan : (plan : Plan) → IsPlan plan table → IsOnPlan plan table (item ∷ reverse old.items.items) old
+      → IsOnPlan plan table (reverse new.items.items) new
 
 -- the layout is that of the tree
 pub record IsLaidOut (plan : Plan) (layout : Layout) : Type 0 where

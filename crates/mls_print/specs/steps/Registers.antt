@@ -1,5 +1,6 @@
 -- How sets get their numbers.
-use Rattle.std.specs.Prelude.{◌≡◌, ◌⊎◌, ℕ, ◌<◌, List, [], ◌∷◌, ◌++◌, length, map, get_or, All, Contains, option_map, Option, Some, None}
+use Rattle.std.specs.Prelude.{◌≡◌, ◌⊎◌, ℕ, ◌<◌, List, [], ◌∷◌, ◌++◌, length, map, get_or, All, Contains, option_map}
+use Rattle.std.specs.Prelude.{Option, Some, None}
 use Rattle.std.specs.Global.{Vec}
 use Rattle.std.specs.BTreeMap.{get}
 use Rattle.std.specs.Ordering.{nat_cmp}
@@ -27,7 +28,8 @@ number_in register = get (slice_cmp nat_cmp) register.numbers
 pub record IsRegister (register : Register) : Type 0 where
   pub rising : All AreRisingNumbers (sets_in register)
   pub numbered : (n : ℕ) → n < length (sets_in register) → number_in register (set_of (sets_in register) n) ≡ Some n
-  pub found : (set : List ℕ) (n : ℕ) → number_in register set ≡ Some n → (n < length (sets_in register)) × (set_of (sets_in register) n ≡ set)
+  pub found : (set : List ℕ) (n : ℕ) → number_in register set ≡ Some n
+      → (n < length (sets_in register)) × (set_of (sets_in register) n ≡ set)
 
 -- there are more sets than before, each of them such
 pub record Adds (IsSuch : List ℕ → Type 0) (old new : List (List ℕ)) : Type 0 where
@@ -74,7 +76,8 @@ IsSameRecord None None = Unit {0}
 IsSameRecord (Some fields) (Some others) = AreSameFields fields others
 IsSameRecord _ _ = ⊥
 
-pub record NumbersRecord (fields : Option (List LabelledSet)) (old new : List (List ℕ)) (row : Option (Vec RowField)) : Type 0 where
+pub record NumbersRecord (fields : Option (List LabelledSet)) (old new : List (List ℕ))
+    (row : Option (Vec RowField)) : Type 0 where
   pub adds : Adds (IsSetOfRecord fields) old new
   pub below : HasFieldsBelow (length new) row
   pub same : IsSameRecord fields (option_map (λ all. map (labelled (set_of new)) all.items) row)

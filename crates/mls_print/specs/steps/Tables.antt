@@ -1,5 +1,6 @@
 -- The table of the sets that are shown.
-use Rattle.std.specs.Prelude.{◌≡◌, ℕ, ◌<◌, List, [], ◌∷◌, length, map, get_or, All, Contains, option_map, Option, Some, None, IsSome}
+use Rattle.std.specs.Prelude.{◌≡◌, ℕ, ◌<◌, List, [], ◌∷◌, length, map, get_or, All, Contains, option_map, Option, Some}
+use Rattle.std.specs.Prelude.{None, IsSome}
 use Rattle.std.specs.Global.{Vec}
 use Rattle.mls_automaton.specs.declared.automaton.Polarity.{Polarity}
 use Rattle.mls_automaton.specs.declared.automaton.Arms.{Arms}
@@ -44,7 +45,8 @@ abbrev pub IsFunctionOf : Option Arms → Option Arms → Type 0
 IsFunctionOf = IsSameOption (λ (f : Arms) g. IsSameSet f.domain g.domain × IsSameSet f.codomain g.codomain)
 
 -- a row shows this set at this polarity, where its numbers are those of these sets
-pub record ShowsRow (a : Automaton) (order : List ℕ) (sets : ℕ → List ℕ) (p : Polarity) (set : List ℕ) (row : Row) : Type 0 where
+pub record ShowsRow (a : Automaton) (order : List ℕ) (sets : ℕ → List ℕ) (p : Polarity) (set : List ℕ)
+    (row : Row) : Type 0 where
   pub variables : row.variables.items ≡ shown_variables a order p set
   pub boolean : row.boolean ≡ (set_head a p set).boolean
   pub integer : row.integer ≡ (set_head a p set).integer
@@ -73,5 +75,8 @@ pub record IsWhole (table : Table) : Type 0 where
 -- The table has each set that is shown of this root once, the set of the root alone first.
 pub record IsTable (a : Automaton) (order : List ℕ) (root : ℕ) (table : Table) : Type 0 where
   pub first : set_at table 0 ≡ root ∷ []
-  pub distinct : (i j : ℕ) → i < length table.sets.items → j < length table.sets.items → IsSameSet (set_at table i) (set_at table j) → i ≡ j
-  pub shows : (i : ℕ) (d : Row) → i < length table.rows.items → (p : Polarity) → All (IsVisited a order p) (set_at table i) → ShowsRow a order (set_at table) p (set_at table i) (get_or table.rows.items i d)
+  pub distinct : (i j : ℕ) → i < length table.sets.items → j < length table.sets.items
+      → IsSameSet (set_at table i) (set_at table j) → i ≡ j
+  pub shows : (i : ℕ) (d : Row) → i < length table.rows.items → (p : Polarity)
+      → All (IsVisited a order p) (set_at table i)
+      → ShowsRow a order (set_at table) p (set_at table i) (get_or table.rows.items i d)

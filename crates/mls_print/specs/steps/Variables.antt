@@ -8,8 +8,10 @@ use Rattle.mls_print.specs.Walks.{flows_into}
 -- Of the first so many visited states those that have a variable have their printing number.
 pub record HasVariablesTo (i : ℕ) (a : Automaton) (order : List ℕ) (numbers : List (Option ℕ)) : Type 0 where
   pub size : length numbers ≡ length a.states
-  pub found : (s k : ℕ) → s < length a.states → get_or numbers s None ≡ Some k → (k < i) × (get_or order k 0 ≡ s) × (flows_into a order s ≡ true)
-  pub has : (k : ℕ) → k < i → flows_into a order (get_or order k 0) ≡ true → get_or numbers (get_or order k 0) None ≡ Some k
+  pub found : (s k : ℕ) → s < length a.states → get_or numbers s None ≡ Some k
+      → (k < i) × (get_or order k 0 ≡ s) × (flows_into a order s ≡ true)
+  pub has : (k : ℕ) → k < i → flows_into a order (get_or order k 0) ≡ true
+      → get_or numbers (get_or order k 0) None ≡ Some k
 
 abbrev pub HasVariables : Automaton → List ℕ → List (Option ℕ) → Type 0
 HasVariables a order numbers = HasVariablesTo (length order) a order numbers

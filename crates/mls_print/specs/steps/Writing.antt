@@ -1,5 +1,6 @@
 -- Writing the pieces: names are given as their keys appear.
-use Rattle.std.specs.Prelude.{◌≡◌, ℕ, ◌+◌, ◌<◌, ◌≤◌, Bool, List, [], ◌∷◌, ◌++◌, length, get_or, slice_set, Option, Some, None, if◌then◌else◌}
+use Rattle.std.specs.Prelude.{◌≡◌, ℕ, ◌+◌, ◌<◌, ◌≤◌, Bool, List, [], ◌∷◌, ◌++◌, length, get_or, slice_set, Option, Some}
+use Rattle.std.specs.Prelude.{None, if◌then◌else◌}
 use Rattle.std.specs.List.{list_any}
 use Rattle.mls_print.specs.declared.piece.Piece.{Piece as LaidPiece}
 use Rattle.mls_print.specs.declared.piece.Piece.TheVariants as laid
@@ -53,7 +54,8 @@ name_behind seen key = name_at (place_of (added seen key) key)
 -- A key that has a number keeps it, and any other gets the next one.
 abbrev pub GetsNumber : Option ℕ → (index named : ℕ) → (old new : List (Option ℕ)) → (named_then given : ℕ) → Type 0
 GetsNumber (Some number) index named old new named_then given = (given ≡ number) × ((new ≡ old) × (named_then ≡ named))
-GetsNumber None index named old new named_then given = (given ≡ named) × ((new ≡ slice_set old index (Some named)) × (named_then ≡ named + 1))
+GetsNumber None index named old new named_then given =
+    (given ≡ named) × ((new ≡ slice_set old index (Some named)) × (named_then ≡ named + 1))
 
 -- the numbers are those of these keys
 pub record HasNumbers (seen : List Key) (variables recursions : List (Option ℕ)) (named : ℕ) : Type 0 where
@@ -80,4 +82,5 @@ pub record NamesKey (told : List ℕ → List ℕ) (key : Key) (old new : Writer
 pub record Writes (has_rec : ℕ → Bool) (piece : Piece) (old new : Writer) : Type 0 where
   pub keeps : Keeps old new
   pub names : (seen : List Key) → Names seen old → Names (all_added seen (piece_keys has_rec piece [])) new
-  pub text : (seen : List Key) → Names seen old → new.text.items ≡ old.text.items ++ piece_written has_rec (name_behind seen) piece []
+  pub text : (seen : List Key) → Names seen old
+      → new.text.items ≡ old.text.items ++ piece_written has_rec (name_behind seen) piece []

@@ -22,7 +22,8 @@ pair_at shared k = get_or shared k (pair_of 0 0)
 abbrev pub IsMet : ℕ → List Shared → Option ℕ → Option ℕ → Option ℕ → Type 0
 IsMet start shared None right both = both ≡ right
 IsMet start shared (Some m) None both = both ≡ Some m
-IsMet start shared (Some m) (Some n) both = (k : ℕ) × (both ≡ Some (start + k)) × (k < length shared) × (pair_at shared k ≡ pair_of m n)
+IsMet start shared (Some m) (Some n) both =
+    (k : ℕ) × (both ≡ Some (start + k)) × (k < length shared) × (pair_at shared k ≡ pair_of m n)
 
 -- the two are the states of some binder
 abbrev pub IsPairOf : List EnvEntry → List EnvEntry → Shared → Type 0
@@ -33,13 +34,15 @@ abbrev pub AreUnder : List EnvEntry → ℕ → Type 0
 AreUnder env x = All (λ (entry : EnvEntry). entry.binder < x) env
 
 -- the one environment that two give
-pub record IsMetEnv (first second : List EnvEntry) (start : ℕ) (env : List EnvEntry) (shared : List Shared) : Type 0 where
+pub record IsMetEnv (first second : List EnvEntry) (start : ℕ) (env : List EnvEntry)
+    (shared : List Shared) : Type 0 where
   pub state : (x : ℕ) → IsMet start shared (state_of first x) (state_of second x) (state_of env x)
   pub pairs : All (IsPairOf first second) shared
 
 -- The first i entries of the one and the first j of the other have been put together, and all others have higher
 -- binders.
-pub record IsMeeting (first second : List EnvEntry) (i j start : ℕ) (env : List EnvEntry) (shared : List Shared) : Type 0 where
+pub record IsMeeting (first second : List EnvEntry) (i j start : ℕ) (env : List EnvEntry)
+    (shared : List Shared) : Type 0 where
   pub first_there : i ≤ length first
   pub second_there : j ≤ length second
   pub before_first : (d : EnvEntry) → i < length first → AreUnder env (get_or first i d).binder

@@ -21,7 +21,13 @@ abbrev pub field_set_of : Field → FieldSet
 field_set_of field = record { label = field.label; set = field.node.0 ∷ [] }
 
 abbrev pub arrow_of : ℕ → ℕ → Head
-arrow_of from to = record { boolean = false; integer = false; function = Some (record { domain = from ∷ []; codomain = to ∷ [] }); fields = None }
+arrow_of from to = record {
+  boolean = false;
+  integer = false;
+  function = Some
+      (record { domain = from ∷ []; codomain = to ∷ [] });
+  fields = None;
+}
 
 abbrev pub record_of : List Field → Head
 record_of fields = record { boolean = false; integer = false; function = None; fields = Some (map field_set_of fields) }

@@ -29,9 +29,11 @@ pub record AddsMet (m n : ℕ) (old new : Automaton) : Type 0 where
   pub state : State
   pub states : new.states ≡ old.states ++ state ∷ []
   pub polarity : state.polarity ≡ Negative
-  pub head : IsSameParts (parts_of state.head) (combined_two Negative (parts_of (head_at old m)) (parts_of (head_at old n)))
+  pub head : IsSameParts (parts_of state.head)
+      (combined_two Negative (parts_of (head_at old m)) (parts_of (head_at old n)))
   pub labels : HasRisingLabels state.head.fields
-  pub flows : (s p : ℕ) → HasFlow new s p ↔ HasFlow old s p ⊎ ((s ≡ length old.states) × (HasFlow old m p ⊎ HasFlow old n p))
+  pub flows : (s p : ℕ) → HasFlow new s p ↔ HasFlow old s p
+      ⊎ ((s ≡ length old.states) × (HasFlow old m p ⊎ HasFlow old n p))
 
 -- the first states up to each of these, and the edges between them, stayed
 abbrev pub HasSameFront : ℕ → Automaton → Automaton → Type 0
@@ -42,10 +44,13 @@ abbrev pub HasBinders : Automaton → List EnvEntry → Type 0
 HasBinders a env = (x s : ℕ) → state_of env x ≡ Some s → IsState a Negative s
 
 -- The automaton with that of a scheme behind it, and new states for the binders of both.
-pub record IsPutTogether (old new : Automaton) (env : List EnvEntry) (from : Scheme) (both : List EnvEntry) (place : ℕ) : Type 0 where
+pub record IsPutTogether (old new : Automaton) (env : List EnvEntry) (from : Scheme) (both : List EnvEntry)
+    (place : ℕ) : Type 0 where
   pub shared : List Shared
-  pub automaton : IsMerged (first_of (length (appended old from.automaton).states) shared) (second_of (length (appended old from.automaton).states) shared) (appended old from.automaton) new
+  pub automaton : IsMerged (first_of (length (appended old from.automaton).states) shared)
+      (second_of (length (appended old from.automaton).states) shared) (appended old from.automaton) new
   pub many : length new.states ≡ length (appended old from.automaton).states + length shared
   pub closed : IsClosed new
-  pub state : (x : ℕ) → IsMet (length (appended old from.automaton).states) shared (state_of env x) (state_of (map (raised_entry (length old.states)) from.env) x) (state_of both x)
+  pub state : (x : ℕ) → IsMet (length (appended old from.automaton).states) shared (state_of env x)
+      (state_of (map (raised_entry (length old.states)) from.env) x) (state_of both x)
   pub place_is : place ≡ length old.states + from.root.0

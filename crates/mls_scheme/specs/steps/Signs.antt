@@ -1,5 +1,6 @@
 -- Looking for the tops of layers, one after another, each with its polarity.
-use Rattle.std.specs.Prelude.{◌≡◌, ◌⊎◌, ℕ, ◌+◌, ◌<◌, true, List, [], ◌∷◌, ◌++◌, map, length, get_or, cond, is_some, set, All, Contains, Option, Some, None}
+use Rattle.std.specs.Prelude.{◌≡◌, ◌⊎◌, ℕ, ◌+◌, ◌<◌, true, List, [], ◌∷◌, ◌++◌, map, length, get_or, cond, is_some, set}
+use Rattle.std.specs.Prelude.{All, Contains, Option, Some, None}
 use Rattle.mls_book.specs.declared.book.Field.{Field}
 use Rattle.mls_book.specs.declared.book.Node.{Node}
 use Rattle.mls_book.specs.declared.book.Node.TheVariants as node
@@ -29,7 +30,8 @@ layer_tasks nodes p (j ∷ rest) = child_tasks p (node_at nodes j) ++ layer_task
 
 -- the children of the atoms of the task came to the work
 abbrev pub AddsLayer : List Node → Task → List Task → List Task → Type 0
-AddsLayer nodes t old new = (found : List ℕ) × AreAtoms nodes t.node found × (new ≡ old ++ layer_tasks nodes t.sign found)
+AddsLayer nodes t old new = (found : List ℕ) × AreAtoms nodes t.node found
+    × (new ≡ old ++ layer_tasks nodes t.sign found)
 
 -- the polarity that was found
 abbrev pub sign_at : List (Option Polarity) → ℕ → Option Polarity
@@ -40,13 +42,15 @@ with_sign signs t = set signs t.node (Some t.sign)
 
 -- the signs that were found are those of the node, wherever each node has one
 abbrev pub AreTrueSigns : List Node → ℕ → (ℕ → Polarity → Type 0) → Type 0
-AreTrueSigns nodes root Q = (sign : ℕ → Polarity) → IsPolarised sign nodes → sign root ≡ Positive → (i : ℕ) (p : Polarity) → Q i p → sign i ≡ p
+AreTrueSigns nodes root Q = (sign : ℕ → Polarity) → IsPolarised sign nodes → sign root ≡ Positive
+    → (i : ℕ) (p : Polarity) → Q i p → sign i ≡ p
 
 -- The tops that the root leads to have signs: the root, and the children of the atoms of each.
 pub record AreSigned (nodes : List Node) (root : ℕ) (signs : List (Option Polarity)) : Type 0 where
   pub size : length signs ≡ length nodes
   pub has_root : is_some (sign_at signs root) ≡ true
-  pub next : (i : ℕ) (p : Polarity) → sign_at signs i ≡ Some p → (t : Task) → Contains (layer_tasks nodes p (atoms nodes i)) t → is_some (sign_at signs t.node) ≡ true
+  pub next : (i : ℕ) (p : Polarity) → sign_at signs i ≡ Some p → (t : Task)
+      → Contains (layer_tasks nodes p (atoms nodes i)) t → is_some (sign_at signs t.node) ≡ true
   pub signs_true : AreTrueSigns nodes root (λ i p. sign_at signs i ≡ Some p)
 
 -- the same on the way, where others are still to be looked at
@@ -54,7 +58,8 @@ pub record IsSigning (nodes : List Node) (root : ℕ) (signs : List (Option Pola
   pub size : length signs ≡ length nodes
   pub low : All (λ (t : Task). t.node < length nodes) work
   pub has_root : (is_some (sign_at signs root) ≡ true) ⊎ Contains work (task root Positive)
-  pub next : (i : ℕ) (p : Polarity) → sign_at signs i ≡ Some p → (t : Task) → Contains (layer_tasks nodes p (atoms nodes i)) t → (is_some (sign_at signs t.node) ≡ true) ⊎ Contains work t
+  pub next : (i : ℕ) (p : Polarity) → sign_at signs i ≡ Some p → (t : Task)
+      → Contains (layer_tasks nodes p (atoms nodes i)) t → (is_some (sign_at signs t.node) ≡ true) ⊎ Contains work t
   pub signs_true : AreTrueSigns nodes root (λ i p. sign_at signs i ≡ Some p)
   pub work_true : AreTrueSigns nodes root (λ i p. Contains work (task i p))
 

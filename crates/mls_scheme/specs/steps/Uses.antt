@@ -26,7 +26,8 @@ abbrev pub AreVariablesBelow : ℕ → List Node → Type 0
 AreVariablesBelow vars nodes = (i x : ℕ) → i < length nodes → node_at nodes i ≡ node.Var x → x < vars
 
 -- of the nodes below this number, the tops of this polarity that have each variable
-pub record AreUsesTo (n : ℕ) (nodes : List Node) (signs : List (Option Polarity)) (p : Polarity) (vars : ℕ) (uses : List (List ℕ)) : Type 0 where
+pub record AreUsesTo (n : ℕ) (nodes : List Node) (signs : List (Option Polarity)) (p : Polarity) (vars : ℕ)
+    (uses : List (List ℕ)) : Type 0 where
   pub size : length uses ≡ vars
   pub members : (x k : ℕ) → Contains (uses_at uses x) k ↔ (k < n) × (sign_at signs k ≡ Some p) × HasVariable nodes k x
 
@@ -40,4 +41,5 @@ IsUsedPair negative positive x n p = Contains (uses_at negative x) n × Contains
 
 -- the two are tops, one negative and one positive, with a variable in common
 abbrev pub IsEdge : List Node → List (Option Polarity) → ℕ → ℕ → Type 0
-IsEdge nodes signs n p = (sign_at signs n ≡ Some Negative) × (sign_at signs p ≡ Some Positive) × ((x : ℕ) × HasVariable nodes n x × HasVariable nodes p x)
+IsEdge nodes signs n p = (sign_at signs n ≡ Some Negative) × (sign_at signs p ≡ Some Positive)
+    × ((x : ℕ) × HasVariable nodes n x × HasVariable nodes p x)

@@ -47,7 +47,8 @@ pub record IsClassed (s m : Scheme) : Type 0 where
   pub classes : Classes
   pub are : AreClasses s.automaton classes
   pub without_flows : Automaton
-  pub states : without_flows.states ≡ map (λ k. classed_state (class_in classes.numbers.items) (state_at s.automaton k)) classes.chosen.items
+  pub states : without_flows.states
+      ≡ map (λ k. classed_state (class_in classes.numbers.items) (state_at s.automaton k)) classes.chosen.items
   pub no_flows : without_flows.flows ≡ []
   pub flows : AddsFlows without_flows m.automaton (IsFlowOfClasses (class_in classes.numbers.items) s.automaton.flows)
   pub env : m.env ≡ map (renamed_entry (class_in classes.numbers.items)) s.env

@@ -1,5 +1,6 @@
 -- How the states are put into classes of alike states, round by round.
-use Rattle.std.specs.Prelude.{◌≡◌, ◌⊎◌, ◌↔◌, ℕ, ◌<◌, Bool, true, false, List, [], ◌∷◌, ◌++◌, length, get_or, Contains, Option, Some, None, cond, bytes_eq}
+use Rattle.std.specs.Prelude.{◌≡◌, ◌⊎◌, ◌↔◌, ℕ, ◌<◌, Bool, true, false, List, [], ◌∷◌, ◌++◌, length, get_or, Contains}
+use Rattle.std.specs.Prelude.{Option, Some, None, cond, bytes_eq}
 use Rattle.std.specs.List.{flat_map}
 use Rattle.std.specs.BTreeMap.{get}
 use Rattle.std.specs.Ordering.{nat_cmp}
@@ -39,7 +40,8 @@ record_code class None = 0 ∷ []
 record_code class (Some fields) = 1 ∷ flat_map (field_code class) fields
 
 abbrev pub head_code : (ℕ → ℕ) → Head → List ℕ
-head_code class h = bit_code h.boolean ∷ bit_code h.integer ∷ function_code class h.function ++ record_code class h.fields
+head_code class h = bit_code h.boolean ∷ bit_code h.integer ∷ function_code class h.function
+    ++ record_code class h.fields
 
 -- the key of a state: its polarity, its partners, and its head
 pub record IsKeyOf (a : Automaton) (class : ℕ → ℕ) (s : ℕ) (key : List ℕ) : Type 0 where
@@ -74,16 +76,21 @@ pub record AddsKey (key : List ℕ) (old new : Numbering) : Type 0 where
 -- the first n states have numbers by their keys
 pub record IsNumbering (IsKey : ℕ → List ℕ → Type 0) (n : ℕ) (numbering : Numbering) : Type 0 where
   pub size : length numbering.classes.numbers.items ≡ n
-  pub keyed : (s : ℕ) → s < n → (key : List ℕ) × IsKey s key × (known_in numbering key ≡ Some (class_in numbering.classes.numbers.items s))
-  pub found : (key : List ℕ) (k : ℕ) → known_in numbering key ≡ Some k → (k < length numbering.classes.chosen.items) × IsKey (get_or numbering.classes.chosen.items k 0) key
-  pub chosen : (k : ℕ) → k < length numbering.classes.chosen.items → (get_or numbering.classes.chosen.items k 0 < n) × (class_in numbering.classes.numbers.items (get_or numbering.classes.chosen.items k 0) ≡ k)
+  pub keyed : (s : ℕ) → s < n → (key : List ℕ) × IsKey s key
+      × (known_in numbering key ≡ Some (class_in numbering.classes.numbers.items s))
+  pub found : (key : List ℕ) (k : ℕ) → known_in numbering key ≡ Some k → (k < length numbering.classes.chosen.items)
+      × IsKey (get_or numbering.classes.chosen.items k 0) key
+  pub chosen : (k : ℕ) → k < length numbering.classes.chosen.items → (get_or numbering.classes.chosen.items k 0 < n)
+      × (class_in numbering.classes.numbers.items (get_or numbering.classes.chosen.items k 0) ≡ k)
 
 -- each state has a class, and each class a chosen state; two states have one class where they are such
 pub record AreClassesBy (a : Automaton) (IsSuch : ℕ → ℕ → Type 0) (c : Classes) : Type 0 where
   pub size : length c.numbers.items ≡ length a.states
   pub low : (s : ℕ) → s < length a.states → class_in c.numbers.items s < length c.chosen.items
-  pub chosen : (k : ℕ) → k < length c.chosen.items → (get_or c.chosen.items k 0 < length a.states) × (class_in c.numbers.items (get_or c.chosen.items k 0) ≡ k)
-  pub classes : (i j : ℕ) → i < length a.states → j < length a.states → (class_in c.numbers.items i ≡ class_in c.numbers.items j) ↔ IsSuch i j
+  pub chosen : (k : ℕ) → k < length c.chosen.items → (get_or c.chosen.items k 0 < length a.states)
+      × (class_in c.numbers.items (get_or c.chosen.items k 0) ≡ k)
+  pub classes : (i j : ℕ) → i < length a.states → j < length a.states
+      → (class_in c.numbers.items i ≡ class_in c.numbers.items j) ↔ IsSuch i j
 
 -- the states look alike by the classes so far
 abbrev pub LookAlike : Automaton → List ℕ → ℕ → ℕ → Type 0
@@ -94,4 +101,5 @@ AreClasses a = AreClassesBy a (IsAlike a)
 
 -- alike states are in one class
 abbrev pub KeepsAlike : Automaton → List ℕ → Type 0
-KeepsAlike a classes = (x y : ℕ) → x < length a.states → y < length a.states → IsAlike a x y → class_in classes x ≡ class_in classes y
+KeepsAlike a classes = (x y : ℕ) → x < length a.states → y < length a.states → IsAlike a x y
+    → class_in classes x ≡ class_in classes y

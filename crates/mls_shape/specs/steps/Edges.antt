@@ -39,7 +39,8 @@ pub record AddsHolders (old new : List (List ℕ)) (IsAdded : ℕ → ℕ → Ty
 -- for each of so many states those of the first sets that have it
 pub record AreHolders (sets : List SetState) (count upto : ℕ) (holders : List (List ℕ)) : Type 0 where
   pub same_length : length holders ≡ count
-  pub just : (u j : ℕ) → j < count → Contains (get_or holders j []) u ↔ ((u < upto) × Contains (set_at sets u).members j)
+  pub just : (u j : ℕ) → j < count
+      → Contains (get_or holders j []) u ↔ ((u < upto) × Contains (set_at sets u).members j)
 
 -- a partner of the state is in the list's set
 abbrev pub IsHolder : Automaton → List (List ℕ) → ℕ → ℕ → Type 0

@@ -8,7 +8,8 @@ use Rattle.mls_shape.specs.steps.Registers.{IsAt, Grows}
 -- the same binders, each with the number of the set of its state alone
 abbrev pub AreEntriesOf : List SetState → List EnvEntry → List EnvEntry → Type 0
 AreEntriesOf sets [] [] = Unit {0}
-AreEntriesOf sets (e ∷ env) (f ∷ row) = (e.binder ≡ f.binder) × IsAt sets f.state.0 Negative (e.state.0 ∷ []) × AreEntriesOf sets env row
+AreEntriesOf sets (e ∷ env) (f ∷ row) = (e.binder ≡ f.binder) × IsAt sets f.state.0 Negative (e.state.0 ∷ [])
+    × AreEntriesOf sets env row
 AreEntriesOf sets _ _ = ⊥
 
 -- a binder has this state

@@ -1,5 +1,6 @@
 -- The graph of a deterministic automaton: a node for each state, and one for each place at which a head names a state.
-use Rattle.std.specs.Prelude.{◌≡◌, ◌⊎◌, ◌↔◌, ℕ, ◌+◌, ◌<◌, List, [], ◌∷◌, ◌++◌, length, get_or, map, Contains, Option, Some, None}
+use Rattle.std.specs.Prelude.{◌≡◌, ◌⊎◌, ◌↔◌, ℕ, ◌+◌, ◌<◌, List, [], ◌∷◌, ◌++◌, length, get_or, map, Contains, Option}
+use Rattle.std.specs.Prelude.{Some, None}
 use Rattle.mls_automaton.specs.declared.automaton.Arms.{Arms}
 use Rattle.mls_automaton.specs.declared.automaton.FieldSet.{FieldSet}
 use Rattle.mls_automaton.specs.declared.automaton.Head.{Head}
@@ -29,7 +30,8 @@ abbrev pub AreEdges : Automaton → ℕ → List Edge → Type 0
 AreEdges a upto edges = (e : Edge) → Contains edges e ↔ ((e.source < upto) × IsPlace (children (head_at a e.source)) e)
 
 abbrev pub AddsEdges : ℕ → List ℕ → List Edge → List Edge → Type 0
-AddsEdges source named old new = (e : Edge) → Contains new e ↔ (Contains old e ⊎ ((e.source ≡ source) × IsPlace named e))
+AddsEdges source named old new =
+    (e : Edge) → Contains new e ↔ (Contains old e ⊎ ((e.source ≡ source) × IsPlace named e))
 
 -- the edge of this number
 abbrev pub edge_at : List Edge → ℕ → Edge
@@ -44,12 +46,14 @@ IsParentBy e node parent child = ((parent ≡ node) × (child ≡ e.target)) ⊎
 
 pub record AddsParents (e : Edge) (node : ℕ) (old new : List (List ℕ)) : Type 0 where
   pub size : length new ≡ length old
-  pub just : (x k : ℕ) → k < length old → Contains (listed new k) x ↔ (Contains (listed old k) x ⊎ IsParentBy e node x k)
+  pub just : (x k : ℕ) → k < length old
+      → Contains (listed new k) x ↔ (Contains (listed old k) x ⊎ IsParentBy e node x k)
 
 -- the parents of each node, by the first edges
 pub record AreParents (states : ℕ) (edges : List Edge) (upto : ℕ) (parents : List (List ℕ)) : Type 0 where
   pub size : length parents ≡ states + length edges
-  pub just : (x k : ℕ) → k < states + length edges → Contains (listed parents k) x ↔ ((j : ℕ) × (j < upto) × IsParentBy (edge_at edges j) (states + j) x k)
+  pub just : (x k : ℕ) → k < states + length edges
+      → Contains (listed parents k) x ↔ ((j : ℕ) × (j < upto) × IsParentBy (edge_at edges j) (states + j) x k)
 
 -- the block of an edge at the beginning
 abbrev pub colour : ℕ → Edge → ℕ

@@ -15,12 +15,14 @@ IsOne sets p members set = (n : ℕ) × (set ≡ n ∷ []) × IsAt sets n p memb
 
 abbrev pub IsFunctionOf : List SetState → Polarity → Option Arms → Option Arms → Type 0
 IsFunctionOf sets p None None = Unit {0}
-IsFunctionOf sets p (Some arms) (Some row) = IsOne sets (opposite p) arms.domain row.domain × IsOne sets p arms.codomain row.codomain
+IsFunctionOf sets p (Some arms) (Some row) =
+    IsOne sets (opposite p) arms.domain row.domain × IsOne sets p arms.codomain row.codomain
 IsFunctionOf sets p _ _ = ⊥
 
 abbrev pub AreFieldsOf : List SetState → Polarity → List FieldSet → List FieldSet → Type 0
 AreFieldsOf sets p [] [] = Unit {0}
-AreFieldsOf sets p (f ∷ fields) (g ∷ row) = (f.label ≡ g.label) × IsOne sets p f.set g.set × AreFieldsOf sets p fields row
+AreFieldsOf sets p (f ∷ fields) (g ∷ row) =
+    (f.label ≡ g.label) × IsOne sets p f.set g.set × AreFieldsOf sets p fields row
 AreFieldsOf sets p _ _ = ⊥
 
 abbrev pub IsRecordOf : List SetState → Polarity → Option (List FieldSet) → Option (List FieldSet) → Type 0
@@ -45,15 +47,18 @@ pub record NumbersArms (p : Polarity) (arms : Arms) (old new : List SetState) (r
   pub domain : IsOne new (opposite p) arms.domain row.domain
   pub codomain : IsOne new p arms.codomain row.codomain
 
-pub record NumbersFunction (p : Polarity) (function : Option Arms) (old new : List SetState) (row : Option Arms) : Type 0 where
+pub record NumbersFunction (p : Polarity) (function : Option Arms) (old new : List SetState)
+    (row : Option Arms) : Type 0 where
   pub grows : Grows (InFunction row) old new
   pub is : IsFunctionOf new p function row
 
-pub record NumbersFields (p : Polarity) (fields : List FieldSet) (old new : List SetState) (row : List FieldSet) : Type 0 where
+pub record NumbersFields (p : Polarity) (fields : List FieldSet) (old new : List SetState)
+    (row : List FieldSet) : Type 0 where
   pub grows : Grows (InAnyField row) old new
   pub is : AreFieldsOf new p fields row
 
-pub record NumbersRecord (p : Polarity) (fields : Option (List FieldSet)) (old new : List SetState) (row : Option (List FieldSet)) : Type 0 where
+pub record NumbersRecord (p : Polarity) (fields : Option (List FieldSet)) (old new : List SetState)
+    (row : Option (List FieldSet)) : Type 0 where
   pub grows : Grows (InRecord row) old new
   pub is : IsRecordOf new p fields row
 

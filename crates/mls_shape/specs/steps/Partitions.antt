@@ -30,7 +30,8 @@ HoldsInBlock blocks block nodes kept = (v : ℕ) → Contains kept v ↔ (Contai
 
 -- a node comes to the list if it is in the block
 abbrev pub AddsIfInBlock : List ℕ → ℕ → ℕ → List ℕ → List ℕ → Type 0
-AddsIfInBlock blocks block v old new = (u : ℕ) → Contains new u ↔ (Contains old u ⊎ ((u ≡ v) × IsInBlock blocks block u))
+AddsIfInBlock blocks block v old new =
+    (u : ℕ) → Contains new u ↔ (Contains old u ⊎ ((u ≡ v) × IsInBlock blocks block u))
 
 -- a new block for nodes of this one
 pub record OpensPart (block : ℕ) (old new : Partition) : Type 0 where

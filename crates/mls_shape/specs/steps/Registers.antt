@@ -37,11 +37,13 @@ number_in register = get (slice_cmp nat_cmp) register.numbers
 pub record IsRegister (register : Register) : Type 0 where
   pub rising : All (λ set. Rises set.members) (sets_in register)
   pub numbered : (n : ℕ) → n < length (keys_in register) → number_in register (key_at (keys_in register) n) ≡ Some n
-  pub found : (key : List ℕ) (n : ℕ) → number_in register key ≡ Some n → (n < length (keys_in register)) × (key_at (keys_in register) n ≡ key)
+  pub found : (key : List ℕ) (n : ℕ) → number_in register key ≡ Some n
+      → (n < length (keys_in register)) × (key_at (keys_in register) n ≡ key)
 
 -- the set of this number has this polarity and these members
 abbrev pub IsAt : List SetState → ℕ → Polarity → List ℕ → Type 0
-IsAt sets n p members = (n < length sets) × ((d : SetState) → get_or sets n d ≡ record { polarity = p; members = members })
+IsAt sets n p members = (n < length sets)
+    × ((d : SetState) → get_or sets n d ≡ record { polarity = p; members = members })
 
 -- sets came behind those that were there, and the numbers of all new ones are such
 pub record Grows (IsSuch : ℕ → Type 0) (old new : List SetState) : Type 0 where

@@ -14,7 +14,8 @@ subcommand name operands = record (new_shape name) { rules = map one_word operan
 
 -- the subcommands that are asked of one module
 abbrev pub module_subcommands : List Shape
-module_subcommands = subcommand (codes "infer") (codes "NAME" ∷ []) ∷ subcommand (codes "check") (codes "NAME" ∷ []) ∷ []
+module_subcommands = subcommand (codes "infer") (codes "NAME" ∷ []) ∷ subcommand (codes "check")
+    (codes "NAME" ∷ []) ∷ []
 
 -- the table of the subcommands
 abbrev pub subcommands : List Shape
