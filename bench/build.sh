@@ -3,7 +3,8 @@
 #
 #     sh bench/build.sh crates/mlsub PROGRAM
 #
-# `rt try` translates the crate; its bitcode is compiled here as it stands, without the checks that `rt try` adds.
+# `rt try` translates the crate; its bitcode is compiled here as it stands, without the checks that `rt try` adds,
+# and optimised as the kit's compiler does.
 set -u
 [ $# -eq 2 ] || { echo "usage: sh bench/build.sh CRATE PROGRAM" >&2; exit 2; }
 program=$(readlink -f "$2") || exit 2
@@ -23,4 +24,4 @@ while kill -0 $trying 2>/dev/null; do
 done
 module=$(ls -S "$work"/*.bc 2>/dev/null | head -n 1)
 [ -n "$module" ] || { cat "$work/told" >&2; exit 1; }
-"$kit/toolchain/bin/clang" -O1 -o "$program" "$module" "$kit/c/libos_c.a" "$kit/c/liblibc_c.a"
+"$kit/toolchain/bin/clang" -O3 -o "$program" "$module" "$kit/c/libos_c.a" "$kit/c/liblibc_c.a"

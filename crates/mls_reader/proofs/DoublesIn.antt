@@ -84,9 +84,9 @@ new-among x first others names e is none =
     sym (ap (λ ns. not (list_any (bytes_eq x) ns)) (sym is ∙ ap (λ f. names_of f others) e) ∙ ap not none)
 
 -- nor is it known where the first one is another
-pub new-behind : (x : List ℕ) (first : Option (List ℕ)) (f : List ℕ) (others names : List (List ℕ)) → first ≡ Some f → names_of first others ≡ names → bytes_eq x f ≡ false → list_any (bytes_eq x) others ≡ false → true ≡ not (list_any (bytes_eq x) names)
-new-behind x first f others names e is other none =
-    sym (ap (λ ns. not (list_any (bytes_eq x) ns)) (sym is ∙ ap (λ f. names_of f others) e) ∙ (ap (λ b. not (b || list_any (bytes_eq x) others)) other ∙ ap not none))
+pub new-behind : (x : List ℕ) (first : Option (List ℕ)) (f : List ℕ) (others names : List (List ℕ)) (new : Bool) → first ≡ Some f → names_of first others ≡ names → bytes_eq x f ≡ false → new ≡ not (list_any (bytes_eq x) others) → new ≡ not (list_any (bytes_eq x) names)
+new-behind x first f others names new e is other fresh =
+    fresh ∙ sym (ap (λ ns. not (list_any (bytes_eq x) ns)) (sym is ∙ ap (λ f. names_of f others) e) ∙ ap (λ b. not (b || list_any (bytes_eq x) others)) other)
 
 -- and it is added behind that one
 pub same-behind : (x : List ℕ) (first : Option (List ℕ)) (f : List ℕ) (others names more : List (List ℕ)) → first ≡ Some f → names_of first others ≡ names → HasSameNames (x ∷ others) more → HasSameNames (x ∷ names) (names_of first more)

@@ -6,8 +6,8 @@ ghost use Rattle.mls_reader.specs.steps.GivenTwice.{doubles_in, first_of, fault_
 ghost use Rattle.mls_reader.specs.steps.GivenTwice.{HasSameNames};
 
 use crate::piece::Event;
+use crate::spelling::Spelling;
 use mls_base::memory::Memory;
-use mls_book::name::Name;
 use mls_grammar::fault::Fault;
 use std::alloc::Global;
 use std::collections::BTreeSet;
@@ -16,12 +16,12 @@ use std::marker::Model;
 // Names that were given, each once. Contracts see them in a list. The first one stands alone, since most records have
 // few labels, and a set takes memory for more than one.
 #[derive(Drop)]
-struct Names {
-    first: Option<Name>,
-    others: BTreeSet<Name>,
+struct Names<'a> {
+    first: Option<Spelling<'a>>,
+    others: BTreeSet<Spelling<'a>>,
 }
 
-impl Model for Names {
+impl<'a> Model for Names<'a> {
     ghost use Rattle.std.specs.Prelude.{List, ℕ};
     ghost use Rattle.mls_reader.specs.steps.GivenTwice.{names_of};
 
@@ -30,9 +30,9 @@ impl Model for Names {
     ghost view = { λ names. names_of names.first names.others.keys };
 }
 
-impl Names {
+impl<'a> Names<'a> {
     // No name.
-    fn new(alloc: Global) -> Names
+    fn new(alloc: Global) -> Names<'a>
         ensures { result ≡ [] }
     {
         Names {
@@ -42,15 +42,15 @@ impl Names {
     }
 
     // Adds a name, and says whether it is new.
-    fn add(&mut self, name: Name) -> Result<bool, Memory>
-        ensures new { IfOk result (λ new. new ≡ not (list_any (bytes_eq name) self.old)) }
-        ensures names { OnOk result (HasSameNames (name ∷ self.old) self.new) }
+    fn add(&mut self, name: Spelling<'a>) -> Result<bool, Memory>
+        ensures new { IfOk result (λ new. new ≡ not (list_any (bytes_eq name.entry) self.old)) }
+        ensures names { OnOk result (HasSameNames (name.entry ∷ self.old) self.new) }
     {
-        if self.others.contains(&name) {
-            return Ok(false);
-        }
         match &self.first {
             None => {
+                if self.others.contains(&name) {
+                    return Ok(false);
+                }
                 self.first = Some(name);
                 Ok(true)
             }
@@ -58,8 +58,7 @@ impl Names {
                 if *first == name {
                     return Ok(false);
                 }
-                self.others.insert(name)?;
-                Ok(true)
+                Ok(self.others.insert(name)?)
             }
         }
     }
@@ -68,17 +67,17 @@ impl Names {
 // What was given so far: the imported modules, the bound names, and the labels of the records that are open, the
 // innermost record last.
 #[derive(Drop)]
-struct Given {
-    imports: Names,
-    bindings: Names,
-    records: Vec<Names>,
+struct Given<'a> {
+    imports: Names<'a>,
+    bindings: Names<'a>,
+    records: Vec<Names<'a>>,
 }
 
-impl Given {
+impl<'a> Given<'a> {
     // Takes what is given next, and tells the fault if it was given before.
-    fn take(&mut self, alloc: Global, event: Event) -> Result<Option<Fault>, Memory>
+    fn take(&mut self, alloc: Global, event: Event<'a>) -> Result<Option<Fault>, Memory>
         ensures { IfOk result (λ fault. (rest : List Next)
-            → doubles_in self.old.imports self.old.bindings (reverse self.old.records.items) (event ∷ rest)
+            → doubles_in self.old.imports self.old.bindings (reverse self.old.records.items) (event.entry ∷ rest)
             ≡ fault_before fault (doubles_in self.new.imports self.new.bindings
             (reverse self.new.records.items) rest)) }
     {
@@ -107,8 +106,8 @@ impl Given {
     }
 
     // Adds a label to the innermost record that is open, and says whether it is new there.
-    fn add_label(&mut self, name: Name) -> Result<bool, Memory>
-        ensures labels { IfOk result (AddsLabel name (reverse self.old.records.items)
+    fn add_label(&mut self, name: Spelling<'a>) -> Result<bool, Memory>
+        ensures labels { IfOk result (AddsLabel name.entry (reverse self.old.records.items)
             (reverse self.new.records.items)) }
         ensures others { OnOk result ((self.new.imports ≡ self.old.imports) × (self.new.bindings ≡ self.old.bindings)) }
     {
@@ -131,8 +130,8 @@ fn fault_unless(new: bool, fault: Fault) -> Option<Fault>
 }
 
 /// The fault of the first name or label that is given a second time.
-pub fn first_double(alloc: Global, events: Vec<Event>) -> Result<Option<Fault>, Memory>
-    ensures { IfOk result (λ double. double ≡ first_of (doubles_in [] [] [] events.items)) }
+pub fn first_double<'a>(alloc: Global, events: Vec<Event<'a>>) -> Result<Option<Fault>, Memory>
+    ensures { IfOk result (λ double. double ≡ first_of (doubles_in [] [] [] events.entry.items)) }
 {
     let mut given = Given {
         imports: Names::new(alloc),

@@ -6,6 +6,7 @@ mod nodes;
 pub mod parse;
 mod piece;
 mod read;
+mod spelling;
 mod todo;
 
 pub use mls_grammar::fault::Fault;

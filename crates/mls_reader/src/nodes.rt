@@ -21,11 +21,11 @@ use std::mem;
 
 // What stands before the pieces that were read from the back.
 #[derive(Drop)]
-enum Later {
+enum Later<'a> {
     // The pieces of a part, which are still to be read.
     Part,
     // A piece that is to be told before the next part is read.
-    Tell(Piece),
+    Tell(Piece<'a>),
 }
 
 /// The module that the pieces tell.
@@ -33,8 +33,8 @@ enum Later {
 /// # Errors
 ///
 /// `Memory` where memory is wanting.
-pub fn module_of(alloc: Global, pieces: Vec<Piece>) -> Result<Module, Memory>
-    ensures { IfOk result (λ m. (tree : SourceTree) → TellsSource pieces.items tree → m ≡ module_of tree) }
+pub fn module_of<'a>(alloc: Global, pieces: Vec<Piece<'a>>) -> Result<Module, Memory>
+    ensures { IfOk result (λ m. (tree : SourceTree) → TellsSource pieces.entry.items tree → m ≡ module_of tree) }
 {
     if has_operators(&pieces) {
         let backward = arrange(alloc, pieces)?;
@@ -45,22 +45,22 @@ pub fn module_of(alloc: Global, pieces: Vec<Piece>) -> Result<Module, Memory>
 }
 
 // Whether an operator is among the pieces. Without one they are in the order of the nodes.
-fn has_operators(pieces: &[Piece]) -> bool
+fn has_operators<'a>(pieces: &[Piece<'a>]) -> bool
     ensures { result ≡ list_any is_operator (reverse pieces.now) }
 {
     pieces.iter().rev().any(|piece| is_operator(piece))
 }
 
 // Whether the piece is an operator behind its operands.
-fn is_operator(piece: &Piece) -> bool
+fn is_operator<'a>(piece: &Piece<'a>) -> bool
     ensures { result ≡ is_operator piece.now }
 {
     matches!(piece, Piece::Binary(..))
 }
 
 // The pieces in the order of the nodes, from the last to the first: there an operator stands before its operands.
-fn arrange(alloc: Global, pieces: Vec<Piece>) -> Result<Vec<Piece>, Memory>
-    ensures { IfOk result (λ backward. backward.items ≡ arrangement [] (reverse pieces.items)) }
+fn arrange<'a>(alloc: Global, pieces: Vec<Piece<'a>>) -> Result<Vec<Piece<'a>>, Memory>
+    ensures { IfOk result (λ backward. backward.items ≡ arrangement [] (reverse pieces.entry.items)) }
 {
     let mut pieces = pieces;
     let mut later = Vec::new(alloc);
@@ -75,7 +75,7 @@ fn arrange(alloc: Global, pieces: Vec<Piece>) -> Result<Vec<Piece>, Memory>
 }
 
 // Tells what is to be told before the next part, and takes it and the part off the stack.
-fn tell(later: &mut Vec<Later>, backward: &mut Vec<Piece>) -> Result<(), Memory>
+fn tell<'a>(later: &mut Vec<Later<'a>>, backward: &mut Vec<Piece<'a>>) -> Result<(), Memory>
     ensures told { OnOk result (backward.new.items ≡ backward.old.items ++ told (reverse later.old.items)) }
     ensures left { OnOk result (reverse later.new.items ≡ left (reverse later.old.items)) }
 {
@@ -89,9 +89,13 @@ fn tell(later: &mut Vec<Later>, backward: &mut Vec<Piece>) -> Result<(), Memory>
 }
 
 // Tells the last piece of a part, and puts on the stack what stands before it.
-fn place(later: &mut Vec<Later>, backward: &mut Vec<Piece>, piece: Piece) -> Result<(), Memory>
-    ensures told { OnOk result (backward.new.items ≡ backward.old.items ++ node_piece piece ∷ []) }
-    ensures fronts { OnOk result (reverse later.new.items ≡ fronts piece ++ reverse later.old.items) }
+fn place<'a>(
+    later: &mut Vec<Later<'a>>,
+    backward: &mut Vec<Piece<'a>>,
+    piece: Piece<'a>,
+) -> Result<(), Memory>
+    ensures told { OnOk result (backward.new.items ≡ backward.old.items ++ node_piece piece.entry ∷ []) }
+    ensures fronts { OnOk result (reverse later.new.items ≡ fronts piece.entry ++ reverse later.old.items) }
 {
     match piece {
         Piece::Binary(at, op) => {
@@ -110,7 +114,7 @@ fn place(later: &mut Vec<Later>, backward: &mut Vec<Piece>, piece: Piece) -> Res
 }
 
 // Puts this many parts on the stack.
-fn put_parts(later: &mut Vec<Later>, count: usize) -> Result<(), Memory>
+fn put_parts<'a>(later: &mut Vec<Later<'a>>, count: usize) -> Result<(), Memory>
     ensures { OnOk result (reverse later.new.items ≡ parts count ++ reverse later.old.items) }
 {
     for _ in 0..count {
@@ -120,7 +124,7 @@ fn put_parts(later: &mut Vec<Later>, count: usize) -> Result<(), Memory>
 }
 
 // How many parts stand before the piece.
-fn part_count(piece: &Piece) -> usize
+fn part_count<'a>(piece: &Piece<'a>) -> usize
     ensures { result ≡ part_count piece.now }
 {
     match piece {
@@ -161,8 +165,8 @@ impl Model for Linker {
 }
 
 // The module of the pieces in the order of the nodes.
-fn link(alloc: Global, pieces: Vec<Piece>) -> Result<Module, Memory>
-    ensures { IfOk result (λ m. m ≡ module_linked (linked link_start pieces.items)) }
+fn link<'a>(alloc: Global, pieces: Vec<Piece<'a>>) -> Result<Module, Memory>
+    ensures { IfOk result (λ m. m ≡ module_linked (linked link_start pieces.entry.items)) }
 {
     let mut linker = Linker::new(alloc);
     for piece in pieces {
@@ -172,8 +176,8 @@ fn link(alloc: Global, pieces: Vec<Piece>) -> Result<Module, Memory>
 }
 
 // The module of the pieces in the order of the nodes, which are given from the last to the first.
-fn link_backward(alloc: Global, backward: Vec<Piece>) -> Result<Module, Memory>
-    ensures { IfOk result (λ m. m ≡ module_linked (linked link_start (reverse backward.items))) }
+fn link_backward<'a>(alloc: Global, backward: Vec<Piece<'a>>) -> Result<Module, Memory>
+    ensures { IfOk result (λ m. m ≡ module_linked (linked link_start (reverse backward.entry.items))) }
 {
     let mut backward = backward;
     let mut linker = Linker::new(alloc);
@@ -199,34 +203,37 @@ impl Linker {
     }
 
     // Takes the next piece.
-    fn join(&mut self, alloc: Global, piece: Piece) -> Result<(), Memory>
-        ensures { OnOk result (self.new ≡ joined piece self.old) }
+    fn join<'a>(&mut self, alloc: Global, piece: Piece<'a>) -> Result<(), Memory>
+        ensures { OnOk result (self.new ≡ joined piece.entry self.old) }
     {
         match piece {
-            Piece::Name(at, x) => self.grow(at, Form::Var(x)),
+            Piece::Name(at, x) => self.grow(at, Form::Var(x.name(alloc)?)),
             Piece::Operator(at, op) => self.grow(at, Form::Operator(op)),
             Piece::Number(at, value) => self.grow(at, Form::Number(value)),
             Piece::Truth(at, value) => self.grow(at, Form::Truth(value)),
             Piece::Fun(at, x) => {
                 let body = self.root();
-                self.grow(at, Form::Fun(x, body))
+                self.grow(at, Form::Fun(x.name(alloc)?, body))
             }
             Piece::Rec(at, x) => {
                 let body = self.root();
-                self.grow(at, Form::Rec(x, body))
+                self.grow(at, Form::Rec(x.name(alloc)?, body))
             }
             Piece::Project(at, label) => {
                 let record = self.root();
-                self.grow(at, Form::Project(record, label))
+                self.grow(at, Form::Project(record, label.name(alloc)?))
             }
-            Piece::Let(at, x) => self.local(at, x),
+            Piece::Let(at, x) => self.local(at, x.name(alloc)?),
             Piece::If(at) => self.choice(at),
             Piece::Apply(at) => self.apply(at),
             Piece::Last => self.open(alloc),
-            Piece::Field(label) => self.part(alloc, label),
+            Piece::Field(label) => self.part(alloc, label.name(alloc)?),
             Piece::Make(at) => self.make(alloc, at),
-            Piece::Import(at, name) => self.imports.push(Import { name, at }),
-            Piece::Binding(at, name) => self.binding(alloc, at, name),
+            Piece::Import(at, name) => {
+                let name = name.name(alloc)?;
+                self.imports.push(Import { name, at })
+            }
+            Piece::Binding(at, name) => self.binding(alloc, at, name.name(alloc)?),
             // No operator has its operands with it by now.
             Piece::Binary(..) => Ok(()),
         }

@@ -1,53 +1,44 @@
 //! The tokens of a module, read from the front to the pieces that they tell.
-ghost use Rattle.std.specs.Prelude.{◌≡◌, ◌≢◌, ◌≤◌, ◌++◌, [], ◌∷◌, ℕ, List, false, IfOk, IfErr, OnOk, slice_range};
-ghost use Rattle.mls_lexer.specs.Tokens.{IsToken, IsTokens, terminal, terminal_of};
-ghost use Rattle.mls_reader.specs.steps.PieceMachine.{a, arguments_of, compare_row, sum_row, product_row, apply_row};
-ghost use Rattle.mls_reader.specs.steps.PieceMachine.{acts, atom_acts, imports_acts, import_acts, bindings_acts};
-ghost use Rattle.mls_reader.specs.steps.PieceMachine.{bind_rest_acts, binding_acts, expr_acts, fun_acts, fix_acts};
-ghost use Rattle.mls_reader.specs.steps.PieceMachine.{let_acts, local_acts, compare_tail_acts, sum_tail_acts};
-ghost use Rattle.mls_reader.specs.steps.PieceMachine.{product_tail_acts, dots_acts, label_acts, parts_acts};
-ghost use Rattle.mls_reader.specs.steps.PieceMachine.{more_parts_acts, part_acts};
+ghost use Rattle.std.specs.Prelude.{◌≢◌, IfOk, IfErr, OnOk};
+ghost use Rattle.mls_lexer.specs.Tokens.{IsToken, IsTokens};
 ghost use Rattle.mls_grammar.specs.GrammarFaults.{HasGrammarFault};
-ghost use Rattle.mls_reader.specs.steps.Todos.{part_of, todo_of, stack_of, operand_sort, tail_sort, is_deep};
-ghost use Rattle.mls_reader.specs.steps.PieceReaders.{if_row, ReadsSource, name_in, leaf, Acted, Tried, Refused, Went};
-ghost use Rattle.mls_reader.specs.steps.PieceReaders.{Stopped, Finished, IsNew, Puts, PutsRow, PutsAndTells};
+ghost use Rattle.mls_reader.specs.steps.Todos.{part_of, todo_of};
+ghost use Rattle.mls_reader.specs.steps.PieceReaders.{ReadsSource, Tried, Refused, Went, Stopped, Finished, IsNew};
+ghost use Rattle.mls_reader.specs.steps.PieceReaders.{Puts};
 
 use crate::piece::{Event, Piece};
-use crate::todo::{Depth, Operand, PiecePart, Tail, Todo, Word};
+use crate::todo::{PiecePart, Todo};
 use mls_base::memory::Memory;
-use mls_book::name::Name;
 use mls_grammar::fault::Fault;
-use mls_grammar::module::Op;
-use mls_lexer::number::number_of;
-use mls_lexer::token::{Kind, Token};
+use mls_lexer::token::Token;
 use std::alloc::Global;
 
 mod begin;
 
 // What is still to do, the next last, and what was told and given so far.
 #[derive(Drop)]
-struct ModuleReader {
-    stack: Vec<Todo>,
-    pieces: Vec<Piece>,
-    events: Vec<Event>,
+struct ModuleReader<'a> {
+    stack: Vec<Todo<'a>>,
+    pieces: Vec<Piece<'a>>,
+    events: Vec<Event<'a>>,
 }
 
 /// What was read: the pieces of a module, each behind those that it is made of, and the names and labels that it gives.
 #[derive(Drop)]
-pub struct SourcePieces {
-    pub pieces: Vec<Piece>,
-    pub events: Vec<Event>,
+pub struct SourcePieces<'a> {
+    pub pieces: Vec<Piece<'a>>,
+    pub events: Vec<Event<'a>>,
 }
 
 /// Reads the tokens of a module. It takes no recursion.
-pub fn read(alloc: Global, text: &[u8], tokens: &[Token]) -> Result<SourcePieces, Fault>
+pub fn read<'a>(alloc: Global, text: &'a [u8], tokens: &[Token]) -> Result<SourcePieces<'a>, Fault>
     requires { IsTokens text.now tokens.now }
     ensures read { IfOk result (λ r. ReadsSource text.now tokens.now r.pieces.items r.events.items) }
     ensures fault { IfErr result (λ fault. fault ≢ Fault.Memory → HasGrammarFault text.now tokens.now fault) }
 {
     let mut reader = ModuleReader::new(alloc, tokens.len())?;
     for token in tokens {
-        reader.read_token(alloc, text, *token)?;
+        reader.read_token(text, *token)?;
     }
     if !reader.finish()? {
         return Err(Fault::Ended);
@@ -60,9 +51,9 @@ pub fn read(alloc: Global, text: &[u8], tokens: &[Token]) -> Result<SourcePieces
     Ok(SourcePieces { pieces, events })
 }
 
-impl ModuleReader {
+impl<'a> ModuleReader<'a> {
     // A reader before the first of so many tokens. Most of them tell one piece or less.
-    fn new(alloc: Global, tokens: usize) -> Result<ModuleReader, Memory>
+    fn new(alloc: Global, tokens: usize) -> Result<ModuleReader<'a>, Memory>
         ensures { IfOk result IsNew }
     {
         let mut stack = Vec::new(alloc);
@@ -76,13 +67,13 @@ impl ModuleReader {
     }
 
     // Reads one token: tells what is over before it, and puts what is left to come behind it on the stack.
-    fn read_token(&mut self, alloc: Global, text: &[u8], token: Token) -> Result<(), Fault>
+    fn read_token(&mut self, text: &'a [u8], token: Token) -> Result<(), Fault>
         requires { IsToken text.now token }
         ensures went { OnOk result (Went text.now token self.old self.new) }
         ensures stopped { IfErr result (λ fault. fault ≢ Fault.Memory → Stopped text.now token self.old fault) }
     {
         while let Some(todo) = self.stack.pop() {
-            if self.read_todo(alloc, text, token, todo)? {
+            if self.read_todo(text, token, todo)? {
                 return Ok(());
             }
         }
@@ -90,19 +81,14 @@ impl ModuleReader {
     }
 
     // Reads the token as the first of what was to do next, or else goes over that, if it may be empty.
-    fn read_todo(
-        &mut self,
-        alloc: Global,
-        text: &[u8],
-        token: Token,
-        todo: Todo,
-    ) -> Result<bool, Fault>
+    fn read_todo(&mut self, text: &'a [u8], token: Token, todo: Todo<'a>) -> Result<bool, Fault>
         requires { IsToken text.now token }
-        ensures tried { IfOk result (λ begun. Tried text.now token (todo_of todo) self.old self.new begun) }
-        ensures refused { IfErr result (λ fault. fault ≢ Fault.Memory → Refused text.now token (todo_of todo) fault) }
+        ensures tried { IfOk result (λ begun. Tried text.now token (todo_of todo.entry) self.old self.new begun) }
+        ensures refused { IfErr result (λ fault. fault ≢ Fault.Memory
+            → Refused text.now token (todo_of todo.entry) fault) }
     {
         match todo {
-            Todo::Read(part) => self.read_part(alloc, text, token, part),
+            Todo::Read(part) => self.read_part(text, token, part),
             Todo::Tell(piece) => {
                 self.pieces.push(piece)?;
                 Ok(false)
@@ -111,13 +97,7 @@ impl ModuleReader {
     }
 
     // Reads the token as the first of the part, or else goes over the part, if it may be empty.
-    fn read_part(
-        &mut self,
-        alloc: Global,
-        text: &[u8],
-        token: Token,
-        part: PiecePart,
-    ) -> Result<bool, Fault>
+    fn read_part(&mut self, text: &'a [u8], token: Token, part: PiecePart) -> Result<bool, Fault>
         requires { IsToken text.now token }
         ensures tried { IfOk result (λ begun. Tried text.now token (part_of part) self.old self.new begun) }
         ensures refused { IfErr result (λ fault. fault ≢ Fault.Memory → Refused text.now token (part_of part) fault) }
@@ -126,7 +106,7 @@ impl ModuleReader {
             return Err(Fault::TooDeep(token.start));
         }
         let empty = part.may_be_empty();
-        let begun = self.begin(alloc, text, token, part)?;
+        let begun = self.begin(text, token, part)?;
         if !begun && !empty {
             return Err(Fault::Unexpected(token.start, token.kind));
         }
@@ -150,26 +130,12 @@ impl ModuleReader {
         Ok(true)
     }
 
-    // Puts a row on the stack, the next one last.
+    // Puts on the stack what is to do next.
     #[inline(always)]
-    fn put<const N: usize>(&mut self, row: [Todo; N]) -> Result<(), Memory>
-        requires { N ≤ 6 }
-        ensures { OnOk result (Puts row.entry self.old self.new) }
+    fn put(&mut self, todo: Todo<'a>) -> Result<(), Memory>
+        ensures { OnOk result (Puts todo.entry self.old self.new) }
     {
-        for todo in row {
-            self.stack.push(todo)?;
-        }
-        Ok(())
-    }
-
-    // Tells a piece, and puts the row that follows it on the stack, the next one last.
-    #[inline(always)]
-    fn tell<const N: usize>(&mut self, row: [Todo; N], piece: Piece) -> Result<(), Memory>
-        requires { N ≤ 6 }
-        ensures { OnOk result (PutsAndTells row.entry piece self.old self.new) }
-    {
-        self.put(row)?;
-        self.pieces.push(piece)?;
+        self.stack.push(todo)?;
         Ok(())
     }
 }

@@ -102,6 +102,17 @@ pub enum Tail {
     Dots,
 }
 
+/// What may follow an atom, up to the end of the operand that it begins, or of the argument of the application at this
+/// place.
+#[derive(Clone, Copy)]
+pub enum Follower {
+    Compare,
+    Sum,
+    Product,
+    Apply,
+    Argument(usize),
+}
+
 /// A word or a symbol that has to come.
 #[derive(Clone, Copy)]
 pub enum Word {
@@ -115,9 +126,9 @@ pub enum Word {
 
 /// What is still to do: a part has to come, or a piece is told once what stands before it is over.
 #[derive(Drop)]
-pub enum Todo {
+pub enum Todo<'a> {
     Read(PiecePart),
-    Tell(Piece),
+    Tell(Piece<'a>),
 }
 
 impl PiecePart {

@@ -12,7 +12,7 @@ use Rattle.mls_reader.specs.declared.piece.Event.{Event}
 use Rattle.mls_reader.specs.declared.todo.Todo.{Todo as Kept}
 use Rattle.mls_reader.specs.declared.read.ModuleReader.{ModuleReader}
 use Rattle.mls_grammar.specs.Phrases.{Phrase, source, expr, yields, nesting}
-use Rattle.mls_reader.specs.steps.Todos.{stack_of, may_be_empty}
+use Rattle.mls_reader.specs.steps.Todos.{todo_of, stack_of, may_be_empty}
 use Rattle.mls_reader.specs.steps.PieceMachine.{Todo, a, the_then, the_else, tell, Act, acts, State, advance, build}
 use Rattle.mls_reader.specs.steps.PieceMachine.{last_told, beginning}
 
@@ -27,9 +27,9 @@ pub record IsNew (reader : ModuleReader) : Type 0 where
   pub pieces : reader.pieces.items ≡ []
   pub events : reader.events.items ≡ []
 
--- the row was put on the stack, and nothing else was changed
-pub record Puts (row : List Kept) (old new : ModuleReader) : Type 0 where
-  pub stack : stack_of new.stack.items ≡ stack_of row ++ stack_of old.stack.items
+-- this was put on the stack, and nothing else was changed
+pub record Puts (todo : Kept) (old new : ModuleReader) : Type 0 where
+  pub stack : stack_of new.stack.items ≡ todo_of todo ∷ stack_of old.stack.items
   pub pieces : new.pieces.items ≡ old.pieces.items
   pub events : new.events.items ≡ old.events.items
 
@@ -37,12 +37,6 @@ pub record Puts (row : List Kept) (old new : ModuleReader) : Type 0 where
 pub record PutsRow (row : List Todo) (old new : ModuleReader) : Type 0 where
   pub stack : stack_of new.stack.items ≡ row ++ stack_of old.stack.items
   pub pieces : new.pieces.items ≡ old.pieces.items
-  pub events : new.events.items ≡ old.events.items
-
--- the row was put on the stack, and a piece was told
-pub record PutsAndTells (row : List Kept) (piece : Piece) (old new : ModuleReader) : Type 0 where
-  pub stack : stack_of new.stack.items ≡ stack_of row ++ stack_of old.stack.items
-  pub pieces : new.pieces.items ≡ old.pieces.items ++ piece ∷ []
   pub events : new.events.items ≡ old.events.items
 
 -- what stands behind an `if` with this place

@@ -1,5 +1,5 @@
 -- What is still to do, as the machine has it, and what may be empty or is nested too deep.
-use Rattle.std.specs.Prelude.{Bool, true, false, ◌&&◌, ◌==◌, is_some, List, [], map, reverse}
+use Rattle.std.specs.Prelude.{ℕ, Bool, true, false, ◌&&◌, ◌==◌, is_some, List, [], ◌∷◌, map, reverse}
 use Rattle.mls_lexer.specs.declared.token.Kind.{Kind}
 use Rattle.mls_lexer.specs.declared.token.Kind.TheVariants as kind
 use Rattle.mls_lexer.specs.Tokens.{terminal_of}
@@ -7,6 +7,8 @@ use Rattle.mls_reader.specs.declared.todo.PiecePart.{PiecePart}
 use Rattle.mls_reader.specs.declared.todo.PiecePart.TheVariants as part
 use Rattle.mls_reader.specs.declared.todo.Operand.{Operand}
 use Rattle.mls_reader.specs.declared.todo.Operand.TheVariants as operand
+use Rattle.mls_reader.specs.declared.todo.Follower.{Follower}
+use Rattle.mls_reader.specs.declared.todo.Follower.TheVariants as follower
 use Rattle.mls_reader.specs.declared.todo.Tail.{Tail}
 use Rattle.mls_reader.specs.declared.todo.Tail.TheVariants as tail
 use Rattle.mls_reader.specs.declared.todo.Word.{Word}
@@ -15,6 +17,8 @@ use Rattle.mls_reader.specs.declared.todo.Todo.{Todo as Kept}
 use Rattle.mls_reader.specs.declared.todo.Todo.TheVariants as kept
 use Rattle.mls_grammar.specs.Phrases.{Sort, imports, bindings, bind_rest, expr, compare_tail, sum, sum_tail, product}
 use Rattle.mls_grammar.specs.Phrases.{product_tail, apply, dots, parts, more_parts}
+use Rattle.mls_reader.specs.declared.piece.Piece.TheVariants as piece
+use Rattle.mls_reader.specs.steps.PieceMachine.{apply_row, product_row, sum_row, compare_row}
 use Rattle.mls_reader.specs.steps.PieceMachine.{Todo, a, arguments_of, let_of, the_import, the_binding, the_fun}
 use Rattle.mls_reader.specs.steps.PieceMachine.{the_fix, the_local, the_label, the_part, the_equals, the_arrow}
 use Rattle.mls_reader.specs.steps.PieceMachine.{the_then, the_else, the_in, the_paren, tell, expr_acts}
@@ -68,6 +72,15 @@ part_of (part.Fields n) = a n parts
 part_of (part.MoreFields n) = a n more_parts
 part_of (part.Field n) = the_part n
 part_of (part.Word w) = word_of w
+
+-- what may follow an atom with this place, the nearest first
+abbrev pub follower_row : (around at : ℕ) → Follower → List Todo
+follower_row n at follower.Compare = compare_row n at
+follower_row n at follower.Sum = sum_row n at
+follower_row n at follower.Product = product_row n at
+follower_row n at follower.Apply = apply_row n at
+follower_row n at (follower.Argument apply_at) =
+    a n dots ∷ tell (piece.Apply apply_at) ∷ arguments_of n apply_at ∷ []
 
 -- what is still to do as the machine has it
 abbrev pub todo_of : Kept → Todo

@@ -1,85 +1,61 @@
 //! How each part of a module begins: the token is read as its first, and what is left to come is put on the stack.
-ghost use Rattle.std.specs.Prelude.{◌≡◌, ◌≢◌, ◌≤◌, ◌++◌, [], ◌∷◌, ℕ, List, false, IfOk, IfErr, OnOk, slice_range};
-ghost use Rattle.mls_lexer.specs.Tokens.{IsToken, IsTokens, terminal, terminal_of};
-ghost use Rattle.mls_reader.specs.steps.PieceMachine.{a, arguments_of, compare_row, sum_row, product_row, apply_row};
+ghost use Rattle.std.specs.Prelude.{◌≡◌, ℕ, List, false, IfOk, OnOk, slice_range};
+ghost use Rattle.mls_lexer.specs.Tokens.{IsToken, terminal, terminal_of};
+ghost use Rattle.mls_reader.specs.steps.PieceMachine.{a};
 ghost use Rattle.mls_reader.specs.steps.PieceMachine.{acts, atom_acts, imports_acts, import_acts, bindings_acts};
 ghost use Rattle.mls_reader.specs.steps.PieceMachine.{bind_rest_acts, binding_acts, expr_acts, fun_acts, fix_acts};
 ghost use Rattle.mls_reader.specs.steps.PieceMachine.{let_acts, local_acts, compare_tail_acts, sum_tail_acts};
 ghost use Rattle.mls_reader.specs.steps.PieceMachine.{product_tail_acts, dots_acts, label_acts, parts_acts};
 ghost use Rattle.mls_reader.specs.steps.PieceMachine.{more_parts_acts, part_acts};
-ghost use Rattle.mls_grammar.specs.GrammarFaults.{HasGrammarFault};
-ghost use Rattle.mls_reader.specs.steps.Todos.{part_of, todo_of, stack_of, operand_sort, tail_sort, is_deep};
-ghost use Rattle.mls_reader.specs.steps.PieceReaders.{if_row, ReadsSource, name_in, leaf, Acted, Tried, Refused, Went};
-ghost use Rattle.mls_reader.specs.steps.PieceReaders.{Stopped, Finished, IsNew, Puts, PutsRow, PutsAndTells};
+ghost use Rattle.mls_reader.specs.steps.Todos.{part_of, follower_row, operand_sort, tail_sort, is_deep};
+ghost use Rattle.mls_reader.specs.steps.PieceReaders.{if_row, name_in, leaf, Acted, PutsRow};
 
 use super::ModuleReader;
 use crate::piece::{Event, Piece};
-use crate::todo::{Depth, Operand, PiecePart, Tail, Todo, Word};
+use crate::spelling::Spelling;
+use crate::todo::{Depth, Follower, Operand, PiecePart, Tail, Todo, Word};
 use mls_base::memory::Memory;
-use mls_book::name::Name;
-use mls_grammar::fault::Fault;
 use mls_grammar::module::Op;
 use mls_lexer::number::number_of;
 use mls_lexer::token::{Kind, Token};
-use std::alloc::Global;
 
 // The name that the token is, if it is one.
-fn name_at(alloc: Global, text: &[u8], token: Token) -> Result<Option<Name>, Memory>
+fn name_at(text: &[u8], token: Token) -> Option<Spelling<'_>>
     requires { IsToken text.now token }
-    ensures { IfOk result (λ found. found ≡ name_in (terminal text.now token)) }
+    ensures { result ≡ name_in (terminal text.now token) }
 {
     if token.kind != Kind::Name {
-        return Ok(None);
+        return None;
     }
-    let name = name_of(alloc, text, token)?;
-    Ok(Some(name))
+    Some(name_of(text, token))
 }
 
 // The name that the token is.
-fn name_of(alloc: Global, text: &[u8], token: Token) -> Result<Name, Memory>
+fn name_of(text: &[u8], token: Token) -> Spelling<'_>
     requires of_text { IsToken text.now token }
     requires is_name { token.kind ≡ Kind.Name }
-    ensures { IfOk result (λ name. name ≡ slice_range text.now token.start token.end) }
+    ensures { result ≡ slice_range text.now token.start token.end }
 {
-    Name::new(alloc, &text[token.start..token.end])
+    Spelling::new(&text[token.start..token.end])
 }
 
 // The piece that the token tells as an atom alone, if it is one.
-fn leaf_at(alloc: Global, text: &[u8], token: Token) -> Result<Option<Piece>, Memory>
+fn leaf_at(text: &[u8], token: Token) -> Option<Piece<'_>>
     requires { IsToken text.now token }
-    ensures { IfOk result (λ found. found ≡ leaf token.start (terminal text.now token)) }
+    ensures { result ≡ leaf token.start (terminal text.now token) }
 {
     match token.kind {
-        Kind::Name => {
-            let name = name_of(alloc, text, token)?;
-            Ok(Some(Piece::Name(token.start, name)))
-        }
-        Kind::Number => {
-            let value = number_of(text, &token);
-            Ok(Some(Piece::Number(token.start, value)))
-        }
-        Kind::WordTrue => Ok(Some(Piece::Truth(token.start, true))),
-        Kind::WordFalse => Ok(Some(Piece::Truth(token.start, false))),
-        _ => Ok(None),
+        Kind::Name => Some(Piece::Name(token.start, name_of(text, token))),
+        Kind::Number => Some(Piece::Number(token.start, number_of(text, &token))),
+        Kind::WordTrue => Some(Piece::Truth(token.start, true)),
+        Kind::WordFalse => Some(Piece::Truth(token.start, false)),
+        _ => None,
     }
 }
 
-// A copy of the name.
-fn copy_of(name: &Name) -> Result<Name, Memory>
-    ensures { IfOk result (λ copy. copy ≡ name.now) }
-{
-    Ok(name.clone()?)
-}
-
-impl ModuleReader {
+impl<'a> ModuleReader<'a> {
     // Reads the token as the first of the part, if it is one.
-    pub fn begin(
-        &mut self,
-        alloc: Global,
-        text: &[u8],
-        token: Token,
-        part: PiecePart,
-    ) -> Result<bool, Memory>
+    pub fn begin(&mut self, text: &'a [u8], token: Token, part: PiecePart) -> Result<bool, Memory>
         requires of_text { IsToken text.now token }
         requires shallow { is_deep (part_of part) token.kind ≡ false }
         ensures { IfOk result (λ begun. Acted (acts (part_of part) token.start (terminal text.now token)) self.old
@@ -87,29 +63,31 @@ impl ModuleReader {
     {
         match part {
             PiecePart::Imports => self.begin_imports(token.kind),
-            PiecePart::Import => self.begin_import(alloc, text, token),
+            PiecePart::Import => self.begin_import(text, token),
             PiecePart::Bindings => self.begin_bindings(token.kind),
-            PiecePart::BindRest => self.begin_bind_rest(alloc, text, token),
-            PiecePart::Binding(rec_at) => self.begin_binding(alloc, text, token, rec_at),
+            PiecePart::BindRest => self.begin_bind_rest(text, token),
+            PiecePart::Binding(rec_at) => self.begin_binding(text, token, rec_at),
             PiecePart::Expr(around) => match around.deeper() {
-                Some(depth) => self.begin_expr(alloc, text, token, depth),
+                Some(depth) => self.begin_expr(text, token, depth),
                 None => Ok(false),
             },
-            PiecePart::Fun(around, at) => self.begin_fun(alloc, text, token, around, at),
-            PiecePart::Fix(around, at) => self.begin_fix(alloc, text, token, around, at),
-            PiecePart::Let(around, at) => self.begin_let(alloc, text, token, around, at),
+            PiecePart::Fun(around, at) => self.begin_fun(text, token, around, at),
+            PiecePart::Fix(around, at) => self.begin_fix(text, token, around, at),
+            PiecePart::Let(around, at) => self.begin_let(text, token, around, at),
             PiecePart::Local(around, at, rec_at) => {
-                self.begin_local(alloc, text, token, around, at, rec_at)
+                self.begin_local(text, token, around, at, rec_at)
             }
             PiecePart::Operand(around, operand) => {
-                self.begin_operand(alloc, text, token, around, operand)
+                self.begin_operand(text, token, around, operand)
             }
-            PiecePart::Arguments(around, at) => self.begin_argument(alloc, text, token, around, at),
+            PiecePart::Arguments(around, at) => {
+                self.begin_atom(text, token, around, Follower::Argument(at))
+            }
             PiecePart::Tail(around, tail) => self.begin_tail(token, around, tail),
-            PiecePart::Label => self.begin_label(alloc, text, token),
-            PiecePart::Fields(around) => self.begin_fields(alloc, text, token, around),
+            PiecePart::Label => self.begin_label(text, token),
+            PiecePart::Fields(around) => self.begin_fields(text, token, around),
             PiecePart::MoreFields(around) => self.begin_more_fields(token.kind, around),
-            PiecePart::Field(around) => self.begin_field(alloc, text, token, around),
+            PiecePart::Field(around) => self.begin_field(text, token, around),
             PiecePart::Word(word) => Ok(token.kind == word.kind()),
         }
     }
@@ -122,24 +100,21 @@ impl ModuleReader {
         if kind != Kind::WordImport {
             return Ok(false);
         }
-        self.put([
-            Todo::Read(PiecePart::Imports),
-            Todo::Read(PiecePart::Import),
-        ])?;
+        self.put(Todo::Read(PiecePart::Imports))?;
+        self.put(Todo::Read(PiecePart::Import))?;
         Ok(true)
     }
 
     // Reads the token as the name of an import, if it is one.
-    fn begin_import(&mut self, alloc: Global, text: &[u8], token: Token) -> Result<bool, Memory>
+    fn begin_import(&mut self, text: &'a [u8], token: Token) -> Result<bool, Memory>
         requires { IsToken text.now token }
         ensures { IfOk result (λ begun. Acted (import_acts token.start (terminal text.now token)) self.old self.new
             begun) }
     {
-        let Some(name) = name_at(alloc, text, token)? else {
+        let Some(name) = name_at(text, token) else {
             return Ok(false);
         };
-        self.events
-            .push(Event::Import(token.start, copy_of(&name)?))?;
+        self.events.push(Event::Import(token.start, name.again()))?;
         self.pieces.push(Piece::Import(token.start, name))?;
         Ok(true)
     }
@@ -152,31 +127,28 @@ impl ModuleReader {
         if kind != Kind::WordLet {
             return Ok(false);
         }
-        self.put([Todo::Read(PiecePart::BindRest)])?;
+        self.put(Todo::Read(PiecePart::BindRest))?;
         Ok(true)
     }
 
     // Reads the token as the first of what stands behind the `let` of a binding, if it is one.
-    fn begin_bind_rest(&mut self, alloc: Global, text: &[u8], token: Token) -> Result<bool, Memory>
+    fn begin_bind_rest(&mut self, text: &'a [u8], token: Token) -> Result<bool, Memory>
         requires { IsToken text.now token }
         ensures { IfOk result (λ begun. Acted (bind_rest_acts 0 token.start (terminal text.now token)) self.old self.new
             begun) }
     {
         match token.kind {
             Kind::Name => {
-                let name = name_of(alloc, text, token)?;
-                self.events
-                    .push(Event::Binding(token.start, copy_of(&name)?))?;
-                self.put([
-                    Todo::Read(PiecePart::Bindings),
-                    Todo::Tell(Piece::Binding(token.start, name)),
-                    Todo::Read(PiecePart::Expr(Depth::outermost())),
-                    Todo::Read(PiecePart::Word(Word::Equals)),
-                ])?;
+                let name = name_of(text, token);
+                self.events.push(Event::Binding(token.start, name.again()))?;
+                self.put(Todo::Read(PiecePart::Bindings))?;
+                self.put(Todo::Tell(Piece::Binding(token.start, name)))?;
+                self.put(Todo::Read(PiecePart::Expr(Depth::outermost())))?;
+                self.put(Todo::Read(PiecePart::Word(Word::Equals)))?;
                 Ok(true)
             }
             Kind::WordRec => {
-                self.put([Todo::Read(PiecePart::Binding(token.start))])?;
+                self.put(Todo::Read(PiecePart::Binding(token.start)))?;
                 Ok(true)
             }
             _ => Ok(false),
@@ -184,62 +156,47 @@ impl ModuleReader {
     }
 
     // Reads the token as the name behind `let rec`, if it is one; the `rec` has this place.
-    fn begin_binding(
-        &mut self,
-        alloc: Global,
-        text: &[u8],
-        token: Token,
-        rec_at: usize,
-    ) -> Result<bool, Memory>
+    fn begin_binding(&mut self, text: &'a [u8], token: Token, rec_at: usize) -> Result<bool, Memory>
         requires { IsToken text.now token }
         ensures { IfOk result (λ begun. Acted (binding_acts 0 rec_at token.start (terminal text.now token)) self.old
             self.new begun) }
     {
-        let Some(name) = name_at(alloc, text, token)? else {
+        let Some(name) = name_at(text, token) else {
             return Ok(false);
         };
-        self.events
-            .push(Event::Binding(token.start, copy_of(&name)?))?;
-        self.put([
-            Todo::Read(PiecePart::Bindings),
-            Todo::Tell(Piece::Binding(token.start, copy_of(&name)?)),
-            Todo::Tell(Piece::Rec(rec_at, name)),
-            Todo::Read(PiecePart::Expr(Depth::outermost())),
-            Todo::Read(PiecePart::Word(Word::Equals)),
-        ])?;
+        self.events.push(Event::Binding(token.start, name.again()))?;
+        self.put(Todo::Read(PiecePart::Bindings))?;
+        self.put(Todo::Tell(Piece::Binding(token.start, name.again())))?;
+        self.put(Todo::Tell(Piece::Rec(rec_at, name)))?;
+        self.put(Todo::Read(PiecePart::Expr(Depth::outermost())))?;
+        self.put(Todo::Read(PiecePart::Word(Word::Equals)))?;
         Ok(true)
     }
 
     // Reads the token as the first of an expression, if it is one.
-    fn begin_expr(
-        &mut self,
-        alloc: Global,
-        text: &[u8],
-        token: Token,
-        depth: Depth,
-    ) -> Result<bool, Memory>
+    fn begin_expr(&mut self, text: &'a [u8], token: Token, depth: Depth) -> Result<bool, Memory>
         requires { IsToken text.now token }
         ensures { IfOk result (λ begun. Acted (expr_acts depth token.start (terminal text.now token)) self.old self.new
             begun) }
     {
         match token.kind {
             Kind::WordFun => {
-                self.put([Todo::Read(PiecePart::Fun(depth, token.start))])?;
+                self.put(Todo::Read(PiecePart::Fun(depth, token.start)))?;
                 Ok(true)
             }
             Kind::WordRec => {
-                self.put([Todo::Read(PiecePart::Fix(depth, token.start))])?;
+                self.put(Todo::Read(PiecePart::Fix(depth, token.start)))?;
                 Ok(true)
             }
             Kind::WordLet => {
-                self.put([Todo::Read(PiecePart::Let(depth, token.start))])?;
+                self.put(Todo::Read(PiecePart::Let(depth, token.start)))?;
                 Ok(true)
             }
             Kind::WordIf => {
                 self.put_if(token.start, depth)?;
                 Ok(true)
             }
-            _ => self.begin_compare(alloc, text, token, depth),
+            _ => self.begin_atom(text, token, depth, Follower::Compare),
         }
     }
 
@@ -247,21 +204,18 @@ impl ModuleReader {
     fn put_if(&mut self, at: usize, depth: Depth) -> Result<(), Memory>
         ensures { OnOk result (PutsRow (if_row depth at) self.old self.new) }
     {
-        self.put([
-            Todo::Tell(Piece::If(at)),
-            Todo::Read(PiecePart::Expr(depth)),
-            Todo::Read(PiecePart::Word(Word::Else)),
-            Todo::Read(PiecePart::Expr(depth)),
-            Todo::Read(PiecePart::Word(Word::Then)),
-            Todo::Read(PiecePart::Expr(depth)),
-        ])
+        self.put(Todo::Tell(Piece::If(at)))?;
+        self.put(Todo::Read(PiecePart::Expr(depth)))?;
+        self.put(Todo::Read(PiecePart::Word(Word::Else)))?;
+        self.put(Todo::Read(PiecePart::Expr(depth)))?;
+        self.put(Todo::Read(PiecePart::Word(Word::Then)))?;
+        self.put(Todo::Read(PiecePart::Expr(depth)))
     }
 
     // Reads the token as the name behind a `fun` with this place, if it is one.
     fn begin_fun(
         &mut self,
-        alloc: Global,
-        text: &[u8],
+        text: &'a [u8],
         token: Token,
         around: Depth,
         at: usize,
@@ -269,22 +223,19 @@ impl ModuleReader {
         requires { IsToken text.now token }
         ensures { IfOk result (λ begun. Acted (fun_acts around at (terminal text.now token)) self.old self.new begun) }
     {
-        let Some(name) = name_at(alloc, text, token)? else {
+        let Some(name) = name_at(text, token) else {
             return Ok(false);
         };
-        self.put([
-            Todo::Tell(Piece::Fun(at, name)),
-            Todo::Read(PiecePart::Expr(around)),
-            Todo::Read(PiecePart::Word(Word::Arrow)),
-        ])?;
+        self.put(Todo::Tell(Piece::Fun(at, name)))?;
+        self.put(Todo::Read(PiecePart::Expr(around)))?;
+        self.put(Todo::Read(PiecePart::Word(Word::Arrow)))?;
         Ok(true)
     }
 
     // Reads the token as the name behind a `rec` with this place, if it is one.
     fn begin_fix(
         &mut self,
-        alloc: Global,
-        text: &[u8],
+        text: &'a [u8],
         token: Token,
         around: Depth,
         at: usize,
@@ -292,22 +243,19 @@ impl ModuleReader {
         requires { IsToken text.now token }
         ensures { IfOk result (λ begun. Acted (fix_acts around at (terminal text.now token)) self.old self.new begun) }
     {
-        let Some(name) = name_at(alloc, text, token)? else {
+        let Some(name) = name_at(text, token) else {
             return Ok(false);
         };
-        self.put([
-            Todo::Tell(Piece::Rec(at, name)),
-            Todo::Read(PiecePart::Expr(around)),
-            Todo::Read(PiecePart::Word(Word::Arrow)),
-        ])?;
+        self.put(Todo::Tell(Piece::Rec(at, name)))?;
+        self.put(Todo::Read(PiecePart::Expr(around)))?;
+        self.put(Todo::Read(PiecePart::Word(Word::Arrow)))?;
         Ok(true)
     }
 
     // Reads the token as the first of what stands behind a `let` with this place, if it is one.
     fn begin_let(
         &mut self,
-        alloc: Global,
-        text: &[u8],
+        text: &'a [u8],
         token: Token,
         around: Depth,
         at: usize,
@@ -318,18 +266,16 @@ impl ModuleReader {
     {
         match token.kind {
             Kind::Name => {
-                let name = name_of(alloc, text, token)?;
-                self.put([
-                    Todo::Tell(Piece::Let(at, name)),
-                    Todo::Read(PiecePart::Expr(around)),
-                    Todo::Read(PiecePart::Word(Word::In)),
-                    Todo::Read(PiecePart::Expr(around)),
-                    Todo::Read(PiecePart::Word(Word::Equals)),
-                ])?;
+                let name = name_of(text, token);
+                self.put(Todo::Tell(Piece::Let(at, name)))?;
+                self.put(Todo::Read(PiecePart::Expr(around)))?;
+                self.put(Todo::Read(PiecePart::Word(Word::In)))?;
+                self.put(Todo::Read(PiecePart::Expr(around)))?;
+                self.put(Todo::Read(PiecePart::Word(Word::Equals)))?;
                 Ok(true)
             }
             Kind::WordRec => {
-                self.put([Todo::Read(PiecePart::Local(around, at, token.start))])?;
+                self.put(Todo::Read(PiecePart::Local(around, at, token.start)))?;
                 Ok(true)
             }
             _ => Ok(false),
@@ -339,8 +285,7 @@ impl ModuleReader {
     // Reads the token as the name behind `let rec`, if it is one; the words have these places.
     fn begin_local(
         &mut self,
-        alloc: Global,
-        text: &[u8],
+        text: &'a [u8],
         token: Token,
         around: Depth,
         at: usize,
@@ -350,25 +295,22 @@ impl ModuleReader {
         ensures { IfOk result (λ begun. Acted (local_acts around at rec_at (terminal text.now token)) self.old self.new
             begun) }
     {
-        let Some(name) = name_at(alloc, text, token)? else {
+        let Some(name) = name_at(text, token) else {
             return Ok(false);
         };
-        self.put([
-            Todo::Tell(Piece::Let(at, copy_of(&name)?)),
-            Todo::Read(PiecePart::Expr(around)),
-            Todo::Read(PiecePart::Word(Word::In)),
-            Todo::Tell(Piece::Rec(rec_at, name)),
-            Todo::Read(PiecePart::Expr(around)),
-            Todo::Read(PiecePart::Word(Word::Equals)),
-        ])?;
+        self.put(Todo::Tell(Piece::Let(at, name.again())))?;
+        self.put(Todo::Read(PiecePart::Expr(around)))?;
+        self.put(Todo::Read(PiecePart::Word(Word::In)))?;
+        self.put(Todo::Tell(Piece::Rec(rec_at, name)))?;
+        self.put(Todo::Read(PiecePart::Expr(around)))?;
+        self.put(Todo::Read(PiecePart::Word(Word::Equals)))?;
         Ok(true)
     }
 
     // Reads the token as the first of an operand of an operator, if it is one.
     fn begin_operand(
         &mut self,
-        alloc: Global,
-        text: &[u8],
+        text: &'a [u8],
         token: Token,
         around: Depth,
         operand: Operand,
@@ -378,9 +320,9 @@ impl ModuleReader {
             (terminal text.now token)) self.old self.new begun) }
     {
         match operand {
-            Operand::Sum => self.begin_sum(alloc, text, token, around),
-            Operand::Product => self.begin_product(alloc, text, token, around),
-            Operand::Apply => self.begin_apply(alloc, text, token, around),
+            Operand::Sum => self.begin_atom(text, token, around, Follower::Sum),
+            Operand::Product => self.begin_atom(text, token, around, Follower::Product),
+            Operand::Apply => self.begin_atom(text, token, around, Follower::Apply),
         }
     }
 
@@ -405,17 +347,13 @@ impl ModuleReader {
     {
         match token.kind {
             Kind::Less => {
-                self.put([
-                    Todo::Tell(Piece::Binary(token.start, Op::Less)),
-                    Todo::Read(PiecePart::Operand(around, Operand::Sum)),
-                ])?;
+                self.put(Todo::Tell(Piece::Binary(token.start, Op::Less)))?;
+                self.put(Todo::Read(PiecePart::Operand(around, Operand::Sum)))?;
                 Ok(true)
             }
             Kind::DoubleEquals => {
-                self.put([
-                    Todo::Tell(Piece::Binary(token.start, Op::Equal)),
-                    Todo::Read(PiecePart::Operand(around, Operand::Sum)),
-                ])?;
+                self.put(Todo::Tell(Piece::Binary(token.start, Op::Equal)))?;
+                self.put(Todo::Read(PiecePart::Operand(around, Operand::Sum)))?;
                 Ok(true)
             }
             _ => Ok(false),
@@ -429,19 +367,15 @@ impl ModuleReader {
     {
         match token.kind {
             Kind::Plus => {
-                self.put([
-                    Todo::Read(PiecePart::Tail(around, Tail::Sum)),
-                    Todo::Tell(Piece::Binary(token.start, Op::Plus)),
-                    Todo::Read(PiecePart::Operand(around, Operand::Product)),
-                ])?;
+                self.put(Todo::Read(PiecePart::Tail(around, Tail::Sum)))?;
+                self.put(Todo::Tell(Piece::Binary(token.start, Op::Plus)))?;
+                self.put(Todo::Read(PiecePart::Operand(around, Operand::Product)))?;
                 Ok(true)
             }
             Kind::Minus => {
-                self.put([
-                    Todo::Read(PiecePart::Tail(around, Tail::Sum)),
-                    Todo::Tell(Piece::Binary(token.start, Op::Minus)),
-                    Todo::Read(PiecePart::Operand(around, Operand::Product)),
-                ])?;
+                self.put(Todo::Read(PiecePart::Tail(around, Tail::Sum)))?;
+                self.put(Todo::Tell(Piece::Binary(token.start, Op::Minus)))?;
+                self.put(Todo::Read(PiecePart::Operand(around, Operand::Product)))?;
                 Ok(true)
             }
             _ => Ok(false),
@@ -456,11 +390,9 @@ impl ModuleReader {
         if token.kind != Kind::Star {
             return Ok(false);
         }
-        self.put([
-            Todo::Read(PiecePart::Tail(around, Tail::Product)),
-            Todo::Tell(Piece::Binary(token.start, Op::Times)),
-            Todo::Read(PiecePart::Operand(around, Operand::Apply)),
-        ])?;
+        self.put(Todo::Read(PiecePart::Tail(around, Tail::Product)))?;
+        self.put(Todo::Tell(Piece::Binary(token.start, Op::Times)))?;
+        self.put(Todo::Read(PiecePart::Operand(around, Operand::Apply)))?;
         Ok(true)
     }
 
@@ -472,20 +404,18 @@ impl ModuleReader {
         if kind != Kind::Dot {
             return Ok(false);
         }
-        self.put([
-            Todo::Read(PiecePart::Tail(around, Tail::Dots)),
-            Todo::Read(PiecePart::Label),
-        ])?;
+        self.put(Todo::Read(PiecePart::Tail(around, Tail::Dots)))?;
+        self.put(Todo::Read(PiecePart::Label))?;
         Ok(true)
     }
 
     // Reads the token as the label of a projection, if it is one.
-    fn begin_label(&mut self, alloc: Global, text: &[u8], token: Token) -> Result<bool, Memory>
+    fn begin_label(&mut self, text: &'a [u8], token: Token) -> Result<bool, Memory>
         requires { IsToken text.now token }
         ensures { IfOk result (λ begun. Acted (label_acts token.start (terminal text.now token)) self.old self.new
             begun) }
     {
-        let Some(name) = name_at(alloc, text, token)? else {
+        let Some(name) = name_at(text, token) else {
             return Ok(false);
         };
         self.pieces.push(Piece::Project(token.start, name))?;
@@ -493,13 +423,7 @@ impl ModuleReader {
     }
 
     // Reads the token as the first of what stands behind the opening brace of a record, if it is one.
-    fn begin_fields(
-        &mut self,
-        alloc: Global,
-        text: &[u8],
-        token: Token,
-        around: Depth,
-    ) -> Result<bool, Memory>
+    fn begin_fields(&mut self, text: &'a [u8], token: Token, around: Depth) -> Result<bool, Memory>
         requires { IsToken text.now token }
         ensures { IfOk result (λ begun. Acted (parts_acts around token.start (terminal text.now token)) self.old
             self.new begun) }
@@ -509,7 +433,7 @@ impl ModuleReader {
             self.pieces.push(Piece::Last)?;
             return Ok(true);
         }
-        self.begin_field(alloc, text, token, around)
+        self.begin_field(text, token, around)
     }
 
     // Reads the token as the first of what stands behind a part of a record, if it is one.
@@ -524,7 +448,7 @@ impl ModuleReader {
                 Ok(true)
             }
             Kind::Comma => {
-                self.put([Todo::Read(PiecePart::Field(around))])?;
+                self.put(Todo::Read(PiecePart::Field(around)))?;
                 Ok(true)
             }
             _ => Ok(false),
@@ -532,172 +456,84 @@ impl ModuleReader {
     }
 
     // Reads the token as the label of a part of a record, if it is one.
-    fn begin_field(
-        &mut self,
-        alloc: Global,
-        text: &[u8],
-        token: Token,
-        around: Depth,
-    ) -> Result<bool, Memory>
+    fn begin_field(&mut self, text: &'a [u8], token: Token, around: Depth) -> Result<bool, Memory>
         requires { IsToken text.now token }
         ensures { IfOk result (λ begun. Acted (part_acts around token.start (terminal text.now token)) self.old self.new
             begun) }
     {
-        let Some(name) = name_at(alloc, text, token)? else {
+        let Some(name) = name_at(text, token) else {
             return Ok(false);
         };
-        self.events
-            .push(Event::Label(token.start, copy_of(&name)?))?;
-        self.put([
-            Todo::Tell(Piece::Field(name)),
-            Todo::Read(PiecePart::MoreFields(around)),
-            Todo::Read(PiecePart::Expr(around)),
-            Todo::Read(PiecePart::Word(Word::Equals)),
-        ])?;
+        self.events.push(Event::Label(token.start, name.again()))?;
+        self.put(Todo::Tell(Piece::Field(name)))?;
+        self.put(Todo::Read(PiecePart::MoreFields(around)))?;
+        self.put(Todo::Read(PiecePart::Expr(around)))?;
+        self.put(Todo::Read(PiecePart::Word(Word::Equals)))?;
         Ok(true)
     }
 
-    // Reads the token as the first of operands that may be compared, if it is one.
-    fn begin_compare(
+    // Reads the token as the first of an atom, if it is one; this may follow the atom.
+    fn begin_atom(
         &mut self,
-        alloc: Global,
-        text: &[u8],
+        text: &'a [u8],
         token: Token,
         around: Depth,
+        follower: Follower,
     ) -> Result<bool, Memory>
         requires { IsToken text.now token }
-        ensures { IfOk result (λ begun. Acted (atom_acts around (compare_row around token.start) token.start
+        ensures { IfOk result (λ begun. Acted (atom_acts around (follower_row around token.start follower) token.start
             (terminal text.now token)) self.old self.new begun) }
     {
-        let row = [
-            Todo::Read(PiecePart::Tail(around, Tail::Compare)),
-            Todo::Read(PiecePart::Tail(around, Tail::Sum)),
-            Todo::Read(PiecePart::Tail(around, Tail::Product)),
-            Todo::Read(PiecePart::Arguments(around, token.start)),
-            Todo::Read(PiecePart::Tail(around, Tail::Dots)),
-        ];
-        self.begin_atom(alloc, text, token, around, row)
-    }
-
-    // Reads the token as the first of a sum, if it is one.
-    fn begin_sum(
-        &mut self,
-        alloc: Global,
-        text: &[u8],
-        token: Token,
-        around: Depth,
-    ) -> Result<bool, Memory>
-        requires { IsToken text.now token }
-        ensures { IfOk result (λ begun. Acted (atom_acts around (sum_row around token.start) token.start
-            (terminal text.now token)) self.old self.new begun) }
-    {
-        let row = [
-            Todo::Read(PiecePart::Tail(around, Tail::Sum)),
-            Todo::Read(PiecePart::Tail(around, Tail::Product)),
-            Todo::Read(PiecePart::Arguments(around, token.start)),
-            Todo::Read(PiecePart::Tail(around, Tail::Dots)),
-        ];
-        self.begin_atom(alloc, text, token, around, row)
-    }
-
-    // Reads the token as the first of a product, if it is one.
-    fn begin_product(
-        &mut self,
-        alloc: Global,
-        text: &[u8],
-        token: Token,
-        around: Depth,
-    ) -> Result<bool, Memory>
-        requires { IsToken text.now token }
-        ensures { IfOk result (λ begun. Acted (atom_acts around (product_row around token.start) token.start
-            (terminal text.now token)) self.old self.new begun) }
-    {
-        let row = [
-            Todo::Read(PiecePart::Tail(around, Tail::Product)),
-            Todo::Read(PiecePart::Arguments(around, token.start)),
-            Todo::Read(PiecePart::Tail(around, Tail::Dots)),
-        ];
-        self.begin_atom(alloc, text, token, around, row)
-    }
-
-    // Reads the token as the first of an application, if it is one.
-    fn begin_apply(
-        &mut self,
-        alloc: Global,
-        text: &[u8],
-        token: Token,
-        around: Depth,
-    ) -> Result<bool, Memory>
-        requires { IsToken text.now token }
-        ensures { IfOk result (λ begun. Acted (atom_acts around (apply_row around token.start) token.start
-            (terminal text.now token)) self.old self.new begun) }
-    {
-        let row = [
-            Todo::Read(PiecePart::Arguments(around, token.start)),
-            Todo::Read(PiecePart::Tail(around, Tail::Dots)),
-        ];
-        self.begin_atom(alloc, text, token, around, row)
-    }
-
-    // Reads the token as the first of a further argument of the application at this place, if it is one.
-    fn begin_argument(
-        &mut self,
-        alloc: Global,
-        text: &[u8],
-        token: Token,
-        around: Depth,
-        at: usize,
-    ) -> Result<bool, Memory>
-        requires { IsToken text.now token }
-        ensures { IfOk result (λ begun. Acted (acts (arguments_of around at) token.start (terminal text.now token))
-            self.old self.new begun) }
-    {
-        let row = [
-            Todo::Read(PiecePart::Arguments(around, at)),
-            Todo::Tell(Piece::Apply(at)),
-            Todo::Read(PiecePart::Tail(around, Tail::Dots)),
-        ];
-        self.begin_atom(alloc, text, token, around, row)
-    }
-
-    // Reads the token as the first of an atom, if it is one; this row follows the atom, the next one last.
-    #[inline(always)]
-    fn begin_atom<const N: usize>(
-        &mut self,
-        alloc: Global,
-        text: &[u8],
-        token: Token,
-        around: Depth,
-        row: [Todo; N],
-    ) -> Result<bool, Memory>
-        requires of_text { IsToken text.now token }
-        requires short { N ≤ 6 }
-        ensures { IfOk result (λ begun. Acted (atom_acts around (stack_of row.entry) token.start
-            (terminal text.now token)) self.old self.new begun) }
-    {
-        if let Some(piece) = leaf_at(alloc, text, token)? {
-            self.tell(row, piece)?;
+        if let Some(piece) = leaf_at(text, token) {
+            self.put_follower(around, token.start, follower)?;
+            self.pieces.push(piece)?;
             return Ok(true);
         }
         match token.kind {
             Kind::ParenLeft => {
-                self.put(row)?;
-                self.put([
-                    Todo::Read(PiecePart::Word(Word::ParenRight)),
-                    Todo::Read(PiecePart::Expr(around)),
-                ])?;
+                self.put_follower(around, token.start, follower)?;
+                self.put(Todo::Read(PiecePart::Word(Word::ParenRight)))?;
+                self.put(Todo::Read(PiecePart::Expr(around)))?;
                 Ok(true)
             }
             Kind::BraceLeft => {
                 self.events.push(Event::Open)?;
-                self.put(row)?;
-                self.put([
-                    Todo::Tell(Piece::Make(token.start)),
-                    Todo::Read(PiecePart::Fields(around)),
-                ])?;
+                self.put_follower(around, token.start, follower)?;
+                self.put(Todo::Tell(Piece::Make(token.start)))?;
+                self.put(Todo::Read(PiecePart::Fields(around)))?;
                 Ok(true)
             }
             _ => Ok(false),
         }
+    }
+
+    // Puts on the stack what may follow an atom with this place, the next one last.
+    #[inline(always)]
+    fn put_follower(&mut self, around: Depth, at: usize, follower: Follower) -> Result<(), Memory>
+        ensures { OnOk result (PutsRow (follower_row around at follower) self.old self.new) }
+    {
+        match follower {
+            Follower::Compare => {
+                self.put(Todo::Read(PiecePart::Tail(around, Tail::Compare)))?;
+                self.put(Todo::Read(PiecePart::Tail(around, Tail::Sum)))?;
+                self.put(Todo::Read(PiecePart::Tail(around, Tail::Product)))?;
+                self.put(Todo::Read(PiecePart::Arguments(around, at)))?;
+            }
+            Follower::Sum => {
+                self.put(Todo::Read(PiecePart::Tail(around, Tail::Sum)))?;
+                self.put(Todo::Read(PiecePart::Tail(around, Tail::Product)))?;
+                self.put(Todo::Read(PiecePart::Arguments(around, at)))?;
+            }
+            Follower::Product => {
+                self.put(Todo::Read(PiecePart::Tail(around, Tail::Product)))?;
+                self.put(Todo::Read(PiecePart::Arguments(around, at)))?;
+            }
+            Follower::Apply => self.put(Todo::Read(PiecePart::Arguments(around, at)))?,
+            Follower::Argument(apply_at) => {
+                self.put(Todo::Read(PiecePart::Arguments(around, apply_at)))?;
+                self.put(Todo::Tell(Piece::Apply(apply_at)))?;
+            }
+        }
+        self.put(Todo::Read(PiecePart::Tail(around, Tail::Dots)))
     }
 }

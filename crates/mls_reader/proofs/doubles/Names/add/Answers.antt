@@ -13,16 +13,16 @@ returns-then-contains-clause-names c =
     nothing-added c.args.name c.args.self.now (subst (λ names. list_any (bytes_eq c.args.name) names ≡ true) c.self.view_is
     (among_others c.args.name _ c.self.inside.others.keys (sym (has c.args.name c.self.inside.others.keys) ∙ sym c.contains.ensures ∙ c.if-contains.true)))
 
-pub returns-in-None-clause-new : goal.returns-in-None-clause-new
-returns-in-None-clause-new c =
+pub returns-else-contains-clause-new : goal.returns-else-contains-clause-new
+returns-else-contains-clause-new c =
     new-among c.args.name c.self.inside.first c.self.inside.others.keys c.args.self.now c.in-None.is c.self.view_is
     (sym (has c.args.name c.self.inside.others.keys) ∙ sym c.contains.ensures ∙ c.if-contains.false)
 
 pub returns-in_ok-insert-in-Some-clause-new : goal.returns-in_ok-insert-in-Some-clause-new
 returns-in_ok-insert-in-Some-clause-new c =
-    new-behind c.args.name c.self.inside.first c.in-Some.first c.self.inside.others.keys c.args.self.now c.in-Some.is c.self.view_is
+    new-behind c.args.name c.self.inside.first c.in-Some.first c.self.inside.others.keys c.args.self.now _ c.in-Some.is c.self.view_is
     (bytes_eq-symm c.args.name c.in-Some.first ∙ sym c.eq.ensures ∙ c.if-eq.false)
-    (sym (has c.args.name c.self.inside.others.keys) ∙ sym c.contains.ensures ∙ c.if-contains.false)
+    (c.in_ok-insert-in-Some.ensures.added ∙ ap not (has c.args.name c.self.inside.others.keys))
 
 pub returns-in_ok-insert-in-Some-clause-names : goal.returns-in_ok-insert-in-Some-clause-names
 returns-in_ok-insert-in-Some-clause-names c =
