@@ -1,4 +1,5 @@
 pub mod AllowedSteps
+pub mod Halves
 pub mod JustifiedPairs
 pub mod SubSteps
 pub mod TermNodes
@@ -7,7 +8,9 @@ pub mod AllowedSections
 pub mod Verdicts
 pub mod Worked
 pub mod StepRules
+pub mod Lookups
 pub mod PairRules
+pub mod PartLabels
 pub mod Tables
 pub mod Entries
 pub mod CheckedRules
@@ -23,3 +26,13 @@ pub mod SpelledLines
 pub mod SpelledNodes
 pub mod TextLines
 pub mod TextSections
+pub mod TextParts
+pub mod OneBadLine
+pub mod ReadParts
+pub mod GivenSets
+pub mod FittingNodes
+pub mod ReadHeads
+pub mod SectionsRead
+pub mod FrontLines
+pub mod WordValues
+pub mod Guessed

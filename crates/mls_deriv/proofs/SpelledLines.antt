@@ -39,7 +39,7 @@ rule_spelled (rule.Rec s) = ap (λ t. codes " rec" ++ t) (sym (append-nil (numbe
 rule_spelled (rule.Sub s) = ap (λ t. codes " sub" ++ t) (sym (append-nil (number_word s)))
 
 -- the numbers of an environment
-pub entry_numbers : List BinderNode → List ℕ
+unfoldable pub entry_numbers : List BinderNode → List ℕ
 entry_numbers [] = []
 entry_numbers (entry ∷ rest) = entry.binder ∷ entry.node.0 ∷ entry_numbers rest
 

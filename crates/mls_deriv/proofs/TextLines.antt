@@ -66,7 +66,7 @@ literal (byte ∷ rest) h =
     let parts = and_parts (not (nat_eq byte 10)) (list_all (λ b. not (nat_eq b 10)) rest) h in
     All-cons (λ b. nat_eq b 10 ≡ false) byte rest (not-true (nat_eq byte 10) parts.0) (literal rest parts.1)
 
-text_bare : (text : List ℕ) → IsOneLine text → IsBare text
+pub text_bare : (text : List ℕ) → IsOneLine text → IsBare text
 text_bare [] h = All-nil (λ byte. nat_eq byte 10 ≡ false)
 text_bare (b ∷ rest) h = All-cons (λ byte. nat_eq byte 10 ≡ false) b rest (ne_eqb b 10 (All-head (λ byte. byte ≢ 10) b rest h)) (text_bare rest (All-tail (λ byte. byte ≢ 10) b rest h))
 
@@ -80,7 +80,7 @@ name_letters (b ∷ rest) h =
     All-cons (λ byte. nat_eq byte 10 ≡ false) b rest (name_byte b parts.0) (name_letters rest parts.1)
 
 -- the letters of a name
-letters : (name : List ℕ) → IsName name → list_all is_name_byte name ≡ true
+pub letters : (name : List ℕ) → IsName name → list_all is_name_byte name ≡ true
 letters name is = (and_parts (begins_lower name) (list_all is_name_byte name) (true_test (is_spelled name) is.spelled)).1
 
 name_bare : (name : List ℕ) → IsName name → IsBare name
@@ -208,7 +208,7 @@ tells (Of_node n) is = ap (λ ws. kind (first ws)) (node_parted n is)
 tells (Of l) is = ap (λ ws. kind (first ws)) (line_parted l is) ∙ first_of_line l
 tells End is = refl
 
-one_val : (name type name' type' : List ℕ) → IsName name → IsName name' → bytes (Val name type) ≡ bytes (Val name' type') → Val name type ≡ Val name' type'
+pub one_val : (name type name' type' : List ℕ) → IsName name → IsName name' → bytes (Val name type) ≡ bytes (Val name' type') → Val name type ≡ Val name' type'
 one_val name type name' type' is is' e =
     let rest : name ++ (codes " : " ++ type) ≡ name' ++ (codes " : " ++ type') =
     append_cancel_left (codes "val ") (name ++ (codes " : " ++ type)) (name' ++ (codes " : " ++ type')) (sym (val_bytes name type) ∙ (e ∙ val_bytes name' type')) in

@@ -6,5 +6,7 @@ pub mod Verdicts
 pub mod Spellings
 pub mod Forms
 pub mod Texts
+pub mod FaultNumbers
+pub mod BadLines
 pub mod TextLaws
 pub mod inner

@@ -4,3 +4,6 @@ pub mod PairRules
 pub mod Rules
 pub mod Walks
 pub mod Clauses
+pub mod Readings
+pub mod GivenLines
+pub mod Guesses

@@ -52,13 +52,15 @@ pub fn is_allowed(
         }) (puts_of lines.now) (pairs_of lines.now) step.now) }
 {
     let table = table_of(alloc, lines)?;
-    Ok(is_found(
-        nodes, declared, earlier, book, steps, lets, &table, lines, step,
-    ))
+    let found = is_found(
+        alloc, nodes, declared, earlier, book, steps, lets, &table, lines, step,
+    )?;
+    Ok(found)
 }
 
 // Whether the step is plain and has what its rule asks.
 fn is_found(
+    alloc: Global,
     nodes: &[TermNode],
     declared: &[ReadScheme],
     earlier: &[ReadScheme],
@@ -68,15 +70,18 @@ fn is_found(
     table: &Table,
     lines: &[SectionLine],
     step: &StepLine,
-) -> bool
-    ensures { IsTrue result ↔ (IsPlain (length book.now) step.now × HasRule book.now steps.now (get nat_cmp lets.now)
-        (declared.now ++ earlier.now) (put_in table.now) (Holds table.now) lines.now step.now step.now.rule
-        (form_at nodes.now step.now.node)) }
+) -> Result<bool, Memory>
+    requires closed { IsClosedBook book.now }
+    ensures { IfOk result (λ found. IsTrue found ↔ (IsPlain (length book.now) step.now × HasRule book.now steps.now
+        (get nat_cmp lets.now) (declared.now ++ earlier.now) (put_in table.now) (Holds table.now) lines.now
+        step.now step.now.rule (form_at nodes.now step.now.node))) }
 {
-    is_plain(book, step)
-        && has_rule(
-            nodes, declared, earlier, book, steps, lets, table, lines, step,
-        )
+    if !is_plain(book, step) {
+        return Ok(false);
+    }
+    has_rule(
+        alloc, nodes, declared, earlier, book, steps, lets, table, lines, step,
+    )
 }
 
 // Whether the nodes of the step are in the book, and its binders rise.
@@ -90,6 +95,7 @@ fn is_plain(book: &Book, step: &StepLine) -> bool
 
 // Whether the step has what its rule asks.
 fn has_rule(
+    alloc: Global,
     nodes: &[TermNode],
     declared: &[ReadScheme],
     earlier: &[ReadScheme],
@@ -99,22 +105,27 @@ fn has_rule(
     table: &Table,
     lines: &[SectionLine],
     step: &StepLine,
-) -> bool
-    ensures { IsTrue result ↔ HasRule book.now steps.now (get nat_cmp lets.now) (declared.now ++ earlier.now)
-        (put_in table.now)
-        (Holds table.now) lines.now step.now step.now.rule (form_at nodes.now step.now.node) }
+) -> Result<bool, Memory>
+    requires closed { IsClosedBook book.now }
+    requires rising { IsRising step.now.env }
+    ensures { IfOk result (λ has. IsTrue has ↔ HasRule book.now steps.now (get nat_cmp lets.now)
+        (declared.now ++ earlier.now) (put_in table.now) (Holds table.now) lines.now
+        step.now step.now.rule (form_at nodes.now step.now.node)) }
 {
     if let StepRule::Sub(number) = &step.rule {
-        return by_sub(book, steps, table, step, lines, *number);
+        return Ok(by_sub(book, steps, table, step, lines, *number));
     }
     match nodes.get(step.node) {
-        None => false,
-        Some(node) => by_form(declared, earlier, book, steps, lets, step, &node.form),
+        None => Ok(false),
+        Some(node) => by_form(
+            alloc, declared, earlier, book, steps, lets, step, &node.form,
+        ),
     }
 }
 
 // Whether the step has what its rule asks, where the node that it is about has this form.
 fn by_form(
+    alloc: Global,
     declared: &[ReadScheme],
     earlier: &[ReadScheme],
     book: &Book,
@@ -122,18 +133,23 @@ fn by_form(
     lets: &BTreeMap<usize, usize>,
     step: &StepLine,
     form: &TermForm,
-) -> bool
-    ensures { IsTrue result ↔ ByForm book.now steps.now (get nat_cmp lets.now)
-        (declared.now ++ earlier.now) step.now step.now.rule form.now }
+) -> Result<bool, Memory>
+    requires closed { IsClosedBook book.now }
+    requires rising { IsRising step.now.env }
+    ensures { IfOk result (λ has. IsTrue has ↔ ByForm book.now steps.now (get nat_cmp lets.now)
+        (declared.now ++ earlier.now) step.now step.now.rule form.now) }
 {
-    match &step.rule {
+    if let StepRule::Make(numbers) = &step.rule {
+        return by_make(alloc, book, steps, step, numbers.as_slice(), form);
+    }
+    Ok(match &step.rule {
         StepRule::Var => by_var(step, form),
         StepRule::Use(number) => by_use(steps, lets, step, *number, form),
         StepRule::Name(n) => by_name(book, declared, earlier, step, *n, form),
         StepRule::Lit => by_lit(book, step, form),
         StepRule::Fun(number) => by_fun(book, steps, step, *number, form),
         StepRule::App(first, second) => by_app(book, steps, step, *first, *second, form),
-        StepRule::Make(numbers) => by_make(book, steps, step, numbers.as_slice(), form),
+        StepRule::Make(_) => false,
         StepRule::Proj(number) => by_proj(book, steps, step, *number, form),
         StepRule::If(first, second, third) => by_if(
             book,
@@ -145,5 +161,5 @@ fn by_form(
         StepRule::Let(first, second) => by_let(book, steps, lets, step, *first, *second, form),
         StepRule::Rec(number) => by_rec(steps, step, *number, form),
         StepRule::Sub(_) => false,
-    }
+    })
 }

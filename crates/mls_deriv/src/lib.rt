@@ -4,14 +4,26 @@
 pub mod check;
 pub mod claim;
 pub mod derivation;
+pub mod fault;
+mod fit;
+mod front;
 pub mod justify;
 pub mod laws;
+pub mod lookup;
+mod node_line;
 pub mod print;
+pub mod read;
 pub mod rules;
+mod section;
+mod section_line;
+mod stand;
 pub mod steps;
 pub mod sub;
 pub mod table;
 #[cfg(test)]
 mod tests;
+#[cfg(test)]
+mod tests_of_reading;
 pub mod verify;
 pub mod walk;
+mod words;

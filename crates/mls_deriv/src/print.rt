@@ -93,7 +93,7 @@ fn add_node_line(text: &mut Vec<u8>, node: &Node, alloc: Global) -> Result<(), M
 }
 
 // What stands on the line of a node behind its first word.
-fn add_node(text: &mut Vec<u8>, node: &Node, alloc: Global) -> Result<(), Memory>
+pub(crate) fn add_node(text: &mut Vec<u8>, node: &Node, alloc: Global) -> Result<(), Memory>
     ensures { OnOk result (text.new.items ≡ text.old.items ++ node_words node.now) }
 {
     match node {
@@ -180,7 +180,7 @@ fn add_line(text: &mut Vec<u8>, line: &SectionLine, alloc: Global) -> Result<(),
 }
 
 // The words of a line.
-fn add_words(text: &mut Vec<u8>, line: &SectionLine, alloc: Global) -> Result<(), Memory>
+pub(crate) fn add_words(text: &mut Vec<u8>, line: &SectionLine, alloc: Global) -> Result<(), Memory>
     ensures { OnOk result (text.new.items ≡ text.old.items ++ line_words line.now) }
 {
     match line {

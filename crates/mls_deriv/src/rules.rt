@@ -1,26 +1,31 @@
 //! What each rule of a step asks.
 ghost use Rattle.std.specs.Prelude.{◌≡◌, ◌↔◌, ◌+◌, ◌++◌, ◌∷◌, [], All, IsTrue, is_some, Some, map, option_map};
-ghost use Rattle.std.specs.Prelude.{slice_get};
+ghost use Rattle.std.specs.Prelude.{slice_get, IfOk};
 ghost use Rattle.std.specs.BTreeMap.{get};
+ghost use Rattle.std.specs.BTreeSet.{contains};
+ghost use Rattle.std.specs.Cmp.Lexicographic.{slice_cmp};
 ghost use Rattle.std.specs.Ordering.{nat_cmp};
-ghost use Rattle.mls_book.specs.Books.{node_at};
+ghost use Rattle.mls_book.specs.Books.{node_at, AreRising, IsClosedBook};
 ghost use Rattle.mls_term.specs.Derivations.{IsMeetAt};
-ghost use Rattle.mls_deriv.specs.Steps.{raised, raised_field, HasFrom};
-ghost use Rattle.mls_book.specs.declared.book.Node.TheVariants.{Int, Bool, Top, Arrow, Meet};
+ghost use Rattle.mls_deriv.specs.Steps.{raised, raised_field, HasFrom, IsRising};
+ghost use Rattle.mls_book.specs.declared.book.Node.TheVariants.{Int, Bool, Top, Arrow, Meet, Rcd};
 ghost use Rattle.mls_deriv.specs.inner.Rules.{Given, ByVar, ByUse, ByName, ByLit, ByFun, ByApp, ByMake, ByProj, ByIf};
 ghost use Rattle.mls_deriv.specs.inner.Rules.{ByLet};
 ghost use Rattle.mls_deriv.specs.inner.Rules.{ByRec, node_in, IsFunction, IsDomain, IsApplication};
 ghost use Rattle.mls_deriv.specs.inner.Rules.{IsFieldOf, AreFieldsOf, IsRecord, IsOneField, AreBranches, IsMeetIn};
-ghost use Rattle.mls_deriv.specs.inner.Rules.{child_of};
+ghost use Rattle.mls_deriv.specs.inner.Rules.{child_of, AreLabelsOf};
 
 use crate::derivation::{BinderNode, StepLine};
 use crate::justify::node_or;
-use crate::steps::{Steps, is_same, is_without, node_in};
-use mls_book::book::{Book, Field, Fields, Node, NodeId};
+use crate::lookup::{field_of, node_in};
+use crate::steps::{Steps, is_same, is_without};
+use mls_base::memory::Memory;
+use mls_book::book::{Book, Field, Node, NodeId};
 use mls_book::name::Name;
 use mls_term::term::{Part, TermForm};
 use mls_typetext::scheme::ReadScheme;
-use std::collections::BTreeMap;
+use std::alloc::Global;
+use std::collections::{BTreeMap, BTreeSet};
 
 /// A binder: the environment is just this binder, at the node of the step.
 pub fn by_var(step: &StepLine, form: &TermForm) -> bool
@@ -240,6 +245,7 @@ pub fn by_fun(book: &Book, steps: &Steps, step: &StepLine, number: usize, form: 
 
 // Whether the step has the function of this binder and body.
 fn is_function(book: &Book, step: &StepLine, binder: usize, body: &StepLine) -> bool
+    requires { IsRising body.now.env }
     ensures { IsTrue result ↔ IsFunction book.now step.now binder body.now (node_at book.now step.now.root.0) }
 {
     let bot = Node::Bot;
@@ -304,53 +310,107 @@ fn is_arrow(book: &Book, id: NodeId, domain: NodeId, codomain: NodeId) -> bool
 }
 
 /// A record: one step for each part, and just the labels of the parts.
+///
+/// # Errors
+///
+/// `Memory` where memory is wanting.
 pub fn by_make(
+    alloc: Global,
     book: &Book,
     steps: &Steps,
     step: &StepLine,
     numbers: &[usize],
     form: &TermForm,
-) -> bool
-    ensures { IsTrue result ↔ ByMake book.now steps.now step.now numbers.now form.now }
+) -> Result<bool, Memory>
+    requires { IsClosedBook book.now }
+    ensures { IfOk result (λ made. IsTrue made ↔ ByMake book.now steps.now step.now numbers.now form.now) }
 {
     match form {
-        TermForm::Make(parts) => is_record(book, steps, step, numbers, parts.as_slice()),
-        _ => false,
+        TermForm::Make(parts) => is_record(alloc, book, steps, step, numbers, parts.as_slice()),
+        _ => Ok(false),
     }
 }
 
 // Whether the step has the record of these parts.
-fn is_record(book: &Book, steps: &Steps, step: &StepLine, numbers: &[usize], parts: &[Part]) -> bool
-    ensures { IsTrue result ↔ IsRecord steps.now step.now numbers.now parts.now (node_at book.now step.now.root.0) }
+fn is_record(
+    alloc: Global,
+    book: &Book,
+    steps: &Steps,
+    step: &StepLine,
+    numbers: &[usize],
+    parts: &[Part],
+) -> Result<bool, Memory>
+    requires { IsClosedBook book.now }
+    ensures { IfOk result (λ made. IsTrue made
+        ↔ IsRecord steps.now step.now numbers.now parts.now (node_at book.now step.now.root.0)) }
 {
     let bot = Node::Bot;
     match node_or(book, step.root, &bot) {
-        Node::Rcd(fields) => {
-            are_fields_of(steps, step, fields, numbers, parts)
-                && are_labels_of(fields.as_slice(), parts)
-                && (!parts.is_empty() || step.env.is_empty())
-        }
-        _ => false,
+        Node::Rcd(fields) => are_made(alloc, steps, step, fields.as_slice(), numbers, parts),
+        _ => Ok(false),
     }
 }
 
-// Whether each label is that of a part.
-fn are_labels_of(fields: &[Field], parts: &[Part]) -> bool
-    ensures { IsTrue result ↔ All (λ field. IsTrue (is_some (child_of parts.now field.label))) fields.now }
+// Whether the fields are those of these parts.
+fn are_made(
+    alloc: Global,
+    steps: &Steps,
+    step: &StepLine,
+    fields: &[Field],
+    numbers: &[usize],
+    parts: &[Part],
+) -> Result<bool, Memory>
+    requires { AreRising fields.now }
+    ensures { IfOk result (λ made. IsTrue made
+        ↔ IsRecord steps.now step.now numbers.now parts.now (Rcd fields.now)) }
 {
-    fields
-        .iter()
-        .all(|field| child_of(parts, &field.label).is_some())
+    if !are_fields_of(steps, step, fields, numbers, parts) {
+        return Ok(false);
+    }
+    if parts.is_empty() && !step.env.is_empty() {
+        return Ok(false);
+    }
+    are_labels_of(alloc, fields, parts)
 }
 
-// The child of the part with this label.
-fn child_of(parts: &[Part], label: &Name) -> Option<usize>
-    ensures { result ≡ child_of parts.now label.now }
+// Whether each label is that of a part.
+fn are_labels_of(alloc: Global, fields: &[Field], parts: &[Part]) -> Result<bool, Memory>
+    ensures { IfOk result (λ all. IsTrue all
+        ↔ All (λ field. IsTrue (is_some (child_of parts.now field.label))) fields.now) }
 {
-    parts
-        .iter()
-        .find(|part| part.label == *label)
-        .map(|part| part.child)
+    let labels = labels_of(alloc, parts)?;
+    Ok(are_among(&labels, fields))
+}
+
+// Whether the labels of all fields are among these.
+fn are_among(labels: &BTreeSet<Name>, fields: &[Field]) -> bool
+    ensures { IsTrue result ↔ All (λ field. IsTrue (contains (slice_cmp nat_cmp) labels.now field.label)) fields.now }
+{
+    for field in fields {
+        if !labels.contains(&field.label) {
+            return false;
+        }
+    }
+    true
+}
+
+// The labels of the parts.
+fn labels_of(alloc: Global, parts: &[Part]) -> Result<BTreeSet<Name>, Memory>
+    ensures { IfOk result (λ labels. AreLabelsOf parts.now (contains (slice_cmp nat_cmp) labels)) }
+{
+    let mut labels = BTreeSet::new(alloc);
+    for part in parts {
+        labels.insert(copy_of(&part.label)?)?;
+    }
+    Ok(labels)
+}
+
+// A copy of a name.
+fn copy_of(name: &Name) -> Result<Name, Memory>
+    ensures { IfOk result (λ copy. copy ≡ name.now) }
+{
+    let copy = name.clone()?;
+    Ok(copy)
 }
 
 // Whether there is one step for each part, which has the field of its label.
@@ -358,10 +418,11 @@ fn child_of(parts: &[Part], label: &Name) -> Option<usize>
 fn are_fields_of(
     steps: &Steps,
     step: &StepLine,
-    fields: &Fields,
+    fields: &[Field],
     numbers: &[usize],
     parts: &[Part],
 ) -> bool
+    requires { AreRising fields.now }
     ensures { IsTrue result ↔ AreFieldsOf steps.now step.now fields.now numbers.now parts.now }
 {
     if numbers.len() != parts.len() {
@@ -376,14 +437,15 @@ fn are_fields_of(
 }
 
 // Whether the step of a part has the field of its label.
-fn is_field_of(steps: &Steps, step: &StepLine, fields: &Fields, number: usize, part: &Part) -> bool
+fn is_field_of(steps: &Steps, step: &StepLine, fields: &[Field], number: usize, part: &Part) -> bool
+    requires { AreRising fields.now }
     ensures { IsTrue result ↔ IsFieldOf steps.now step.now fields.now (Some number) part.now }
 {
     match steps.about(number, part.child) {
         None => false,
         Some(first) => {
             is_same(first.env.as_slice(), step.env.as_slice())
-                && fields.get(&part.label) == Some(first.root)
+                && field_of(fields, &part.label) == Some(first.root)
         }
     }
 }
@@ -481,6 +543,7 @@ pub fn by_let(
     second: usize,
     form: &TermForm,
 ) -> bool
+    requires { IsRising step.now.env }
     ensures { IsTrue result ↔ ByLet book.now steps.now (get nat_cmp lets.now) step.now first second form.now }
 {
     match form {
@@ -506,6 +569,9 @@ pub fn by_let(
 // Whether the third environment is the meet of the others.
 #[tactic(auto, using(crate::proofs::CheckedRules::all_met, crate::proofs::CheckedRules::met_at))]
 fn is_meet(book: &Book, left: &[BinderNode], right: &[BinderNode], both: &[BinderNode]) -> bool
+    requires left { IsRising left.now }
+    requires right { IsRising right.now }
+    requires both { IsRising both.now }
     ensures { IsTrue result ↔ IsMeetIn book.now left.now right.now both.now }
 {
     if !are_met(book, left, left, right, both) {
@@ -525,6 +591,9 @@ fn are_met(
     right: &[BinderNode],
     both: &[BinderNode],
 ) -> bool
+    requires left { IsRising left.now }
+    requires right { IsRising right.now }
+    requires both { IsRising both.now }
     ensures { IsTrue result ↔ All (λ entry. IsMeetAt book.now (node_in left.now entry.binder)
         (node_in right.now entry.binder) (node_in both.now entry.binder)) binders.now }
 {
@@ -541,6 +610,9 @@ fn is_met(
     both: &[BinderNode],
     x: usize,
 ) -> bool
+    requires left { IsRising left.now }
+    requires right { IsRising right.now }
+    requires both { IsRising both.now }
     ensures { IsTrue result ↔ IsMeetAt book.now (node_in left.now x) (node_in right.now x) (node_in both.now x) }
 {
     is_meet_of(book, node_in(left, x), node_in(right, x), node_in(both, x))

@@ -1,27 +1,29 @@
-//! The steps of a section so far, and look-ups in environments.
-ghost use Rattle.std.specs.Prelude.{◌≡◌, ◌↔◌, ◌++◌, ◌∷◌, [], IfOk, OnOk, IsTrue, slice_get, option_map, length};
+//! The steps of a section so far, and questions to environments.
+ghost use Rattle.std.specs.Prelude.{◌≡◌, ◌↔◌, ◌++◌, ◌∷◌, [], IfOk, IfSome, OnOk, IsTrue, slice_get, option_map, length};
 ghost use Rattle.mls_deriv.specs.Steps.{IsRising};
-ghost use Rattle.mls_deriv.specs.inner.Rules.{about, last_of, node_in, without, AreLow};
+ghost use Rattle.mls_deriv.specs.inner.Rules.{about, last_of, without, AreLow};
 
 use crate::derivation::{BinderNode, StepLine};
 use mls_base::memory::Memory;
-use mls_book::book::NodeId;
 use std::alloc::Global;
 use std::marker::Model;
 
-/// Steps by their numbers. Contracts see the list.
+/// Steps by their numbers, each with binders that rise. Contracts see the list.
 #[derive(Drop)]
 pub struct Steps<'a> {
     steps: Vec<&'a StepLine>,
 }
 
 impl<'a> Model for Steps<'a> {
-    ghost use Rattle.std.specs.Prelude.{List, map};
+    ghost use Rattle.std.specs.Prelude.{All, List, map};
     ghost use Rattle.mls_deriv.specs.declared.derivation.StepLine.{StepLine};
+    ghost use Rattle.mls_deriv.specs.Steps.{IsRising};
 
     ghost Value = { List StepLine };
 
     ghost view = { λ s. map (λ step. step.now) s.steps.items };
+
+    ghost invariant = { λ s. All (λ step. IsRising step.now.env) s.steps.items };
 }
 
 impl<'a> Steps<'a> {
@@ -36,6 +38,7 @@ impl<'a> Steps<'a> {
 
     /// One more step.
     pub fn push(&mut self, step: &'a StepLine) -> Result<(), Memory>
+        requires { IsRising step.now.env }
         ensures { OnOk result (self.new ≡ self.old ++ step.now ∷ []) }
     {
         self.steps.push(step)?;
@@ -51,7 +54,8 @@ impl<'a> Steps<'a> {
 
     /// The step of this number.
     pub fn get(&self, number: usize) -> Option<&'a StepLine>
-        ensures { option_map (λ step. step.now) result ≡ slice_get self.now number }
+        ensures rising { IfSome result (λ step. IsRising step.now.env) }
+        ensures found { option_map (λ step. step.now) result ≡ slice_get self.now number }
     {
         if number < self.steps.len() {
             Some(self.steps[number])
@@ -74,22 +78,14 @@ impl<'a> Steps<'a> {
 
     /// The step of this number, if it is about this node of the term.
     pub fn about(&self, number: usize, part: usize) -> Option<&'a StepLine>
-        ensures { option_map (λ step. step.now) result ≡ about self.now number part }
+        ensures rising { IfSome result (λ step. IsRising step.now.env) }
+        ensures found { option_map (λ step. step.now) result ≡ about self.now number part }
     {
         match self.get(number) {
             None => None,
             Some(step) => { if step.node == part { Some(step) } else { None } }
         }
     }
-}
-
-/// The node of a binder.
-pub fn node_in(env: &[BinderNode], binder: usize) -> Option<NodeId>
-    ensures { option_map (λ id. id.0) result ≡ node_in env.now binder }
-{
-    env.iter()
-        .find(|entry| entry.binder == binder)
-        .map(|entry| entry.node)
 }
 
 /// Whether both are the same environment.

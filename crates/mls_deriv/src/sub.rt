@@ -1,12 +1,15 @@
 //! What the rule of subsumption asks: the pairs that follow the step.
 ghost use Rattle.std.specs.Prelude.{◌↔◌, All, IsTrue, option_map};
+ghost use Rattle.mls_book.specs.Books.{IsClosedBook};
+ghost use Rattle.mls_deriv.specs.Steps.{IsRising};
 ghost use Rattle.mls_deriv.specs.inner.Rules.{node_in, AreShown, BySub, IsInstance, IsKeptIn, IsLowPut};
 ghost use Rattle.mls_deriv.specs.inner.Tables.{Holds, put_in};
 
 use crate::derivation::{BinderNode, Mode, SectionLine, StepLine};
 use crate::justify::is_shown;
+use crate::lookup::node_in;
 use crate::rules::is_top;
-use crate::steps::{Steps, node_in};
+use crate::steps::Steps;
 use crate::table::Table;
 use mls_book::book::{Book, NodeId};
 
@@ -19,6 +22,8 @@ pub fn by_sub(
     lines: &[SectionLine],
     number: usize,
 ) -> bool
+    requires closed { IsClosedBook book.now }
+    requires rising { IsRising step.now.env }
     ensures { IsTrue result ↔ BySub book.now steps.now (put_in table.now) (Holds table.now) step.now lines.now number }
 {
     match steps.about(number, step.node) {
@@ -29,6 +34,7 @@ pub fn by_sub(
 
 // Whether the pairs claim that the first step subsumes the other.
 fn is_instance(book: &Book, table: &Table, step: &StepLine, first: &StepLine) -> bool
+    requires { IsRising step.now.env }
     ensures { IsTrue result ↔ IsInstance book.now (Holds table.now) step.now first.now }
 {
     table.holds(Mode::Lr, first.root.0, step.root.0)
@@ -37,6 +43,7 @@ fn is_instance(book: &Book, table: &Table, step: &StepLine, first: &StepLine) ->
 
 // Whether the node of each binder of the second environment is kept.
 fn are_kept(book: &Book, table: &Table, env: &[BinderNode], first: &[BinderNode]) -> bool
+    requires { IsRising env.now }
     ensures { IsTrue result ↔ All (λ entry. IsKeptIn book.now (Holds table.now)
         (node_in env.now entry.binder) entry.node.0) first.now }
 {
@@ -55,6 +62,7 @@ fn is_kept(book: &Book, table: &Table, found: Option<NodeId>, node: NodeId) -> b
 
 // Whether the lines that belong to the step are shown.
 fn are_shown(book: &Book, table: &Table, lines: &[SectionLine]) -> bool
+    requires { IsClosedBook book.now }
     ensures { IsTrue result ↔ AreShown book.now (put_in table.now) (Holds table.now) lines.now }
 {
     for line in lines {

@@ -56,7 +56,7 @@ pub fn head_of(alloc: Global, section: &Section) -> Result<Option<ReadScheme>, M
 }
 
 // Whether memory was wanting.
-fn is_memory(fault: &TypeFault) -> bool
+pub(crate) fn is_memory(fault: &TypeFault) -> bool
     ensures { IsTrue result ↔ (fault.now ≡ TypeFault.Memory) }
 {
     matches!(fault, TypeFault::Memory)

@@ -4,10 +4,15 @@ use Rattle.mls_book.specs.declared.book.Field.{Field}
 use Rattle.mls_book.specs.declared.book.NodeId.{NodeId}
 use Rattle.mls_book.specs.declared.book.Node.{Node}
 use Rattle.mls_book.specs.declared.book.Node.TheVariants as node
-use Rattle.mls_book.specs.Books.{node_at, field_at}
+use Rattle.mls_book.specs.Books.{node_at, field_at, AreRising}
 use Rattle.mls_deriv.specs.declared.derivation.Mode.{Mode}
 use Rattle.mls_deriv.specs.declared.derivation.Mode.TheVariants.{Lr, Rl, Pp}
 use Rattle.mls_deriv.specs.Pairs.{exchanged}
+
+-- the labels of the node rise, if it is a record
+abbrev pub HasRisingLabels : Node → Type 0
+HasRisingLabels (node.Rcd fields) = AreRising fields
+HasRisingLabels _ = Unit {0}
 
 -- a variable that reads as this node
 abbrev pub IsReadAs : (ℕ → Type 0) → Option ℕ → Type 0

@@ -1,6 +1,6 @@
 -- What the check of a step asks of its lists, rule by rule.
-use Rattle.std.specs.Prelude.{◌≡◌, ◌⊎◌, ◌==◌, ℕ, suc, ◌+◌, ◌-◌, ◌<◌, List, [], ◌∷◌, filter, find, length, slice_get}
-use Rattle.std.specs.Prelude.{option_map, cond, not, nat_eq, bytes_eq, is_some, IsTrue, All, Option, Some, None}
+use Rattle.std.specs.Prelude.{◌≡◌, ◌⊎◌, ◌==◌, Bool, ℕ, suc, ◌+◌, ◌-◌, ◌<◌, List, [], ◌∷◌, filter, find, length}
+use Rattle.std.specs.Prelude.{slice_get, option_map, cond, not, nat_eq, bytes_eq, is_some, IsTrue, All, Option, Some, None}
 use Rattle.mls_book.specs.declared.book.Field.{Field}
 use Rattle.mls_book.specs.declared.book.NodeId.{NodeId}
 use Rattle.mls_book.specs.declared.book.Node.{Node}
@@ -59,6 +59,10 @@ IsDomain book None i = node_at book i ≡ node.Top
 -- the child of the part with this label
 abbrev pub child_of : List Part → List ℕ → Option ℕ
 child_of parts label = option_map (λ part. part.child) (find (λ part. bytes_eq part.label label) parts)
+
+-- the labels of the parts are those of which this holds
+abbrev pub AreLabelsOf : List Part → (List ℕ → Bool) → Type 0
+AreLabelsOf parts is_label = (label : List ℕ) → is_label label ≡ is_some (child_of parts label)
 
 -- both environments meet in the third
 abbrev pub IsMeetIn : List Node → (left right both : List BinderNode) → Type 0

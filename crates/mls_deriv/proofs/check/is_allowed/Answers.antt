@@ -8,4 +8,4 @@ pub returns : goal.returns
 returns c = λ known let_is.
     let both = allowed_found c.args.nodes.now (c.args.declared.now ++ c.args.earlier.now) c.args.book.now c.args.steps.now known c.args.lines.now c.args.step.now
     c.in_ok-table.table (get nat_cmp c.args.lets.now) c.requires.closed c.requires.rising (c.in_ok-table.ensures) let_is in
-    (λ h. both.0 (c.is_found.ensures.0 h), λ a. c.is_found.ensures.1 (both.1 a))
+    (λ h. both.0 (c.in_ok-found.ensures.0 h), λ a. c.in_ok-found.ensures.1 (both.1 a))
