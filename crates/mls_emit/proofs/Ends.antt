@@ -20,23 +20,20 @@ use Rattle.mls_deriv.specs.declared.derivation.Mode.TheVariants.{Lr, Rl}
 use Rattle.mls_deriv.specs.declared.derivation.StepLine.{StepLine}
 use Rattle.mls_deriv.specs.Pairs.{put_at}
 use Rattle.mls_deriv.specs.declared.claim.Put.{Put}
-use Rattle.mls_deriv.specs.declared.claim.Pair.{Pair}
 use Rattle.mls_deriv.specs.Steps.{env_of, Before, Says}
 use Rattle.mls_emit.specs.Shown.{IsShown, based}
 use Rattle.mls_emit.specs.Layouts.{IsLayout, PartClaims, IsItself}
 use Rattle.mls_emit.specs.Uses.{IsNameLayout, ArePuts, IsUseClaim, NoClaim}
-use Rattle.mls_emit.specs.Emitted.{IsListOf}
 use Rattle.mls_emit.specs.Rows.{at, concluded, Fits, HasRow}
-use Rattle.mls_emit.proofs.PartClaims.{below_type_shown, above_type_shown}
-use Rattle.mls_emit.proofs.UseClaims.{copied_shown}
+use Rattle.mls_emit.proofs.PartClaims.{below_type_shown, above_type_shown, part_shown}
+use Rattle.mls_emit.proofs.UseClaims.{copied_shown, use_shown}
 use Rattle.mls_emit.proofs.Rows.{sub_row}
 use Rattle.mls_emit.proofs.UseRows.{put_row}
 
 module _ (b : Before) (a : Automaton) (IsGoal : ℕ → ℕ → Type 0) (closed : IsClosed a) (goals : AreGoals a IsGoal) (free : HasNoClash a (IsRelated a IsGoal))
     (general special : Scheme) (is_solved : IsSolved a (IsRelated a IsGoal) general.automaton) (closed_type : IsClosed special.automaton)
     (walked : List StatePair) (walk : IsWalk general special walked)
-    (place type_place : ℕ → ℕ) (layout : IsLayout b.book a special.automaton (IsRelated a IsGoal) (IsIn walked) place type_place)
-    (pairs : List Pair) (list : IsListOf b.book [] IsItself (PartClaims a special.automaton (IsRelated a IsGoal) (IsIn walked) place type_place) pairs) where
+    (place type_place : ℕ → ℕ) (layout : IsLayout b.book a special.automaton (IsRelated a IsGoal) (IsIn walked) place type_place) where
   pub type_part : (steps : List StepLine) (number part : ℕ) (d : Env) (wider : List BinderNode) → polarity_at a general.root.0 ≡ Positive
       → Says (at b steps) number part (concluded b d (place general.root.0)) → IsScheme (concluded b d (place general.root.0))
       → Fits b wider (type_place special.root.0)
@@ -44,7 +41,8 @@ module _ (b : Before) (a : Automaton) (IsGoal : ℕ → ℕ → Type 0) (closed 
       → HasRow b steps part (env_of wider) (type_place special.root.0)
   type_part steps number part d wider is_positive says is is' binders =
       sub_row b IsItself (PartClaims a special.automaton (IsRelated a IsGoal) (IsIn walked) place type_place)
-      (λ mode i. based refl) pairs list steps number part d (place general.root.0) wider (type_place special.root.0) says is is'
+      (part_shown b.book a IsGoal closed goals free general special is_solved closed_type walked walk place type_place layout)
+      (λ mode i. based refl) steps number part d (place general.root.0) wider (type_place special.root.0) says is is'
       (below_type_shown b.book a IsGoal closed goals free general special is_solved closed_type walked walk place type_place layout true Lr general.root.0 special.root.0 walk.roots is_positive)
       (λ x k found.
       let it = binders x k found in (
@@ -57,7 +55,7 @@ module _ (b : Before) (a : Automaton) (IsGoal : ℕ → ℕ → Type 0) (closed 
 module _ (b : Before) (a type_of_part : Automaton) (R IsPair : ℕ → ℕ → Type 0) (place part_place : ℕ → ℕ) (layout : IsLayout b.book a type_of_part R IsPair place part_place)
     (IsPlace : ℕ → Type 0) (sign : ℕ → Polarity) (type_place copy : ℕ → ℕ) (type : IsNameLayout b.book a IsPlace sign type_place copy)
     (puts : List Put) (are : ArePuts b.book IsPlace sign type.variables place copy puts)
-    (low : (x n : ℕ) → put_at puts x ≡ Some n → n < length b.book) (pairs : List Pair) (list : IsListOf b.book puts NoClaim (IsUseClaim IsPlace sign place type_place copy) pairs) where
+    (low : (x n : ℕ) → put_at puts x ≡ Some n → n < length b.book) where
   pub copied_part : (steps : List StepLine) (number part : ℕ) (d : Env) (root : ℕ) (wider : List BinderNode) → IsPlace root → sign root ≡ Positive
       → Says (at b steps) number part (concluded b d (type_place root)) → IsScheme (concluded b d (type_place root))
       → Fits b wider (place (copy root))
@@ -65,7 +63,8 @@ module _ (b : Before) (a type_of_part : Automaton) (R IsPair : ℕ → ℕ → T
       → HasRow b steps part (env_of wider) (place (copy root))
   copied_part steps number part d root wider at_root is_positive says is is' binders =
       put_row b puts low NoClaim (IsUseClaim IsPlace sign place type_place copy)
-      pairs list steps number part d (type_place root) wider (place (copy root)) says is is'
+      (use_shown b.book a type_of_part R IsPair place part_place layout IsPlace sign type_place copy type puts are)
+      steps number part d (type_place root) wider (place (copy root)) says is is'
       (copied_shown b.book a type_of_part R IsPair place part_place layout IsPlace sign type_place copy type puts are true Positive root at_root is_positive)
       (λ x k found.
       let it = binders x k found in (

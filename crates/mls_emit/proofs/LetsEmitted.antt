@@ -10,7 +10,7 @@ use Rattle.mls_book.specs.declared.book.Node.{Node}
 use Rattle.mls_book.specs.declared.book.Node.TheVariants as node
 use Rattle.mls_book.specs.Books.{node_at}
 use Rattle.mls_book.specs.Schemes.{Env}
-use Rattle.mls_book.proofs.Children.{HasChildrenIn, at_found}
+use Rattle.mls_book.proofs.Children.{at_found}
 use Rattle.mls_automaton.specs.declared.automaton.Polarity.TheVariants.{Negative}
 use Rattle.mls_automaton.specs.Automata.{Automaton}
 use Rattle.mls_term.specs.declared.term.TermForm.TheVariants as form
@@ -25,20 +25,12 @@ use Rattle.mls_deriv.specs.declared.claim.Put.{Put}
 use Rattle.mls_deriv.specs.Steps.{env_of, form_at, Before, Says, let_in}
 use Rattle.mls_emit.specs.Shown.{IsShown, based, claimed, bot_left, top_right, join_left, meet_right, meet_first, meet_second, join_first, join_second, both_bool, both_int, one_variable, arrows, rcds, put_left, put_right, same, AreShown}
 use Rattle.mls_emit.specs.Layouts.{IsLayout}
-use Rattle.mls_emit.specs.Uses.{IsUseClaim, above_copy, NoClaim}
-use Rattle.mls_deriv.specs.declared.claim.Pair.{Pair}
-use Rattle.mls_emit.specs.Emitted.{IsListOf}
+use Rattle.mls_emit.specs.Uses.{IsCopyOf, NamesOnly, AreFree, IsUseClaim, above_copy, NoClaim}
 use Rattle.mls_emit.specs.Runs.{a_step}
 use Rattle.mls_emit.specs.Rows.{at, concluded, Fits, HasRow}
-use Rattle.mls_emit.proofs.NamesEmitted.{IsCopyOf}
 use Rattle.mls_emit.proofs.Rows.{row_step, row_after}
 use Rattle.mls_emit.proofs.UseClaims.{use_shown}
 use Rattle.mls_emit.proofs.UseRows.{put_row}
-
--- nodes from which no variable is reached that stands for another node
-pub record AreFree (book : List Node) (puts : List Put) (Free : ℕ → Type 0) : Type 0 where
-  pub children : (i : ℕ) → Free i → HasChildrenIn Free (node_at book i)
-  pub variables : (i x : ℕ) → Free i → node_at book i ≡ node.Var x → put_at puts x ≡ None
 
 -- such a node and itself
 abbrev pub IsFreeItself : (ℕ → Type 0) → Mode → ℕ → ℕ → Type 0
@@ -64,8 +56,8 @@ module _ (book : List Node) (puts : List Put) (Free : ℕ → Type 0) (free : Ar
   pub free_justified : (mode : Mode) (i : ℕ) → Free i → IsJustified book puts Shown mode i i
   free_justified mode i it = go (node_at book i) refl
     where
-      children : (n : Node) → node_at book i ≡ n → HasChildrenIn Free n
-      children n e = subst (HasChildrenIn Free) e (free.children i it)
+      children : (n : Node) → node_at book i ≡ n → NamesOnly Free n
+      children n e = subst (NamesOnly Free) e (free.children i it)
 
       go : (n : Node) → node_at book i ≡ n → IsJustified book puts Shown mode i i
       go node.Bot e = bot_below e
@@ -112,7 +104,7 @@ module _ (book : List Node) (puts : List Put) (Free : ℕ → Type 0) (free : Ar
   }
 
 module _ (b : Before) (a type_of_part : Automaton) (R IsPair : ℕ → ℕ → Type 0) (place part_place : ℕ → ℕ) (layout : IsLayout b.book a type_of_part R IsPair place part_place)
-    (IsPlace : ℕ → Type 0) (root : ℕ) (it : IsCopyOf b a type_of_part R IsPair place part_place layout IsPlace root)
+    (IsPlace : ℕ → Type 0) (root : ℕ) (it : IsCopyOf b.book a place IsPlace root)
     (Free : ℕ → Type 0) (free : AreFree b.book it.puts Free) where
   abbrev Claims : Mode → ℕ → ℕ → Type 0
   Claims = IsUseClaim IsPlace it.sign place it.known_place it.copy
@@ -125,18 +117,18 @@ module _ (b : Before) (a type_of_part : Automaton) (R IsPair : ℕ → ℕ → T
 
   -- The first part has its type at the step of its let line; its binders have the nodes of states of its type, whose copies are the states
   -- of the binders. Then the second part's step, in the environment `d`.
-  pub let_part : (pairs : List Pair) → IsListOf b.book it.puts (IsFreeItself Free) Claims pairs → (steps : List StepLine) (first second e k f g : ℕ) (d1 : Env) (t1 t : ℕ) (both d : List BinderNode)
+  pub let_part : (steps : List StepLine) (first second e k f g : ℕ) (d1 : Env) (t1 t : ℕ) (both d : List BinderNode)
       → form_at b.term_nodes e ≡ Some (form.Let k f g) → env.find nat_cmp k b.lets ≡ Some first → IsMeet b.book d1 (env_of d) (env_of both)
       → Says (at b steps) first f (concluded b d1 t1) → Says (at b steps) second g (concluded b (env_of d) t)
       → Fits b both t → Fits b d t → Free t → ((x n : ℕ) → env.get (env_of d) x ≡ Some n → Free n)
       → ((x i : ℕ) → env.get d1 x ≡ Some i → (s : ℕ) × (i ≡ it.known_place s) × IsPlace s × (it.sign s ≡ Negative) × (env.get (env_of d) x ≡ Some (place (it.copy s))))
       → HasRow b steps e (env_of d) t
-  let_part pairs list steps first second e k f g d1 t1 t both d is_form found meet says1 says2 is_both is_d free_t free_d binders =
+  let_part steps first second e k f g d1 t1 t both d is_form found meet says1 says2 is_both is_d free_t free_d binders =
       let row =
-      row_step b steps (a_step e (rule.Let first second) both t) [] []
-      (record { in_range = is_both.scheme; rising = is_both.rising; by_rule = let_in first second k f g d1 (env_of d) t1 refl is_form found meet says1 says2 }) in
+      row_step b steps (a_step e (rule.Let first second) both t) []
+      (λ pairs list. record { in_range = is_both.scheme; rising = is_both.rising; by_rule = let_in first second k f g d1 (env_of d) t1 refl is_form found meet says1 says2 }) in
       row_after b steps row.more e (env_of d) t row.leads
-      (put_row b it.puts it.low (IsFreeItself Free) Claims pairs list row.more row.number e (env_of both) t d t row.says is_both.scheme is_d (based (free_t, refl))
+      (put_row b it.puts it.low (IsFreeItself Free) Claims let_shown row.more row.number e (env_of both) t d t row.says is_both.scheme is_d (based (free_t, refl))
       (λ x n at_x. above x n (env.get d1 x) (env.get (env_of d) x) (env.get (env_of both) x) refl refl at_x (meet x)))
     where
       Found : ℕ → ℕ → Type 0

@@ -20,19 +20,17 @@ use Rattle.mls_deriv.specs.declared.derivation.BinderNode.{BinderNode}
 use Rattle.mls_deriv.specs.declared.derivation.Mode.{Mode}
 use Rattle.mls_deriv.specs.declared.derivation.Mode.TheVariants.{Lr}
 use Rattle.mls_deriv.specs.declared.derivation.StepLine.{StepLine}
-use Rattle.mls_deriv.specs.declared.claim.Pair.{Pair}
 use Rattle.mls_deriv.specs.Steps.{env_of, form_at, Before, Says, HaveLabelsOf}
-use Rattle.mls_emit.specs.Shown.{IsShown, based}
+use Rattle.mls_emit.specs.Shown.{IsShown, based, AreShown}
 use Rattle.mls_emit.specs.Trees.{IsTree, IsPlaceIn}
 use Rattle.mls_emit.specs.Heads.{IsFieldAt, AreParts}
 use Rattle.mls_emit.specs.Layouts.{IsLayout, IsItself}
-use Rattle.mls_emit.specs.Emitted.{IsListOf}
 use Rattle.mls_emit.specs.Rows.{at, concluded, Fits, HasRow, Keeps}
 use Rattle.mls_emit.proofs.MakeRows.{SaysBelow, AllSayBelow, make_row}
 use Rattle.mls_emit.proofs.RowPairs.{set_below, head_below}
 
 module _ (b : Before) (a type : Automaton) (R IsPair : ℕ → ℕ → Type 0) (place type_place : ℕ → ℕ) (layout : IsLayout b.book a type R IsPair place type_place)
-    (claims : Mode → ℕ → ℕ → Type 0) (pairs : List Pair) (list : IsListOf b.book [] IsItself claims pairs)
+    (claims : Mode → ℕ → ℕ → Type 0) (shown : AreShown b.book [] IsItself claims)
     (closed_book : IsClosedBook b.book) (low : (s i : ℕ) → Contains (layout.parts s) i → i < length b.book) where
   abbrev Shown : Mode → ℕ → ℕ → Type 0
   Shown = IsShown b.book [] IsItself claims true
@@ -69,7 +67,7 @@ module _ (b : Before) (a type : Automaton) (R IsPair : ℕ → ℕ → Type 0) (
     with_type t h = record { scheme = record { book = is_d.scheme.book; root = h; env = is_d.scheme.env }; rising = is_d.rising }
 
     below_field : (i root : ℕ) (steps : List StepLine) (number : ℕ) (part : Part) → SaysRoot steps sets (env_of d) number part
-        → SaysBelow b IsItself claims (λ mode i. based refl) pairs list d root fields steps number part
+        → SaysBelow b IsItself claims shown (λ mode i. based refl) d root fields steps number part
     below_field i root steps number part it =
         let there = field_there (it.root ∷ []) (field_at part.label fields) (subst (λ o. IsFieldAt b.book place Positive o (field_at part.label fields)) it.set (field part.label)) in
         record {
@@ -85,7 +83,7 @@ module _ (b : Before) (a type : Automaton) (R IsPair : ℕ → ℕ → Type 0) (
         }
 
     all_below : (root : ℕ) (steps : List StepLine) (numbers : List ℕ) (parts : List Part) → AllSayRoots steps sets (env_of d) numbers parts
-        → AllSayBelow b IsItself claims (λ mode i. based refl) pairs list d root fields steps numbers parts
+        → AllSayBelow b IsItself claims shown (λ mode i. based refl) d root fields steps numbers parts
     all_below root steps [] [] all = tt
     all_below root steps [] (part ∷ parts) all = absurd all
     all_below root steps (number ∷ numbers) [] all = absurd all
@@ -109,7 +107,7 @@ module _ (b : Before) (a type : Automaton) (R IsPair : ℕ → ℕ → Type 0) (
       = λ label.
       let one = field_some (set_at sets label) (field_at label w.2.fields) (field label) in
       (λ h. (labels label).0 (one.0 h), λ h. one.1 ((labels label).1 h)) in
-      make_row b IsItself claims (λ mode i. based refl) pairs list d w.0 w.2.fields steps e numbers parts (place q) is_form w.2.node have none
+      make_row b IsItself claims shown (λ mode i. based refl) d w.0 w.2.fields steps e numbers parts (place q) is_form w.2.node have none
       (all_below sets d q is_d w.2.fields children field w.0 steps numbers parts all)
       (with_type sets d q is_d w.2.fields children field w.0 (low q w.0 w.1)) is_d
       (head_below b.book claims true Lr a type R IsPair place type_place layout q w.0 is_q w.1)

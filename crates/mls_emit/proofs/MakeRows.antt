@@ -1,6 +1,6 @@
 -- The row of a record: a step by pairs for each part, and the rule.
 --     make_row
-use Rattle.std.proofs.Common.{◌≡◌, ℕ, true, List, [], ◌∷◌, refl, sym, append-nil, Some}
+use Rattle.std.proofs.Common.{◌≡◌, ℕ, true, List, [], ◌∷◌, refl, Some}
 use Rattle.mls_book.specs.declared.book.Field.{Field}
 use Rattle.mls_book.specs.declared.book.NodeId.{NodeId}
 use Rattle.mls_book.specs.declared.book.Node.TheVariants as node
@@ -14,16 +14,14 @@ use Rattle.mls_deriv.specs.declared.derivation.Mode.{Mode}
 use Rattle.mls_deriv.specs.declared.derivation.Mode.TheVariants.{Lr, Rl}
 use Rattle.mls_deriv.specs.declared.derivation.StepLine.{StepLine}
 use Rattle.mls_deriv.specs.declared.derivation.StepRule.TheVariants as rule
-use Rattle.mls_deriv.specs.declared.claim.Pair.{Pair}
 use Rattle.mls_deriv.specs.Steps.{env_of, form_at, Before, Says, AllSay, HaveLabelsOf, make}
-use Rattle.mls_emit.specs.Shown.{IsShown}
-use Rattle.mls_emit.specs.Emitted.{IsListOf}
+use Rattle.mls_emit.specs.Shown.{IsShown, AreShown}
 use Rattle.mls_emit.specs.Runs.{a_step}
 use Rattle.mls_emit.specs.Rows.{at, concluded, Fits, Leads, HasRow, Widens}
-use Rattle.mls_emit.proofs.Rows.{leads_then, row_step, row_after, sub_row}
+use Rattle.mls_emit.proofs.Rows.{leads_then, leads_still, row_step, row_after, sub_row}
 
-module _ (b : Before) (base claims : Mode → ℕ → ℕ → Type 0) (itself : (mode : Mode) (i : ℕ) → IsShown b.book [] base claims true mode i i)
-    (pairs : List Pair) (list : IsListOf b.book [] base claims pairs) (d : List BinderNode) (root : ℕ) (fields : List Field) where
+module _ (b : Before) (base claims : Mode → ℕ → ℕ → Type 0) (shown : AreShown b.book [] base claims)
+    (itself : (mode : Mode) (i : ℕ) → IsShown b.book [] base claims true mode i i) (d : List BinderNode) (root : ℕ) (fields : List Field) where
   -- a step says of a part what is below the field of its label
   pub record SaysBelow (steps : List StepLine) (number : ℕ) (part : Part) : Type 0 where
     pub field : NodeId
@@ -58,15 +56,15 @@ module _ (b : Before) (base claims : Mode → ℕ → ℕ → Type 0) (itself : 
     told : Told more numbers parts
 
   -- the steps of the later parts come first
-  subs : (steps : List StepLine) → Leads b steps steps → (numbers : List ℕ) (parts : List Part) → AllSayBelow steps numbers parts → HasSubs steps parts
-  subs steps still [] [] all = record { more = steps; leads = still; numbers = []; told = tt }
-  subs steps still [] (part ∷ parts) all = absurd all
-  subs steps still (number ∷ numbers) [] all = absurd all
-  subs steps still (number ∷ numbers) (part ∷ parts) all =
-      let rest = subs steps still numbers parts all.1 in
+  subs : (steps : List StepLine) (numbers : List ℕ) (parts : List Part) → AllSayBelow steps numbers parts → HasSubs steps parts
+  subs steps [] [] all = record { more = steps; leads = leads_still b steps; numbers = []; told = tt }
+  subs steps [] (part ∷ parts) all = absurd all
+  subs steps (number ∷ numbers) [] all = absurd all
+  subs steps (number ∷ numbers) (part ∷ parts) all =
+      let rest = subs steps numbers parts all.1 in
       let it = all.0 in
       let row =
-      sub_row b base claims itself pairs list rest.more number part.child it.env it.type d it.field.0
+      sub_row b base claims shown itself rest.more number part.child it.env it.type d it.field.0
       (rest.leads.kept number part.child (concluded b it.env it.type) it.says) it.is it.is_wider it.below it.widens in
       record {
         more = row.more;
@@ -75,24 +73,16 @@ module _ (b : Before) (base claims : Mode → ℕ → ℕ → Type 0) (itself : 
         told = ((it.field, it.found, row.says), all_kept rest.more row.more row.leads rest.numbers parts rest.told);
       }
 
-  -- no line
-  still : (steps : List StepLine) → Leads b steps steps
-  still steps = record {
-    lines = [];
-    run = record { steps = sym (append-nil steps); anew = λ rest anew. anew; allowed = λ rest anew all. all };
-    kept = λ number part s says. says;
-  }
-
   pub make_row : (steps : List StepLine) (e : ℕ) (numbers : List ℕ) (parts : List Part) (u : ℕ)
       → form_at b.term_nodes e ≡ Some (form.Make parts) → node_at b.book root ≡ node.Rcd fields → HaveLabelsOf parts fields → (parts ≡ [] → env_of d ≡ env.empty)
       → AllSayBelow steps numbers parts
       → Fits b d root → Fits b d u → IsShown b.book [] base claims true Lr root u
       → HasRow b steps e (env_of d) u
   make_row steps e numbers parts u is_form is_rcd labels none all is is' below =
-      let first = subs steps (still steps) numbers parts all in
+      let first = subs steps numbers parts all in
       let row =
-      row_step b first.more (a_step e (rule.Make first.numbers) d root) [] []
-      (record { in_range = is.scheme; rising = is.rising; by_rule = make first.numbers parts fields refl is_form is_rcd labels none first.told }) in
+      row_step b first.more (a_step e (rule.Make first.numbers) d root) []
+      (λ pairs list. record { in_range = is.scheme; rising = is.rising; by_rule = make first.numbers parts fields refl is_form is_rcd labels none first.told }) in
       row_after b steps first.more e (env_of d) u first.leads
       (row_after b first.more row.more e (env_of d) u row.leads
-      (sub_row b base claims itself pairs list row.more row.number e (env_of d) root d u row.says is.scheme is' below (λ x n found. (n, found, itself Rl n))))
+      (sub_row b base claims shown itself row.more row.number e (env_of d) root d u row.says is.scheme is' below (λ x n found. (n, found, itself Rl n))))

@@ -7,6 +7,7 @@ use Rattle.mls_automaton.specs.Automata.{Automaton, polarity_at, head_at, HasFlo
 use Rattle.mls_automaton.specs.Heads.{parts_of}
 use Rattle.mls_automaton.specs.Models.{IsClosed}
 use Rattle.mls_flow.specs.Simulations.{IsHeadWithin}
+use Rattle.mls_flow.proofs.HeadsWithin.{within-more}
 use Rattle.mls_emit.specs.Layouts.{IsTypeLayout}
 use Rattle.mls_emit.specs.Uses.{Shows, IsNameLayout}
 use Rattle.mls_emit.proofs.PartClaims.{signs_of}
@@ -18,15 +19,20 @@ pub record IsCopied (book : List Node) (b a : Automaton) (variables : ℕ → Li
   pub heads : (s : ℕ) → IsHeadWithin (λ x y. Unit {0} × (copy x ≡ y)) (polarity_at b s) (parts_of (head_at b s)) (parts_of (head_at a (copy s)))
   pub flows : (n p x : ℕ) → polarity_at b n ≡ Negative → polarity_at b p ≡ Positive → Shows book variables n x → Shows book variables p x → HasFlow a (copy n) (copy p)
 
-pub name_layout : (book : List Node) (b a : Automaton) → IsClosed b → (place copy : ℕ → ℕ) (type : IsTypeLayout book b place) → IsCopied book b a type.variables copy
-    → IsNameLayout book a (λ s. Unit {0}) (polarity_at b) place copy
-name_layout book b a closed place copy type copied = record {
+-- All states are places.
+unfoldable pub name_layout : (book : List Node) (b a : Automaton) → IsClosed b → (IsPlace : ℕ → Type 0) → ((s : ℕ) → IsPlace s)
+    → (place copy : ℕ → ℕ) (type : IsTypeLayout book b place) → IsCopied book b a type.variables copy
+    → IsNameLayout book a IsPlace (polarity_at b) place copy
+name_layout book b a closed IsPlace all place copy type copied = record {
   parts = type.parts;
   variables = type.variables;
   own = λ s i. parts_of (head_at b s);
   polarity = λ s at_s. copied.polarity s;
   signs = λ s i at_s there. signs_of b closed s (polarity_at b s) refl;
-  within = λ s i at_s there. copied.heads s;
+  within =
+      λ s i at_s there.
+      within-more (λ x y. Unit {0} × (copy x ≡ y)) (λ x y. IsPlace x × (copy x ≡ y)) (λ x y it. (all x, it.1)) (polarity_at b s)
+      (parts_of (head_at b s)) (parts_of (head_at a (copy s))) (copied.heads s);
   heads = λ s i at_s there. (type.heads s).all i there;
   are_variables = λ s i at_s there. type.are_variables s i there;
   tree = λ s at_s. type.tree s;

@@ -1,7 +1,7 @@
--- Over the rows of names and lets, lines lead to a step about each node of a part, which gives it the root of its state, where each binder
+-- Over the rows of names and lets, a plan leads to a step about each node of a part, which gives it the root of its state, where each binder
 -- around it has the node of its state.
 --     emitted
-use Rattle.std.proofs.Common.{◌≡◌, inl, inr, ℕ, ◌<◌, Bool, true, false, List, [], ◌∷◌, ◌++◌, length, refl, sym, ap, ◌∙◌, subst, arith, append-nil, Option, Some, None, cond, bytes_eq}
+use Rattle.std.proofs.Common.{◌≡◌, ◌⊎◌, inl, inr, ℕ, ◌<◌, Bool, true, false, List, [], ◌∷◌, ◌++◌, length, refl, sym, ap, ◌∙◌, subst, arith, Option, Some, None, cond, bytes_eq}
 use Rattle.std.specs.Prelude.{All, Contains, IsSome, ◌↔◌, map, option_map}
 use Rattle.std.specs.FinMap as env
 use Rattle.std.proofs.lemmas.List.Elements.{All-nil}
@@ -31,27 +31,26 @@ use Rattle.mls_term.specs.Terms.{TermTree, TermFields, bound, inner as a_let_nam
 use Rattle.mls_deriv.specs.declared.derivation.BinderNode.{BinderNode}
 use Rattle.mls_deriv.specs.declared.derivation.Mode.{Mode}
 use Rattle.mls_deriv.specs.declared.derivation.StepLine.{StepLine}
-use Rattle.mls_deriv.specs.declared.claim.Pair.{Pair}
 use Rattle.mls_deriv.specs.Steps.{env_of, IsRising, form_at, Before}
-use Rattle.mls_emit.specs.Shown.{based}
+use Rattle.mls_emit.specs.Shown.{based, AreShown}
 use Rattle.mls_emit.specs.Trees.{IsTree, IsPlaceIn}
 use Rattle.mls_emit.specs.Heads.{IsFieldAt, IsRecordAt, AreParts}
 use Rattle.mls_emit.specs.Layouts.{IsLayout, PartClaims, IsItself}
-use Rattle.mls_emit.specs.Emitted.{IsListOf}
 use Rattle.mls_emit.specs.Posed.{IsPosed, ArePosed}
 use Rattle.mls_emit.specs.Rows.{at, concluded, Fits, Leads, HasRow, Keeps}
 use Rattle.mls_emit.specs.Scopes.{entry, entries}
 use Rattle.mls_emit.proofs.MakeParts.{AllSayRoots, make_part}
 use Rattle.mls_emit.proofs.OneField.{one_field}
 use Rattle.mls_emit.proofs.PartRows.{bound_part, fun_part, apply_part, project_part, choice_part, fix_part, number_part, truth_part}
-use Rattle.mls_emit.proofs.Rows.{leads_then, row_after, sub_row}
+use Rattle.mls_emit.proofs.PartClaims.{part_shown}
+use Rattle.mls_emit.proofs.Rows.{leads_then, leads_still, row_after, sub_row}
 use Rattle.mls_emit.proofs.Scopes.{found_in, found_back, inner, inner_found, inner_back, inner_kept, inner_removed, inner_rising, pushed_rising}
 
 module _ (b : Before) (a : Automaton) (IsGoal : ℕ → ℕ → Type 0) (closed : IsClosed a) (goals : AreGoals a IsGoal) (free : HasNoClash a (IsRelated a IsGoal))
     (general special : Scheme) (is_solved : IsSolved a (IsRelated a IsGoal) general.automaton) (closed_type : IsClosed special.automaton)
     (walked : List StatePair) (walk : IsWalk general special walked)
     (place type_place : ℕ → ℕ) (layout : IsLayout b.book a special.automaton (IsRelated a IsGoal) (IsIn walked) place type_place)
-    (pairs : List Pair) (list : IsListOf b.book [] IsItself (PartClaims a special.automaton (IsRelated a IsGoal) (IsIn walked) place type_place) pairs) (closed_book : IsClosedBook b.book) (low : (s i : ℕ) → Contains (layout.parts s) i → i < length b.book)
+    (closed_book : IsClosedBook b.book) (low : (s i : ℕ) → Contains (layout.parts s) i → i < length b.book)
     (places : (s : ℕ) → place s < length b.book) (values : (n : ℕ) → layout.value n < length b.book)
     (root binder : ℕ → ℕ) (IsUse : List ℕ → ℕ → Type 0) where
   -- the node of a binder
@@ -98,7 +97,7 @@ module _ (b : Before) (a : Automaton) (IsGoal : ℕ → ℕ → Type 0) (closed 
       let v : List BinderNode = entry x (layout.value n) ∷ [] in
       let back : (y k : ℕ) → env.get (env_of v) y ≡ Some k → (y ≡ x) × (k ≡ layout.value n)
       = λ y k found. elim (inner_back node_of [] x (layout.value n) y k found) [ inl it ↦ (let low : it.0.0 < 0 = it.0.1 in absurd (omega arith)) | inr it ↦ it ] in
-      bound_part b a IsGoal closed goals free general special is_solved closed_type walked walk place type_place layout pairs list closed_book low
+      bound_part b a IsGoal closed goals free general special is_solved closed_type walked walk place type_place layout closed_book low
       steps i x n (root i) (entries node_of scope) is_form edge (
         record {
           scheme = record { book = closed_book; root = values n; env = λ y k found. subst (λ z. z < length b.book) (sym (back y k found).1) (values n) };
@@ -114,7 +113,7 @@ module _ (b : Before) (a : Automaton) (IsGoal : ℕ → ℕ → Type 0) (closed 
       → Row steps (scope ++ x ∷ []) j → Row steps scope i
   fun_emitted steps scope i x j rising is_form above is_q has row =
       row_after b steps row.more i (env_of (entries node_of scope)) (place (root i)) row.leads
-      (fun_part b a IsGoal closed goals free general special is_solved closed_type walked walk place type_place layout pairs list closed_book low
+      (fun_part b a IsGoal closed goals free general special is_solved closed_type walked walk place type_place layout closed_book low
       row.more row.number i x j (env_of (entries node_of (scope ++ x ∷ []))) (entries node_of scope) (binder x ∷ []) (root j) (root i) (λ k. inner node_of scope x k)
       is_form has is_q row.says (fits (scope ++ x ∷ []) (pushed_rising node_of scope x rising above) (place (root j)) (places (root j))).scheme
       (fits scope rising (place (root i)) (places (root i)))
@@ -127,7 +126,7 @@ module _ (b : Before) (a : Automaton) (IsGoal : ℕ → ℕ → Type 0) (closed 
   fix_emitted steps scope i x j rising is_form above same is_goal row =
       subst (λ z. HasRow b steps i (env_of (entries node_of scope)) (place z)) (sym same)
       (row_after b steps row.more i (env_of (entries node_of scope)) (place (root j)) row.leads
-      (fix_part b a IsGoal closed goals free general special is_solved closed_type walked walk place type_place layout pairs list closed_book low
+      (fix_part b a IsGoal closed goals free general special is_solved closed_type walked walk place type_place layout closed_book low
       row.more row.number i x j (env_of (entries node_of (scope ++ x ∷ []))) (inner node_of scope x (place (root j))) (entries node_of scope) (root j) (binder x)
       is_form (goal is_goal) row.says (fits (scope ++ x ∷ []) (pushed_rising node_of scope x rising above) (place (root j)) (places (root j))).scheme
       (fits_inner scope rising x (place (root j)) above (places (root j)) (place (root j)) (places (root j)))
@@ -143,7 +142,7 @@ module _ (b : Before) (a : Automaton) (IsGoal : ℕ → ℕ → Type 0) (closed 
       let d = env_of (entries node_of scope) in
       row_after b steps first.more i d (place (root i)) first.leads
       (row_after b first.more second.more i d (place (root i)) second.leads
-      (apply_part b a IsGoal closed goals free general special is_solved closed_type walked walk place type_place layout pairs list closed_book low
+      (apply_part b a IsGoal closed goals free general special is_solved closed_type walked walk place type_place layout closed_book low
       second.more first.number second.number i j k d d (entries node_of scope) (root j) (root k) g n (root i)
       is_form has (goal is_goal) edge
       (second.leads.kept first.number j (concluded b d (place (root j))) first.says) (fits scope rising (place (root j)) (places (root j))).scheme
@@ -160,7 +159,7 @@ module _ (b : Before) (a : Automaton) (IsGoal : ℕ → ℕ → Type 0) (closed 
       row_after b steps first.more i d (place (root i)) first.leads
       (row_after b first.more second.more i d (place (root i)) second.leads
       (row_after b second.more third.more i d (place (root i)) third.leads
-      (choice_part b a IsGoal closed goals free general special is_solved closed_type walked walk place type_place layout pairs list closed_book low
+      (choice_part b a IsGoal closed goals free general special is_solved closed_type walked walk place type_place layout closed_book low
       third.more first.number second.number third.number i j k l d d d (entries node_of scope) (root j) (root k) (root l) bit n (root i)
       is_form has (goal goal1) (goal goal2) (goal goal3) edge
       (third.leads.kept first.number j (concluded b d (place (root j))) (second.leads.kept first.number j (concluded b d (place (root j))) first.says)) (fits scope rising (place (root j)) (places (root j))).scheme
@@ -174,7 +173,7 @@ module _ (b : Before) (a : Automaton) (IsGoal : ℕ → ℕ → Type 0) (closed 
       → Row steps scope j → Row steps scope i
   project_emitted steps scope i j g n label rising is_form has is_goal edge row =
       row_after b steps row.more i d (place (root i)) row.leads
-      (project_part b a IsGoal closed goals free general special is_solved closed_type walked walk place type_place layout pairs list closed_book low
+      (project_part b a IsGoal closed goals free general special is_solved closed_type walked walk place type_place layout closed_book low
       row.more row.number i j label d (entries node_of scope) (root j) g n (root i) w.0 there.0.0
       is_form w.1 (w.2.node ∙ ap node.Rcd single) there.2 (goal is_goal) edge row.says (fits scope rising (place (root j)) (places (root j))).scheme
       (fits scope rising there.0.0 (at_found (λ k. k < length b.book) label w.2.fields children there.0 there.1))
@@ -229,8 +228,11 @@ module _ (b : Before) (a : Automaton) (IsGoal : ℕ → ℕ → Type 0) (closed 
   abbrev Claims : Mode → ℕ → ℕ → Type 0
   Claims = PartClaims a special.automaton (IsRelated a IsGoal) (IsIn walked) place type_place
 
+  shown : AreShown b.book [] IsItself Claims
+  shown = part_shown b.book a IsGoal closed goals free general special is_solved closed_type walked walk place type_place layout
+
   abbrev PartSays : List StepLine → List FieldSet → Env → List ℕ → List Part → Type 0
-  PartSays = AllSayRoots b a special.automaton (IsRelated a IsGoal) (IsIn walked) place type_place layout Claims pairs list closed_book low
+  PartSays = AllSayRoots b a special.automaton (IsRelated a IsGoal) (IsIn walked) place type_place layout Claims shown closed_book low
 
   -- steps about the parts of a record
   record HasParts (steps : List StepLine) (scope : List ℕ) (sets : List FieldSet) (parts : List Part) : Type 0 where
@@ -254,13 +256,6 @@ module _ (b : Before) (a : Automaton) (IsGoal : ℕ → ℕ → Type 0) (closed 
     },
     parts_kept steps more leads sets d numbers parts say.1,
   )
-
-  still : (steps : List StepLine) → Leads b steps steps
-  still steps = record {
-    lines = [];
-    run = record { steps = sym (append-nil steps); anew = λ rest anew. anew; allowed = λ rest anew all. all };
-    kept = λ number part s says. says;
-  }
 
   one_more : (steps : List StepLine) (scope : List ℕ) (sets : List FieldSet) (label : List ℕ) (j : ℕ) (others : List Part) → Ordered scope → set_at sets label ≡ Some (root j ∷ [])
       → Row steps scope j → ((more : List StepLine) → Leads b steps more → HasParts more scope sets others) → HasParts steps scope sets (record { label = label; child = j } ∷ others)
@@ -291,21 +286,24 @@ module _ (b : Before) (a : Automaton) (IsGoal : ℕ → ℕ → Type 0) (closed 
   make_emitted steps scope i [] sets rising is_form is_q has labels told =
       let q = root i in
       let first =
-      make_part b a special.automaton (IsRelated a IsGoal) (IsIn walked) place type_place layout Claims pairs list closed_book low
+      make_part b a special.automaton (IsRelated a IsGoal) (IsIn walked) place type_place layout Claims shown closed_book low
       steps i [] [] sets [] q is_form is_q has labels (λ e. refl) tt (fits [] tt (place q) (places q)) in
       row_after b steps first.more i (env_of (entries node_of scope)) (place q) first.leads
-      (sub_row b IsItself Claims (λ mode i. based refl) pairs list first.more first.number i (env_of []) (place q) (entries node_of scope) (place q)
+      (sub_row b IsItself Claims shown (λ mode i. based refl) first.more first.number i (env_of []) (place q) (entries node_of scope) (place q)
       first.says (fits [] tt (place q) (places q)).scheme (fits scope rising (place q) (places q)) (based refl)
       (λ x n found. let it = found_back node_of [] x n found in let free : it.0.0 < 0 = it.0.1 in absurd (omega arith)))
   make_emitted steps scope i (part ∷ parts) sets rising is_form is_q has labels told =
       row_after b steps told.more i (env_of (entries node_of scope)) (place (root i)) told.leads
-      (make_part b a special.automaton (IsRelated a IsGoal) (IsIn walked) place type_place layout Claims pairs list closed_book low
+      (make_part b a special.automaton (IsRelated a IsGoal) (IsIn walked) place type_place layout Claims shown closed_book low
       told.more i told.numbers (part ∷ parts) sets (entries node_of scope) (root i) is_form is_q has labels (λ e. absurd (cc)) told.say
       (fits scope rising (place (root i)) (places (root i))))
 
   -- a use of a name, and a let over the row of its second part, may rest on all steps that stand before the part
+  abbrev pub IsName : ℕ → Type 0
+  IsName i = ((k : ℕ) × (form_at b.term_nodes i ≡ Some (form.Inner k))) ⊎ ((g : ℕ) × (form_at b.term_nodes i ≡ Some (form.Global g)))
+
   abbrev pub HasUses : List StepLine → Type 0
-  HasUses start = (scope : List ℕ) (i : ℕ) → Ordered scope → IsUse scope i → (steps : List StepLine) → Leads b start steps → Row steps scope i
+  HasUses start = (scope : List ℕ) (i : ℕ) → Ordered scope → IsName i → IsUse scope i → (steps : List StepLine) → Leads b start steps → Row steps scope i
 
   abbrev pub HasLets : List StepLine → Type 0
   HasLets start =
@@ -322,13 +320,13 @@ module _ (b : Before) (a : Automaton) (IsGoal : ℕ → ℕ → Type 0) (closed 
     mutual
       pub emitted : (t : TermTree) (scope : List ℕ) (i : ℕ) → Ordered scope → Posed scope i t → (steps : List StepLine) → Leads b start steps → Row steps scope i
       emitted (bound at x) scope i rising it steps from = bound_emitted steps scope i x rising it.0 it.1 it.2
-      emitted (a_let_name at k) scope i rising it steps from = uses scope i rising it steps from
-      emitted (global at g) scope i rising it steps from = uses scope i rising it steps from
+      emitted (a_let_name at k) scope i rising it steps from = uses scope i rising (inl (k, it.0)) it.1 steps from
+      emitted (global at g) scope i rising it steps from = uses scope i rising (inr (g, it.0)) it.1 steps from
       emitted (a_number at value) scope i rising it steps from =
-          number_part b a IsGoal closed goals free general special is_solved closed_type walked walk place type_place layout pairs list closed_book low
+          number_part b a IsGoal closed goals free general special is_solved closed_type walked walk place type_place layout closed_book low
           steps i value (root i) (entries node_of scope) it.0 it.1 it.2 (fits [] tt (place (root i)) (places (root i))) (fits scope rising (place (root i)) (places (root i)))
       emitted (truth at value) scope i rising it steps from =
-          truth_part b a IsGoal closed goals free general special is_solved closed_type walked walk place type_place layout pairs list closed_book low
+          truth_part b a IsGoal closed goals free general special is_solved closed_type walked walk place type_place layout closed_book low
           steps i value (root i) (entries node_of scope) it.0 it.1 it.2 (fits [] tt (place (root i)) (places (root i))) (fits scope rising (place (root i)) (places (root i)))
       emitted (fun at x e) scope i rising (j, is_form, above, is_q, has, it) steps from =
           fun_emitted steps scope i x j rising is_form above is_q has (emitted e (scope ++ x ∷ []) j (pushed_rising node_of scope x rising above) it steps from)
@@ -348,7 +346,7 @@ module _ (b : Before) (a : Automaton) (IsGoal : ℕ → ℕ → Type 0) (closed 
 
       fields_emitted : (fields : TermFields) (scope : List ℕ) (sets : List FieldSet) (parts : List Part) → Ordered scope → PartsPosed scope sets parts fields → (steps : List StepLine) → Leads b start steps → HasParts steps scope sets parts
       fields_emitted no_field scope sets parts rising it steps from =
-          subst (HasParts steps scope sets) (sym it) (record { more = steps; leads = still steps; numbers = []; say = tt })
+          subst (HasParts steps scope sets) (sym it) (record { more = steps; leads = leads_still b steps; numbers = []; say = tt })
       fields_emitted (a_field label e rest) scope sets parts rising (j, others, is, set, it, it') steps from =
           subst (HasParts steps scope sets) (sym is)
           (one_more steps scope sets label j others rising set (emitted e scope j rising it steps from) (λ more leads. fields_emitted rest scope sets others rising it' more (leads_then b start steps more from leads)))

@@ -1,4 +1,4 @@
--- The rows of a part: over steps that give the parts of a node the roots of their states as types, lines lead to a step that gives the
+-- The rows of a part: over steps that give the parts of a node the roots of their states as types, a plan leads to a step that gives the
 -- node the root of its state. Binders have the nodes of their states in all steps.
 --     number_part, truth_part, bound_part, fun_part, apply_part, project_part, choice_part, fix_part
 use Rattle.std.proofs.Common.{◌≡◌, ◌⊎◌, inl, inr, ℕ, ◌<◌, Bool, true, List, [], ◌∷◌, length, Contains, refl, sym, ◌∙◌, subst, arith, Some}
@@ -27,16 +27,14 @@ use Rattle.mls_deriv.specs.declared.derivation.BinderNode.{BinderNode}
 use Rattle.mls_deriv.specs.declared.derivation.Mode.{Mode}
 use Rattle.mls_deriv.specs.declared.derivation.Mode.TheVariants.{Lr, Rl}
 use Rattle.mls_deriv.specs.declared.derivation.StepLine.{StepLine}
-use Rattle.mls_deriv.specs.declared.claim.Pair.{Pair}
 use Rattle.mls_deriv.specs.Steps.{env_of, form_at, Before, Says}
-use Rattle.mls_emit.specs.Shown.{IsShown, based}
+use Rattle.mls_emit.specs.Shown.{IsShown, based, AreShown}
 use Rattle.mls_emit.specs.Trees.{IsTree, IsPlaceIn}
 use Rattle.mls_emit.specs.Heads.{AreParts}
 use Rattle.mls_emit.specs.Layouts.{IsLayout, PartClaims, IsItself}
-use Rattle.mls_emit.specs.Emitted.{IsListOf}
 use Rattle.mls_emit.specs.Runs.{id}
 use Rattle.mls_emit.specs.Rows.{at, concluded, Fits, HasRow, Widens, Keeps}
-use Rattle.mls_emit.proofs.PartClaims.{related_leaf, related_shown}
+use Rattle.mls_emit.proofs.PartClaims.{related_leaf, related_shown, part_shown}
 use Rattle.mls_emit.proofs.RowPairs.{set_below, set_above, value_below, value_above, edge_below, head_below, set_below_edge}
 use Rattle.mls_emit.proofs.Rows.{number_row, truth_row, var_row, app_row, fun_row, proj_row, choice_row, fix_row}
 
@@ -44,7 +42,7 @@ module _ (b : Before) (a : Automaton) (IsGoal : ℕ → ℕ → Type 0) (closed 
     (general special : Scheme) (is_solved : IsSolved a (IsRelated a IsGoal) general.automaton) (closed_type : IsClosed special.automaton)
     (walked : List StatePair) (walk : IsWalk general special walked)
     (place type_place : ℕ → ℕ) (layout : IsLayout b.book a special.automaton (IsRelated a IsGoal) (IsIn walked) place type_place)
-    (pairs : List Pair) (list : IsListOf b.book [] IsItself (PartClaims a special.automaton (IsRelated a IsGoal) (IsIn walked) place type_place) pairs) (closed_book : IsClosedBook b.book) (low : (s i : ℕ) → Contains (layout.parts s) i → i < length b.book) where
+    (closed_book : IsClosedBook b.book) (low : (s i : ℕ) → Contains (layout.parts s) i → i < length b.book) where
   abbrev R : ℕ → ℕ → Type 0
   R = IsRelated a IsGoal
 
@@ -53,6 +51,9 @@ module _ (b : Before) (a : Automaton) (IsGoal : ℕ → ℕ → Type 0) (closed 
 
   abbrev Shown : Mode → ℕ → ℕ → Type 0
   Shown = IsShown b.book [] IsItself Claims true
+
+  shown : AreShown b.book [] IsItself Claims
+  shown = part_shown b.book a IsGoal closed goals free general special is_solved closed_type walked walk place type_place layout
 
   keeps_widens : (d d' : Env) → Keeps d d' → Widens b IsItself Claims d d'
   keeps_widens d d' keeps x n found = (n, keeps x n found, based refl)
@@ -113,7 +114,7 @@ module _ (b : Before) (a : Automaton) (IsGoal : ℕ → ℕ → Type 0) (closed 
       → HasRow b steps e (env_of d) (place q)
   apply_part steps n1 n2 e f x d1 d2 d p r g n q is_form has related edge says1 is1 says2 is2 is_d keeps1 keeps2 =
       let w = has_arrow Negative g (record { domain = r ∷ []; codomain = n ∷ [] }) (related_states a IsGoal closed goals p g related).1.polarity has in
-      app_row b IsItself Claims (λ mode i. based refl) pairs list steps n1 n2 e f x d1 d2 (place p) (place r) d w.arrow w.from w.to (place q) is_form w.is says1 is1 says2 is2
+      app_row b IsItself Claims shown (λ mode i. based refl) steps n1 n2 e f x d1 d2 (place p) (place r) d w.arrow w.from w.to (place q) is_form w.is says1 is1 says2 is2
       (with_type d (place q) w.arrow (low g w.arrow w.there) is_d) (with_type d (place q) w.from w.from_low is_d) (with_type d (place q) w.to w.to_low is_d) is_d
       (below_leaf p g w.arrow related w.there)
       (set_below b.book Claims true Lr place (r ∷ []) r w.from (0, omega arith, refl) w.domain)
@@ -134,7 +135,7 @@ module _ (b : Before) (a : Automaton) (IsGoal : ℕ → ℕ → Type 0) (closed 
       → HasRow b steps e (env_of d) (place q)
   fun_part steps n1 e x body d1 d states r q inner is_form has is_q says1 is1 is_d found removed is_inner kept =
       let w = has_arrow Positive q (record { domain = states; codomain = r ∷ [] }) is_q has in
-      fun_row b IsItself Claims (λ mode i. based refl) pairs list steps n1 e x body d1 (place r) (inner w.from) d w.arrow w.from w.to (place q) is_form w.is says1 is1
+      fun_row b IsItself Claims shown (λ mode i. based refl) steps n1 e x body d1 (place r) (inner w.from) d w.arrow w.from w.to (place q) is_form w.is says1 is1
       (with_type (inner w.from) (place q) w.to w.to_low (is_inner w.from w.from_low)) (with_type d (place q) w.arrow (low q w.arrow w.there) is_d) is_d
       (removed w.from) (inl (found w.from))
       (set_below b.book Claims true Lr place (r ∷ []) r w.to (0, omega arith, refl) w.codomain)
@@ -157,7 +158,7 @@ module _ (b : Before) (a : Automaton) (IsGoal : ℕ → ℕ → Type 0) (closed 
       → Fits b d (place q)
       → HasRow b steps e (env_of d) (place q)
   bound_part steps e x n q d is_form edge (is_v, same, kept) is_d =
-      var_row b IsItself Claims (λ mode i. based refl) pairs list steps e x (layout.value n) (place q) d is_form is_v is_d
+      var_row b IsItself Claims shown (λ mode i. based refl) steps e x (layout.value n) (place q) d is_form is_v is_d
       (value_below b.book Claims true Lr a special.automaton R (IsIn walked) place type_place layout n q (positive n q edge) edge) same
       (λ y k found.
       let it = kept y k found in
@@ -176,7 +177,7 @@ module _ (b : Before) (a : Automaton) (IsGoal : ℕ → ℕ → Type 0) (closed 
       → HasRow b steps e (env_of d) (place q)
   choice_part steps n1 n2 n3 e c f g d1 d2 d3 d p r s bit n q is_form has related1 related2 related3 edge says1 is1 says2 is2 says3 is3 is_n is_d keeps1 keeps2 keeps3 =
       let w = (layout.heads bit).each kind.Bool has in
-      choice_row b IsItself Claims (λ mode i. based refl) pairs list steps n1 n2 n3 e c f g d1 d2 d3 (place p) (place r) (place s) d w.0 (place n) (place q) is_form w.2.1
+      choice_row b IsItself Claims shown (λ mode i. based refl) steps n1 n2 n3 e c f g d1 d2 d3 (place p) (place r) (place s) d w.0 (place n) (place q) is_form w.2.1
       says1 is1 says2 is2 says3 is3 (with_type d (place q) w.0 (low bit w.0 w.1) is_d) is_n is_d
       (below_leaf p bit w.0 related1 w.1) (below Lr r n related2) (below Lr s n related3)
       (edge_below b.book Claims true Lr a special.automaton R (IsIn walked) place type_place layout n q (negative n q edge) (positive n q edge) edge)
@@ -191,7 +192,7 @@ module _ (b : Before) (a : Automaton) (IsGoal : ℕ → ℕ → Type 0) (closed 
       → ((y k : ℕ) → env.get d1 y ≡ Some k → (env.get (env_of inner) y ≡ Some k) ⊎ ((y ≡ x) × (k ≡ place n)))
       → HasRow b steps e (env_of d) (place r)
   fix_part steps n1 e x body d1 inner d r n is_form related says1 is1 is_inner is_d removed found kept =
-      fix_row b IsItself Claims (λ mode i. based refl) pairs list steps n1 e x body d1 (place r) inner d (place r) is_form says1 is1 is_inner is_d removed found (based refl)
+      fix_row b IsItself Claims shown (λ mode i. based refl) steps n1 e x body d1 (place r) inner d (place r) is_form says1 is1 is_inner is_d removed found (based refl)
       (λ y k has_y. widens y k (kept y k has_y))
     where
       widens : (y k : ℕ) → (env.get (env_of inner) y ≡ Some k) ⊎ ((y ≡ x) × (k ≡ place n)) → (m : ℕ) × (env.get (env_of inner) y ≡ Some m) × Shown Rl m k
@@ -208,7 +209,7 @@ module _ (b : Before) (a : Automaton) (IsGoal : ℕ → ℕ → Type 0) (closed 
       → Fits b d to → Fits b d (place q) → Keeps d1 (env_of d)
       → HasRow b steps e (env_of d) (place q)
   project_part steps n1 e body label d1 d r g n q rcd to is_form there is_rcd tree related edge says is is_to is_d keeps =
-      proj_row b IsItself Claims (λ mode i. based refl) pairs list steps n1 e body label d1 (place r) d rcd to (place q) is_form is_rcd says is
+      proj_row b IsItself Claims shown (λ mode i. based refl) steps n1 e body label d1 (place r) d rcd to (place q) is_form is_rcd says is
       (with_type d (place q) rcd (low g rcd there) is_d) is_to is_d
       (below_leaf r g rcd related there)
       (set_below_edge b.book Claims true Lr a special.automaton R (IsIn walked) place type_place layout (n ∷ []) n q to (0, omega arith, refl) (negative n q edge) (positive n q edge) edge tree)
@@ -221,7 +222,7 @@ module _ (b : Before) (a : Automaton) (IsGoal : ℕ → ℕ → Type 0) (closed 
       → HasRow b steps e (env_of d) (place q)
   number_part steps e value q d is_form is_q has is is_d =
       let w = (layout.heads q).each kind.Int has in
-      number_row b IsItself Claims (λ mode i. based refl) pairs list steps e value w.0 (place q) d is_form w.2.1
+      number_row b IsItself Claims shown (λ mode i. based refl) steps e value w.0 (place q) d is_form w.2.1
       (with_type [] (place q) w.0 (low q w.0 w.1) is) is_d
       (head_below b.book Claims true Lr a special.automaton R (IsIn walked) place type_place layout q w.0 is_q w.1)
 
@@ -231,6 +232,6 @@ module _ (b : Before) (a : Automaton) (IsGoal : ℕ → ℕ → Type 0) (closed 
       → HasRow b steps e (env_of d) (place q)
   truth_part steps e value q d is_form is_q has is is_d =
       let w = (layout.heads q).each kind.Bool has in
-      truth_row b IsItself Claims (λ mode i. based refl) pairs list steps e value w.0 (place q) d is_form w.2.1
+      truth_row b IsItself Claims shown (λ mode i. based refl) steps e value w.0 (place q) d is_form w.2.1
       (with_type [] (place q) w.0 (low q w.0 w.1) is) is_d
       (head_below b.book Claims true Lr a special.automaton R (IsIn walked) place type_place layout q w.0 is_q w.1)

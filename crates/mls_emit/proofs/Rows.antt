@@ -1,9 +1,9 @@
--- Rows: the lines of one node over steps about its parts. All `sub` steps of a part of a term have one list of pairs, and stand over one
--- book; what the pairs have to be is asked of each row as shown pairs.
---     leads_then, leads_step      lines after lines
+-- Rows: the plan of one node over steps about its parts. All steps by pairs of a part of a term rest on the same claims; what their pairs
+-- have to be is asked of each row as shown pairs.
+--     leads_then, leads_step      plans after plans
 --     sub_row                     a step by pairs
 --     number_row, truth_row, var_row, fun_row, app_row, proj_row, choice_row, fix_row      the rule of the node, between steps by pairs
-use Rattle.std.proofs.Common.{◌≡◌, ℕ, Bool, true, None, List, [], ◌∷◌, ◌++◌, length, refl, Some}
+use Rattle.std.proofs.Common.{◌≡◌, ℕ, Bool, true, None, List, [], ◌∷◌, ◌++◌, length, refl, sym, ap, ◌∙◌, subst, append-nil, append_assoc, Some}
 use Rattle.std.specs.FinMap as env
 use Rattle.std.specs.FinMap.{get-empty}
 use Rattle.std.specs.Ordering.{nat_cmp}
@@ -15,43 +15,75 @@ use Rattle.mls_term.specs.Derivations.{Takes}
 use Rattle.mls_deriv.specs.declared.derivation.BinderNode.{BinderNode}
 use Rattle.mls_deriv.specs.declared.derivation.Mode.{Mode}
 use Rattle.mls_deriv.specs.declared.derivation.Mode.TheVariants.{Lr, Rl}
+use Rattle.mls_deriv.specs.declared.derivation.SectionLine.{SectionLine}
 use Rattle.mls_deriv.specs.declared.derivation.StepLine.{StepLine}
 use Rattle.mls_deriv.specs.declared.derivation.StepRule.TheVariants as rule
 use Rattle.mls_deriv.specs.declared.claim.Put.{Put}
 use Rattle.mls_deriv.specs.declared.claim.Pair.{Pair}
 use Rattle.mls_deriv.specs.Steps.{env_of, form_at, Before, Says, IsAllowed, var, lit_number, lit_truth, fun, app, proj, choice, fix}
-use Rattle.mls_emit.specs.Shown.{IsShown}
-use Rattle.mls_emit.specs.Emitted.{IsListOf}
-use Rattle.mls_emit.specs.Runs.{id, a_step, lines_of}
+use Rattle.mls_emit.specs.Shown.{IsShown, AreShown}
+use Rattle.mls_emit.specs.PairLists.{IsPairList}
+use Rattle.mls_emit.specs.Emitted.{asked_at}
+use Rattle.mls_emit.specs.Runs.{id, a_step, lines_of, IsRun}
+use Rattle.mls_emit.specs.Plans.{a_step_with, planned_steps, AreLinesOf}
 use Rattle.mls_emit.specs.Rows.{at, concluded, Fits, Leads, HasRow, Widens}
-use Rattle.mls_emit.proofs.Runs.{run_then, step_run, says_last, says_kept}
+use Rattle.mls_emit.proofs.Plans.{planned_append, lines_split}
+use Rattle.mls_emit.proofs.Runs.{nothing_run, run_then, step_run, says_last, says_kept}
 use Rattle.mls_emit.proofs.Subs.{sub_allowed}
 
 module _ (b : Before) where
   pub leads_then : (steps more others : List StepLine) → Leads b steps more → Leads b more others → Leads b steps others
   leads_then steps more others first second = record {
-    lines = first.lines ++ second.lines;
-    run = run_then (at b steps) (at b more) (at b others) first.lines second.lines first.run second.run;
+    plan = first.plan ++ second.plan;
+    adds =
+        second.adds
+        ∙ (ap (λ (l : List StepLine). l ++ planned_steps second.plan) first.adds
+        ∙ (append_assoc steps (planned_steps first.plan) (planned_steps second.plan)
+        ∙ ap (λ (l : List StepLine). steps ++ l) (sym (planned_append first.plan second.plan))));
+    run =
+        λ lines are.
+        let it = lines_split b.book second.plan first.plan steps lines are in
+        subst (λ (l : List SectionLine). IsRun (at b steps) l (at b others)) (sym it.same)
+        (run_then (at b steps) (at b more) (at b others) it.first it.rest (first.run it.first it.are)
+        (second.run it.rest (subst (λ (l : List StepLine). AreLinesOf b.book l second.plan it.rest) (sym first.adds) it.later)));
     kept = λ number part s says. second.kept number part s (first.kept number part s says);
   }
 
-  pub leads_step : (steps : List StepLine) (step : StepLine) (puts : List Put) (pairs : List Pair) → IsAllowed (at b steps) puts pairs step → Leads b steps (steps ++ step ∷ [])
-  leads_step steps step puts pairs it = record {
-    lines = lines_of step puts pairs;
-    run = step_run (at b steps) step puts pairs it;
+  -- no line
+  pub leads_still : (steps : List StepLine) → Leads b steps steps
+  leads_still steps = record {
+    plan = [];
+    adds = sym (append-nil steps);
+    run = λ lines are. subst (λ (l : List SectionLine). IsRun (at b steps) l (at b steps)) (sym are) (nothing_run (at b steps));
+    kept = λ number part s says. says;
+  }
+
+  -- a step that is allowed whichever list of its pairs it has
+  abbrev IsFree : List StepLine → StepLine → List Put → Type 0
+  IsFree steps step puts = (pairs : List Pair) → IsPairList b.book puts (asked_at steps step) pairs → IsAllowed (at b steps) puts pairs step
+
+  pub leads_step : (steps : List StepLine) (step : StepLine) (puts : List Put) → IsFree steps step puts → Leads b steps (steps ++ step ∷ [])
+  leads_step steps step puts it = record {
+    plan = a_step_with step puts ∷ [];
+    adds = refl;
+    run =
+        λ lines are.
+        subst (λ (l : List SectionLine). IsRun (at b steps) l (at b (steps ++ step ∷ [])))
+        (sym (are.3 ∙ (ap (λ (l : List SectionLine). lines_of step puts are.0 ++ l) are.4 ∙ append-nil (lines_of step puts are.0))))
+        (step_run (at b steps) step puts are.0 (it are.0 are.2));
     kept = λ number part s says. says_kept (at b steps) step number part s says;
   }
 
-  pub row_step : (steps : List StepLine) (step : StepLine) (puts : List Put) (pairs : List Pair) → IsAllowed (at b steps) puts pairs step → HasRow b steps step.node (env_of step.env) step.root.0
-  row_step steps step puts pairs it = record {
+  pub row_step : (steps : List StepLine) (step : StepLine) (puts : List Put) → IsFree steps step puts → HasRow b steps step.node (env_of step.env) step.root.0
+  row_step steps step puts it = record {
     more = steps ++ step ∷ [];
-    leads = leads_step steps step puts pairs it;
+    leads = leads_step steps step puts it;
     number = length steps;
     says = says_last (at b steps) step;
     ends = record { earlier = steps; last = step; is = refl; about = refl; env = refl; root = refl };
   }
 
-  -- a row that goes on after other lines
+  -- a row that goes on after a plan
   pub row_after : (steps more : List StepLine) (part : ℕ) (d : Env) (t : ℕ) → Leads b steps more → HasRow b more part d t → HasRow b steps part d t
   row_after steps more part d t first row = record {
     more = row.more;
@@ -61,8 +93,8 @@ module _ (b : Before) where
     ends = row.ends;
   }
 
-  module _ (base claims : Mode → ℕ → ℕ → Type 0) (itself : (mode : Mode) (i : ℕ) → IsShown b.book [] base claims true mode i i)
-      (pairs : List Pair) (list : IsListOf b.book [] base claims pairs) where
+  module _ (base claims : Mode → ℕ → ℕ → Type 0) (shown : AreShown b.book [] base claims)
+      (itself : (mode : Mode) (i : ℕ) → IsShown b.book [] base claims true mode i i) where
     abbrev Below : ℕ → ℕ → Type 0
     Below i j = IsShown b.book [] base claims true Lr i j
 
@@ -77,15 +109,15 @@ module _ (b : Before) where
         → Says (at b steps) number part (concluded b d t) → IsScheme (concluded b d t) → Is wider u → Below t u → Widens b base claims d (env_of wider)
         → HasRow b steps part (env_of wider) u
     sub_row steps number part d t wider u says is is' below widens =
-        row_step steps (a_step part (rule.Sub number) wider u) [] pairs
-        (sub_allowed (at b steps) [] base claims pairs (λ x n e. absurd (cc)) list (a_step part (rule.Sub number) wider u) number (concluded b d t) refl says is refl is'.scheme is'.rising below widens)
+        row_step steps (a_step part (rule.Sub number) wider u) []
+        (sub_allowed (at b steps) [] base claims shown (λ x n e. absurd (cc)) (a_step part (rule.Sub number) wider u) number (concluded b d t) refl says refl is'.scheme is'.rising below widens)
 
     -- a step by the rule of a node, and a step by pairs
-    rule_row : (steps : List StepLine) (step : StepLine) (u : ℕ) → IsAllowed (at b steps) [] [] step → Is step.env u → Below step.root.0 u → HasRow b steps step.node (env_of step.env) u
+    rule_row : (steps : List StepLine) (step : StepLine) (u : ℕ) → ((pairs : List Pair) → IsAllowed (at b steps) [] pairs step) → Is step.env u → Below step.root.0 u → HasRow b steps step.node (env_of step.env) u
     rule_row steps step u it is below =
-        let first = row_step steps step [] [] it in
+        let first = row_step steps step [] (λ pairs list. it pairs) in
         row_after steps first.more step.node (env_of step.env) u first.leads
-        (sub_row first.more first.number step.node (env_of step.env) step.root.0 step.env u first.says it.in_range is below (same_env step.env))
+        (sub_row first.more first.number step.node (env_of step.env) step.root.0 step.env u first.says (it []).in_range is below (same_env step.env))
 
     -- A bound name: the type and the requirement of the step by its rule are one node, which is below `u` and above that of the wider environment.
     pub var_row : (steps : List StepLine) (e x v u : ℕ) (wider : List BinderNode) → form_at b.term_nodes e ≡ Some (form.Bound x)
@@ -94,7 +126,7 @@ module _ (b : Before) where
         → HasRow b steps e (env_of wider) u
     var_row steps e x v u wider is_form is is' below same widens =
         let d : List BinderNode = record { binder = x; node = id v } ∷ [] in
-        let first = row_step steps (a_step e rule.Var d v) [] [] (record { in_range = is.scheme; rising = is.rising; by_rule = var x refl is_form same }) in
+        let first = row_step steps (a_step e rule.Var d v) [] (λ pairs list. record { in_range = is.scheme; rising = is.rising; by_rule = var x refl is_form same }) in
         row_after steps first.more e (env_of wider) u first.leads (sub_row first.more first.number e (env_of d) v wider u first.says is.scheme is' below widens)
 
     -- an application: the function at a node of an arrow, the argument at its domain
@@ -109,7 +141,7 @@ module _ (b : Before) where
         let two = sub_row one.more n2 x d2 t2 d from (one.leads.kept n2 x (concluded b d2 t2) says2) is2 is_f below2 widens2 in
         let three =
         rule_row two.more (a_step e (rule.App one.number two.number) d to) u
-        (record {
+        (λ pairs. record {
           in_range = is_t.scheme;
           rising = is_t.rising;
           by_rule = app one.number two.number f x arrow (id from) refl is_form is_arrow (two.leads.kept one.number f (concluded b (env_of d) arrow) one.says) two.says;
@@ -128,7 +160,7 @@ module _ (b : Before) where
         let one = sub_row steps n body d1 t1 inner to says is is_to below widens in
         row_after steps one.more e (env_of d) u one.leads
         (rule_row one.more (a_step e (rule.Fun one.number) d arrow) u
-        (record { in_range = is_a.scheme; rising = is_a.rising; by_rule = fun one.number x body (env_of inner) (id from) (id to) refl is_form removed takes is_arrow one.says })
+        (λ pairs. record { in_range = is_a.scheme; rising = is_a.rising; by_rule = fun one.number x body (env_of inner) (id from) (id to) refl is_form removed takes is_arrow one.says })
         is_u below')
 
     -- a projection: its body at a record with the one field
@@ -141,7 +173,7 @@ module _ (b : Before) where
         let one = sub_row steps n body d1 t1 d rcd says is is_r below widens in
         row_after steps one.more e (env_of d) u one.leads
         (rule_row one.more (a_step e (rule.Proj one.number) d to) u
-        (record { in_range = is_t.scheme; rising = is_t.rising; by_rule = proj one.number body rcd label (record { label = label; node = id to }) refl is_form is_rcd refl refl one.says })
+        (λ pairs. record { in_range = is_t.scheme; rising = is_t.rising; by_rule = proj one.number body rcd label (record { label = label; node = id to }) refl is_form is_rcd refl refl one.says })
         is_u below')
 
     -- a conditional: the condition at a `bool`, the branches at one node
@@ -158,7 +190,7 @@ module _ (b : Before) where
         let three = sub_row two.more n3 g d3 t3 d to (two.leads.kept n3 g (concluded b d3 t3) (one.leads.kept n3 g (concluded b d3 t3) says3)) is3 is_t below3 w3 in
         let four =
         rule_row three.more (a_step e (rule.If one.number two.number three.number) d to) u
-        (record {
+        (λ pairs. record {
           in_range = is_t.scheme;
           rising = is_t.rising;
           by_rule =
@@ -180,8 +212,8 @@ module _ (b : Before) where
     fix_row steps n e x body d1 t1 inner d to is_form says is is_to is_d removed found below widens =
         let one = sub_row steps n body d1 t1 inner to says is is_to below widens in
         row_after steps one.more e (env_of d) to one.leads
-        (row_step one.more (a_step e (rule.Rec one.number) d to) [] []
-        (record { in_range = is_d.scheme; rising = is_d.rising; by_rule = fix one.number x body (env_of inner) refl is_form removed found one.says }))
+        (row_step one.more (a_step e (rule.Rec one.number) d to) []
+        (λ pairs list. record { in_range = is_d.scheme; rising = is_d.rising; by_rule = fix one.number x body (env_of inner) refl is_form removed found one.says }))
 
     nothing : (x n : ℕ) → env.get (env_of []) x ≡ Some n → ⊥
     nothing x n found = let none : env.get (env_of []) x ≡ None = get-empty nat_cmp x in cc
@@ -191,7 +223,7 @@ module _ (b : Before) where
         → Is [] i → Is d u → Below i u
         → HasRow b steps e (env_of d) u
     number_row steps e value i u d is_form is_int is is' below =
-        let first = row_step steps (a_step e rule.Lit [] i) [] [] (record { in_range = is.scheme; rising = is.rising; by_rule = lit_number value refl is_form refl is_int }) in
+        let first = row_step steps (a_step e rule.Lit [] i) [] (λ pairs list. record { in_range = is.scheme; rising = is.rising; by_rule = lit_number value refl is_form refl is_int }) in
         row_after steps first.more e (env_of d) u first.leads
         (sub_row first.more first.number e (env_of []) i d u first.says is.scheme is' below (λ x n found. absurd (nothing x n found)))
 
@@ -199,6 +231,6 @@ module _ (b : Before) where
         → Is [] i → Is d u → Below i u
         → HasRow b steps e (env_of d) u
     truth_row steps e value i u d is_form is_bool is is' below =
-        let first = row_step steps (a_step e rule.Lit [] i) [] [] (record { in_range = is.scheme; rising = is.rising; by_rule = lit_truth value refl is_form refl is_bool }) in
+        let first = row_step steps (a_step e rule.Lit [] i) [] (λ pairs list. record { in_range = is.scheme; rising = is.rising; by_rule = lit_truth value refl is_form refl is_bool }) in
         row_after steps first.more e (env_of d) u first.leads
         (sub_row first.more first.number e (env_of []) i d u first.says is.scheme is' below (λ x n found. absurd (nothing x n found)))

@@ -1,8 +1,9 @@
 -- Runs of lines.
+--     nothing_run     no line
 --     run_then        one run after the other
 --     step_run        an allowed step
 --     says_last, says_kept        what the steps say
-use Rattle.std.proofs.Common.{◌≡◌, ℕ, zero, suc, List, [], ◌∷◌, ◌++◌, length, refl, sym, ap, ◌∙◌, subst, slice_get, append_assoc, Some}
+use Rattle.std.proofs.Common.{◌≡◌, ℕ, zero, suc, List, [], ◌∷◌, ◌++◌, length, refl, sym, ap, ◌∙◌, subst, slice_get, append-nil, append_assoc, Some}
 use Rattle.mls_deriv.specs.declared.derivation.SectionLine.{SectionLine}
 use Rattle.mls_deriv.specs.declared.derivation.SectionLine.TheVariants as line
 use Rattle.mls_deriv.specs.declared.derivation.StepLine.{StepLine}
@@ -23,6 +24,9 @@ steps_append (line.Let k n ∷ lines) more = steps_append lines more
 steps_append (line.Step step ∷ lines) more = ap (λ (l : List StepLine). step ∷ l) (steps_append lines more)
 steps_append (line.Put x n ∷ lines) more = steps_append lines more
 steps_append (line.Pair mode i j ∷ lines) more = steps_append lines more
+
+pub nothing_run : (b : Before) → IsRun b [] b
+nothing_run b = record { steps = sym (append-nil b.steps); anew = λ rest anew. anew; allowed = λ rest anew all. all }
 
 pub run_then : (b c d : Before) (lines more : List SectionLine) → IsRun b lines c → IsRun c more d → IsRun b (lines ++ more) d
 run_then b c d lines more first second = record {

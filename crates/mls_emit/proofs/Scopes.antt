@@ -1,8 +1,10 @@
 -- What is found in the environments of steps.
 --     same_key, itself_key        the test of keys
+--     looked, got                 the entry of a binder
 --     found_in, found_back        in that of a scope, a binder of the scope with its node
 --     inner_found, inner_kept, inner_removed      the same with one more binder at another node
 --     push_rising                 binders rise where each is above those around it
+--     other_rising                and so they do at other nodes
 use Rattle.std.proofs.Common.{◌≡◌, ◌⊎◌, inl, inr, ℕ, ◌<◌, Bool, true, false, List, [], ◌∷◌, ◌++◌, map, refl, sym, ap, ◌∙◌, subst, arith, Option, Some, None, cond}
 use Rattle.std.specs.Prelude.{All, Contains}
 use Rattle.std.specs.FinMap as env
@@ -29,10 +31,10 @@ pub itself_key : (x : ℕ) → eq_by_cmp nat_cmp x x ≡ true
 itself_key x = grind (arith, env.gets)
 
 -- the node of the first entry of a binder
-abbrev looked : List BinderNode → ℕ → Option ℕ
+abbrev pub looked : List BinderNode → ℕ → Option ℕ
 looked d y = env.find nat_cmp y (map (λ (e : BinderNode). (e.binder, e.node.0)) d)
 
-got : (d : List BinderNode) (y : ℕ) → env.get (env_of d) y ≡ looked d y
+pub got : (d : List BinderNode) (y : ℕ) → env.get (env_of d) y ≡ looked d y
 got d y = get-from_entries nat_cmp_total (map (λ (e : BinderNode). (e.binder, e.node.0)) d) y
 
 module _ (node : ℕ → ℕ) where
@@ -147,3 +149,15 @@ module _ (node : ℕ → ℕ) where
 
   pub pushed_rising : (scope : List ℕ) (x : ℕ) → IsRising (entries node scope) → All (λ y. y < x) scope → IsRising (entries node (scope ++ x ∷ []))
   pushed_rising scope x rising all = subst IsRising (sym (pushed scope x)) (inner_rising scope x (node x) rising all)
+
+-- the same binders rise at other nodes
+module _ (node other : ℕ → ℕ) where
+  all_other : (x : ℕ) (scope : List ℕ) → All (λ (later : BinderNode). x < later.binder) (entries node scope) → All (λ (later : BinderNode). x < later.binder) (entries other scope)
+  all_other x [] all = All-nil (λ (later : BinderNode). x < later.binder)
+  all_other x (s ∷ ss) all =
+      All-cons (λ (later : BinderNode). x < later.binder) (entry s (other s)) (entries other ss) (All-head (λ (later : BinderNode). x < later.binder) (entry s (node s)) (entries node ss) all)
+      (all_other x ss (All-tail (λ (later : BinderNode). x < later.binder) (entry s (node s)) (entries node ss) all))
+
+  pub other_rising : (scope : List ℕ) → IsRising (entries node scope) → IsRising (entries other scope)
+  other_rising [] rising = tt
+  other_rising (s ∷ ss) rising = (all_other s ss rising.0, other_rising ss rising.1)

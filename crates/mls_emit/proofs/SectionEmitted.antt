@@ -1,10 +1,8 @@
--- Sections of emitted lines.
---     let_run             a let line
---     part_let            the lines of a first part and its let line
---     let_known, let_kept what is known of lets after that
+-- Sections whose lines are those of a plan.
+--     goes_then, row_goes, let_goes       plans one after the other, that of a row, and a let line
+--     let_known, let_kept what is known of lets behind a first part and its let line
 --     lets_emitted        the first parts of all lets, in order
---     part_run            the lines of a row
---     section_allowed     lines that end with the row of the whole term, at the type that was read
+--     section_allowed     a plan that ends with the row of the whole term, at the type that was read
 --     section_emitted     a section with lets
 use Rattle.std.proofs.Common.{◌≡◌, ◌≢◌, ◌⊎◌, inl, inr, ℕ, suc, ◌<◌, List, [], ◌∷◌, ◌++◌, length, refl, sym, ◌∙◌, ap, subst, append-nil, append_assoc, arith, Bool, true, false, Some, None, cond}
 use Rattle.std.specs.Prelude.{Contains}
@@ -19,11 +17,13 @@ use Rattle.mls_deriv.specs.declared.derivation.SectionLine.{SectionLine}
 use Rattle.mls_deriv.specs.declared.derivation.SectionLine.TheVariants as line
 use Rattle.mls_deriv.specs.declared.derivation.StepLine.{StepLine}
 use Rattle.mls_deriv.specs.Steps.{Before}
-use Rattle.mls_deriv.specs.Sections.{after_let, steps_of, AreAllowed, at_start, IsHeadRead, IsSectionAllowed}
+use Rattle.mls_deriv.specs.Sections.{after_let, AreAllowed, at_start, IsHeadRead, IsSectionAllowed}
 use Rattle.mls_emit.specs.Lets.{FirstPart, KnowsLet, KnowsLets, after, HasRowWhere, HaveRows, HaveOwnNumbers}
 use Rattle.mls_emit.specs.Rows.{at, concluded, HasRow}
 use Rattle.mls_emit.specs.Runs.{BeginsAnew, IsRun}
-use Rattle.mls_emit.proofs.Runs.{run_then}
+use Rattle.mls_emit.specs.Plans.{PlannedLine, a_let, planned_steps, AreLinesOf}
+use Rattle.mls_emit.proofs.Plans.{planned_append, lines_split}
+use Rattle.mls_emit.proofs.Runs.{nothing_run, run_then}
 use Rattle.mls_emit.proofs.Scopes.{itself_key, same_key}
 
 -- the scheme of a let number is the conclusion of a step
@@ -34,15 +34,46 @@ let_run b k number = record {
   allowed = λ rest anew all. all;
 }
 
--- the lines of a row, behind others
-pub part_run : (b c : Before) (lines : List SectionLine) (part : ℕ) (d : Env) (t : ℕ) → IsRun b lines c → (row : HasRow c c.steps part d t) → IsRun b (lines ++ row.leads.lines) (at c row.more)
-part_run b c lines part d t first row = run_then b c (at c row.more) lines row.leads.lines first row.leads.run
+-- A plan leads from one place of a section to another, whichever lists of pairs its steps have.
+pub record Goes (b : Before) (steps : List StepLine) (lets : List (ℕ × ℕ)) (more : List StepLine) (others : List (ℕ × ℕ)) (plan : List PlannedLine) : Type 0 where
+  pub adds : more ≡ steps ++ planned_steps plan
+  pub run : (lines : List SectionLine) → AreLinesOf b.book steps plan lines → IsRun (after b steps lets) lines (after b more others)
 
--- the lines of a first part, and the let line of its last step
-pub part_let : (b c : Before) (lines : List SectionLine) (part : ℕ) (d : Env) (t k : ℕ) → IsRun b lines c → (row : HasRow c c.steps part d t)
-    → IsRun b ((lines ++ row.leads.lines) ++ line.Let k row.number ∷ []) (after_let (at c row.more) k row.number)
-part_let b c lines part d t k first row =
-    run_then b (at c row.more) (after_let (at c row.more) k row.number) (lines ++ row.leads.lines) (line.Let k row.number ∷ []) (part_run b c lines part d t first row) (let_run (at c row.more) k row.number)
+module _ (b : Before) where
+  pub goes_still : (steps : List StepLine) (lets : List (ℕ × ℕ)) → Goes b steps lets steps lets []
+  goes_still steps lets = record {
+    adds = sym (append-nil steps);
+    run = λ lines are. subst (λ (l : List SectionLine). IsRun (after b steps lets) l (after b steps lets)) (sym are) (nothing_run (after b steps lets));
+  }
+
+  pub goes_then : (steps more last : List StepLine) (lets others final : List (ℕ × ℕ)) (plan next : List PlannedLine)
+      → Goes b steps lets more others plan → Goes b more others last final next → Goes b steps lets last final (plan ++ next)
+  goes_then steps more last lets others final plan next first second = record {
+    adds =
+        second.adds
+        ∙ (ap (λ (l : List StepLine). l ++ planned_steps next) first.adds
+        ∙ (append_assoc steps (planned_steps plan) (planned_steps next)
+        ∙ ap (λ (l : List StepLine). steps ++ l) (sym (planned_append plan next))));
+    run =
+        λ lines are.
+        let it = lines_split b.book next plan steps lines are in
+        subst (λ (l : List SectionLine). IsRun (after b steps lets) l (after b last final)) (sym it.same)
+        (run_then (after b steps lets) (after b more others) (after b last final) it.first it.rest (first.run it.first it.are)
+        (second.run it.rest (subst (λ (l : List StepLine). AreLinesOf b.book l next it.rest) (sym first.adds) it.later)));
+  }
+
+  pub row_goes : (steps : List StepLine) (lets : List (ℕ × ℕ)) (part : ℕ) (d : Env) (t : ℕ) → (row : HasRow (after b steps lets) steps part d t)
+      → Goes b steps lets row.more lets row.leads.plan
+  row_goes steps lets part d t row = record { adds = row.leads.adds; run = row.leads.run }
+
+  pub let_goes : (steps : List StepLine) (lets : List (ℕ × ℕ)) (k number : ℕ) → Goes b steps lets steps (lets ++ (k, number) ∷ []) (a_let k number ∷ [])
+  let_goes steps lets k number = record {
+    adds = sym (append-nil steps);
+    run =
+        λ lines are.
+        subst (λ (l : List SectionLine). IsRun (after b steps lets) l (after b steps (lets ++ (k, number) ∷ [])))
+        (sym (are.1 ∙ ap (λ (l : List SectionLine). line.Let k number ∷ l) are.2)) (let_run (after b steps lets) k number);
+  }
 
 find_last : (lets : List (ℕ × ℕ)) (k n : ℕ) → env.find nat_cmp k lets ≡ None → env.find nat_cmp k (lets ++ (k, n) ∷ []) ≡ Some n
 find_last [] k n none_yet = ap (λ t. cond t (Some n) None) (itself_key k)
@@ -94,26 +125,23 @@ let_kept c first row known it =
       says = record { step = says.step; stands = says.stands; about = says.about; concludes = says.concludes };
     }
 
--- The lines of first parts in order, each with its let line: behind them all these lets are known.
-pub record HasLetLines (b : Before) (steps : List StepLine) (lets : List (ℕ × ℕ)) (firsts : List FirstPart) : Type 0 where
-  pub lines : List SectionLine
+-- A plan of first parts in order, each with its let line: behind it all these lets are known.
+pub record HasLetPlan (b : Before) (steps : List StepLine) (lets : List (ℕ × ℕ)) (firsts : List FirstPart) : Type 0 where
+  pub plan : List PlannedLine
   pub more : List StepLine
   pub others : List (ℕ × ℕ)
-  pub run : IsRun (after b steps lets) lines (after b more others)
+  pub goes : Goes b steps lets more others plan
   pub knows : KnowsLets (after b more others) firsts
-
-nothing_run : (b : Before) → IsRun b [] b
-nothing_run b = record { steps = sym (append-nil b.steps); anew = λ rest anew. anew; allowed = λ rest anew all. all }
 
 -- by induction over the first parts
 pub lets_emitted : (b : Before) (known firsts : List FirstPart) (steps : List StepLine) (lets : List (ℕ × ℕ)) → KnowsLets (after b steps lets) known
     → HaveOwnNumbers firsts → ((first : FirstPart) → Contains firsts first → env.find nat_cmp first.number lets ≡ None)
-    → HaveRows b known firsts → HasLetLines b steps lets (known ++ firsts)
+    → HaveRows b known firsts → HasLetPlan b steps lets (known ++ firsts)
 lets_emitted b known [] steps lets knows own new rows = record {
-  lines = [];
+  plan = [];
   more = steps;
   others = lets;
-  run = nothing_run (after b steps lets);
+  goes = goes_still b steps lets;
   knows = subst (KnowsLets (after b steps lets)) (sym (append-nil known)) knows;
 }
 lets_emitted b known (first ∷ firsts) steps lets knows own new rows =
@@ -140,34 +168,37 @@ lets_emitted b known (first ∷ firsts) steps lets knows own new rows =
         (new other (suc there.0, (let low : there.0 < length firsts = there.1 in omega arith), there.2))
         (All-contains (λ (z : FirstPart). first.number ≢ z.number) firsts other own.0 there)
 
-    joined : HasLetLines b row.more (lets ++ (first.number, row.number) ∷ []) ((known ++ first ∷ []) ++ firsts) → HasLetLines b steps lets (known ++ first ∷ firsts)
+    joined : HasLetPlan b row.more (lets ++ (first.number, row.number) ∷ []) ((known ++ first ∷ []) ++ firsts) → HasLetPlan b steps lets (known ++ first ∷ firsts)
     joined next = record {
-      lines = (([] ++ row.leads.lines) ++ line.Let first.number row.number ∷ []) ++ next.lines;
+      plan = (row.leads.plan ++ a_let first.number row.number ∷ []) ++ next.plan;
       more = next.more;
       others = next.others;
-      run =
-          run_then c (after b row.more (lets ++ (first.number, row.number) ∷ [])) (after b next.more next.others)
-          (([] ++ row.leads.lines) ++ line.Let first.number row.number ∷ []) next.lines
-          (part_let c c [] first.part first.env first.type first.number (nothing_run c) row) next.run;
+      goes =
+          goes_then b steps row.more next.more lets (lets ++ (first.number, row.number) ∷ []) next.others
+          (row.leads.plan ++ a_let first.number row.number ∷ []) next.plan
+          (goes_then b steps row.more row.more lets lets (lets ++ (first.number, row.number) ∷ []) row.leads.plan (a_let first.number row.number ∷ [])
+          (row_goes b steps lets first.part first.env first.type row) (let_goes b row.more lets first.number row.number))
+          next.goes;
       knows = subst (KnowsLets (after b next.more next.others)) (append_assoc known (first ∷ []) firsts) next.knows;
     }
 
 nothing_after : BeginsAnew []
 nothing_after = record { puts = refl; pairs = refl }
 
--- A section whose lines are those of its lets and then those of the row of the whole term.
+-- A section whose lines are those of the plan of its lets and then of the row of the whole term.
 pub section_allowed : (globals : List Scheme) (binding : ResolvedBinding) (section : Section) (read : ReadScheme) → IsHeadRead section read → section.name ≡ binding.name
-    → (lines : List SectionLine) (c : Before) (e : ℕ) (d : Env) → IsRun (at_start globals binding section) lines c → (row : HasRow c c.steps e d read.root.0)
-    → suc e ≡ length binding.term.nodes → d ≡ env.empty → section.lines ≡ lines ++ row.leads.lines
+    → (plan : List PlannedLine) (steps : List StepLine) (lets : List (ℕ × ℕ)) (e : ℕ) (d : Env) → Goes (at_start globals binding section) [] [] steps lets plan
+    → (row : HasRow (after (at_start globals binding section) steps lets) steps e d read.root.0)
+    → suc e ≡ length binding.term.nodes → d ≡ env.empty → AreLinesOf section.nodes [] (plan ++ row.leads.plan) section.lines
     → IsSectionAllowed globals binding section read
-section_allowed globals binding section read head name lines c e d first row is_root empty are = record {
+section_allowed globals binding section read head name plan steps lets e d first row is_root empty are = record {
   head = head;
-  lines = subst (AreAllowed b) (append-nil (lines ++ row.leads.lines) ∙ sym are) (run.allowed [] nothing_after tt);
+  lines = subst (AreAllowed b) (append-nil section.lines) (run.allowed [] nothing_after tt);
   end = record {
     name = name;
     earlier = row.ends.earlier;
     last = row.ends.last;
-    last_is = ap steps_of are ∙ (sym run.steps ∙ row.ends.is);
+    last_is = sym run.steps ∙ row.ends.is;
     root = ap suc row.ends.about ∙ is_root;
     env = row.ends.env ∙ empty;
     type = row.ends.root;
@@ -177,23 +208,23 @@ section_allowed globals binding section read head name lines c e d first row is_
     b : Before
     b = at_start globals binding section
 
-    run : IsRun b (lines ++ row.leads.lines) (at c row.more)
-    run = part_run b c lines e d read.root.0 first row
+    run : IsRun b section.lines (after b row.more lets)
+    run = (goes_then b [] steps row.more [] lets lets plan row.leads.plan first (row_goes b steps lets e d read.root.0 row)).run section.lines are
 
--- A section of which each first part and the whole term have lines where the lets before are known.
+-- A section of which each first part and the whole term have a row where the lets before are known.
 pub section_emitted : (globals : List Scheme) (binding : ResolvedBinding) (section : Section) (read : ReadScheme) → IsHeadRead section read → section.name ≡ binding.name
     → (firsts : List FirstPart) → HaveOwnNumbers firsts → HaveRows (at_start globals binding section) [] firsts
     → (e : ℕ) → HasRowWhere (at_start globals binding section) firsts e env.empty read.root.0 → suc e ≡ length binding.term.nodes
-    → (lines : List SectionLine) × (section.lines ≡ lines → IsSectionAllowed globals binding section read)
+    → (plan : List PlannedLine) × (AreLinesOf section.nodes [] plan section.lines → IsSectionAllowed globals binding section read)
 section_emitted globals binding section read head name firsts own rows e whole is_root = (
-  all.lines ++ row.leads.lines,
-  λ are. section_allowed globals binding section read head name all.lines (after b all.more all.others) e env.empty all.run row is_root refl are,
+  all.plan ++ row.leads.plan,
+  λ are. section_allowed globals binding section read head name all.plan all.more all.others e env.empty all.goes row is_root refl are,
 )
   where
     b : Before
     b = at_start globals binding section
 
-    all : HasLetLines b [] [] firsts
+    all : HasLetPlan b [] [] firsts
     all =
         lets_emitted b [] firsts [] []
         (λ first there. absurd (let low : there.0 < 0 = there.1 in omega arith)) own (λ first there. refl) rows

@@ -1,22 +1,29 @@
 -- Trees that are made one node after another.
+--     two_low             the children of a join or a meet
 --     tree_kept           a tree of a book is one in a longer book
+--     last_at             the last node
+--     book_pushed, two_ordered        a node more
 --     tree_none           the tree of no member
 --     chain_first         the tree of one member
 --     chain_next          a tree with one member more
-use Rattle.std.proofs.Common.{◌≡◌, ◌⊎◌, inl, inr, ℕ, suc, ◌+◌, ◌<◌, List, [], ◌∷◌, ◌++◌, length, refl, sym, ap, ◌∙◌, subst, arith, append-nil, append_assoc, length-append}
-use Rattle.std.specs.Prelude.{Contains}
+--     no_trees, trees_next, members_kept      trees that are made one after another
+use Rattle.std.proofs.Common.{◌≡◌, ◌⊎◌, inl, inr, ℕ, zero, suc, ◌+◌, ◌<◌, List, [], ◌∷◌, ◌++◌, length, refl, sym, ap, ◌∙◌, subst, arith, append-nil, append_assoc, length-append}
+use Rattle.std.specs.Prelude.{Contains, get_or}
 use Rattle.std.proofs.Math.ListN.{get_or-append}
+use Rattle.std.proofs.lemmas.List.{get_or_past}
 use Rattle.std.proofs.lemmas.List.Elements.{Contains-append_left, Contains-push, Contains-push_cases}
 use Rattle.mls_book.specs.declared.book.NodeId.{NodeId}
 use Rattle.mls_book.specs.declared.book.Node.{Node}
 use Rattle.mls_book.specs.declared.book.Node.TheVariants as node
 use Rattle.mls_book.specs.Books.{node_at, IsBook, IsOrdered}
+use Rattle.mls_book.proofs.LongerBooks.{below_or_more}
 use Rattle.mls_automaton.specs.declared.automaton.Polarity.{Polarity}
 use Rattle.mls_automaton.specs.declared.automaton.Polarity.TheVariants.{Positive, Negative}
-use Rattle.mls_emit.specs.Trees.{none_node, two_node, HasOnly, member, none, two, HasMember, here, first, second, IsTree, IsNodeIn, AddsTree}
+use Rattle.mls_emit.specs.declared.tree.PlannedTree.{PlannedTree}
+use Rattle.mls_emit.specs.Trees.{none_node, two_node, HasOnly, member, none, two, HasMember, here, first, second, IsTree, IsNodeIn, AddsTree, AreTrees, HasMembersIn, AddsTrees}
 
 -- the children of a join or a meet come before it
-two_low : (nodes : List Node) → IsBook nodes → (p : Polarity) (i : ℕ) (l r : NodeId) → node_at nodes i ≡ two_node p l r → (l.0 < i) × (r.0 < i)
+pub two_low : (nodes : List Node) → IsBook nodes → (p : Polarity) (i : ℕ) (l r : NodeId) → node_at nodes i ≡ two_node p l r → (l.0 < i) × (r.0 < i)
 two_low nodes book Positive i l r e = subst (IsOrdered i) e (book i)
 two_low nodes book Negative i l r e = subst (IsOrdered i) e (book i)
 
@@ -57,18 +64,43 @@ module _ (nodes more : List Node) (book : IsBook nodes) (p : Polarity) where
   }
 
 -- the last node of a book
-last_at : (nodes : List Node) (n : Node) → node_at (nodes ++ n ∷ []) (length nodes) ≡ n
+pub last_at : (nodes : List Node) (n : Node) → node_at (nodes ++ n ∷ []) (length nodes) ≡ n
 last_at [] n = refl
 last_at (x ∷ nodes) n = last_at nodes n
 
 last_low : (nodes : List Node) (n : Node) → length nodes < length (nodes ++ n ∷ [])
 last_low nodes n = let all : length (nodes ++ n ∷ []) ≡ length nodes + 1 = length-append nodes (n ∷ []) in omega arith
 
+-- a node more
+pub book_pushed : (nodes : List Node) (n : Node) → IsBook nodes → IsOrdered (length nodes) n → IsBook (nodes ++ n ∷ [])
+book_pushed nodes n book ordered i = go (below_or_more i (length nodes))
+  where
+    at_end : (j : ℕ) → i ≡ length nodes + j → IsOrdered i (node_at (nodes ++ n ∷ []) i)
+    at_end zero same =
+        let at : i ≡ length nodes = omega (arith, same) in
+        subst (λ k. IsOrdered k (node_at (nodes ++ n ∷ []) k)) (sym at) (subst (IsOrdered (length nodes)) (sym (last_at nodes n)) ordered)
+    at_end (suc j) same =
+        let all : length (nodes ++ n ∷ []) ≡ length nodes + 1 = length-append nodes (n ∷ []) in
+        subst (IsOrdered i) (sym (get_or_past (nodes ++ n ∷ []) i node.Bot (omega (arith, same, all)))) tt
+
+    go : (i < length nodes) ⊎ ((j : ℕ) × (i ≡ length nodes + j)) → IsOrdered i (node_at (nodes ++ n ∷ []) i)
+    go (inl low) = subst (IsOrdered i) (sym (get_or-append nodes (n ∷ []) node.Bot i low)) (book i)
+    go (inr (j, same)) = at_end j same
+
+none_ordered : (p : Polarity) (i : ℕ) → IsOrdered i (none_node p)
+none_ordered Positive i = tt
+none_ordered Negative i = tt
+
+pub two_ordered : (p : Polarity) (i : ℕ) (l r : NodeId) → l.0 < i → r.0 < i → IsOrdered i (two_node p l r)
+two_ordered Positive i l r h k = (h, k)
+two_ordered Negative i l r h k = (h, k)
+
 -- no member
 no_member : (p : Polarity) (old new : List Node) (i : ℕ) → new ≡ old ++ none_node p ∷ [] → i ≡ length old → AddsTree p [] old new i
 no_member p old new i is at = record {
   more = none_node p ∷ [];
   longer = is;
+  is_book = λ book. subst IsBook (sym is) (book_pushed old (none_node p) book (none_ordered p (length old)));
   inside = subst (λ k. k < length new) (sym at) (subst (λ (b : List Node). length old < length b) (sym is) (last_low old (none_node p)));
   tree = record {
     only = none (ap (node_at new) at ∙ (ap (λ b. node_at b (length old)) is ∙ last_at old (none_node p)));
@@ -88,6 +120,7 @@ pub chain_first : (p : Polarity) (book : List Node) (id : NodeId) → id.0 < len
 chain_first p book id low = record {
   more = [];
   longer = sym (append-nil book);
+  is_book = λ is. is;
   inside = low;
   tree = record {
     only = member there;
@@ -106,12 +139,13 @@ chain_first p book id low = record {
         go (inr e) = e
 
 -- one member more
-pub chain_next : (p : Polarity) (members : List NodeId) (old now new : List Node) (root id next : NodeId) → IsBook now
+pub chain_next : (p : Polarity) (members : List NodeId) (old now new : List Node) (root id next : NodeId) → IsBook now → IsBook new
     → AddsTree p members old now root.0 → new ≡ now ++ two_node p root id ∷ [] → next.0 ≡ length now
     → AddsTree p (members ++ id ∷ []) old new next.0
-chain_next p members old now new root id next book it is at = record {
+chain_next p members old now new root id next book is_new it is at = record {
   more = it.more ++ two_node p root id ∷ [];
   longer = is ∙ (ap (λ b. b ++ two_node p root id ∷ []) it.longer ∙ append_assoc old it.more (two_node p root id ∷ []));
+  is_book = λ first_is. is_new;
   inside = subst (λ k. k < length new) (sym at) (subst (λ (b : List Node). length now < length b) (sym is) (last_low now (two_node p root id)));
   tree = subst (λ b. IsTree b p (IsNodeIn (members ++ id ∷ [])) next.0) (sym is) (record {
     only =
@@ -134,3 +168,48 @@ chain_next p members old now new root id next book it is at = record {
     go : (j : ℕ) → IsNodeIn members j ⊎ (id ≡ record { 0 = j }) → HasMember now' p j next.0
     go j (inl there) = first root id is_two (kept.each j there)
     go j (inr e) = second root id is_two (here (ap (λ (k : NodeId). k.0) e))
+
+-- trees of a book are trees of a longer one
+trees_kept : (nodes more : List Node) → IsBook nodes → (trees : List PlannedTree) (ids : List NodeId) → AreTrees nodes trees ids → AreTrees (nodes ++ more) trees ids
+trees_kept nodes more book [] [] are = tt
+trees_kept nodes more book [] (id ∷ ids) are = absurd are
+trees_kept nodes more book (tree ∷ trees) [] are = absurd are
+trees_kept nodes more book (tree ∷ trees) (id ∷ ids) are =
+    let low : id.0 < length nodes = are.0.0 in
+    let all : length (nodes ++ more) ≡ length nodes + length more = length-append nodes more in (
+      (omega (arith, low, all), tree_kept nodes more book tree.polarity (IsNodeIn tree.members) id.0 low are.0.1),
+      trees_kept nodes more book trees ids are.1,
+    )
+
+trees_pushed : (book : List Node) (trees : List PlannedTree) (ids : List NodeId) (tree : PlannedTree) (id : NodeId) → AreTrees book trees ids
+    → id.0 < length book → IsTree book tree.polarity (IsNodeIn tree.members) id.0 → AreTrees book (trees ++ tree ∷ []) (ids ++ id ∷ [])
+trees_pushed book [] [] tree id are low it = ((low, it), tt)
+trees_pushed book [] (root ∷ ids) tree id are low it = absurd are
+trees_pushed book (one ∷ trees) [] tree id are low it = absurd are
+trees_pushed book (one ∷ trees) (root ∷ ids) tree id are low it = (are.0, trees_pushed book trees ids tree id are.1 low it)
+
+-- no tree
+pub no_trees : (book : List Node) → AddsTrees [] book book []
+no_trees book = record { more = []; longer = sym (append-nil book); is_book = λ is. is; are = λ is. tt }
+
+-- one tree more
+pub trees_next : (trees : List PlannedTree) (old now new : List Node) (ids new_ids : List NodeId) (tree : PlannedTree) (id : NodeId) → AddsTrees trees old now ids
+    → AddsTree tree.polarity tree.members now new id.0 → new_ids ≡ ids ++ id ∷ [] → AddsTrees (trees ++ tree ∷ []) old new new_ids
+trees_next trees old now new ids new_ids tree id it next are = subst (AddsTrees (trees ++ tree ∷ []) old new) (sym are) (record {
+  more = it.more ++ next.more;
+  longer = next.longer ∙ (ap (λ (b : List Node). b ++ next.more) it.longer ∙ append_assoc old it.more next.more);
+  is_book = λ book. next.is_book (it.is_book book);
+  are =
+      λ book.
+      trees_pushed new trees ids tree id
+      (subst (λ (b : List Node). AreTrees b trees ids) (sym next.longer) (trees_kept now next.more (it.is_book book) trees ids (it.are book)))
+      next.inside next.tree;
+})
+
+-- members of the first book are in the longer one
+pub members_kept : (trees : List PlannedTree) (old now : List Node) (ids : List NodeId) (tree : PlannedTree) → AddsTrees trees old now ids → HasMembersIn old tree → HasMembersIn now tree
+members_kept trees old now ids tree it all =
+    λ k d h.
+    let low : (get_or tree.members k d).0 < length old = all k d h in
+    let longer : length now ≡ length old + length it.more = ap length it.longer ∙ length-append old it.more in
+    omega (arith, low, longer)

@@ -27,13 +27,13 @@ KnowsLets b firsts = (first : FirstPart) → Contains firsts first → KnowsLet 
 abbrev pub after : Before → List StepLine → List (ℕ × ℕ) → Before
 after b steps lets = record b { steps = steps; lets = lets }
 
--- wherever these lets are known, lines lead to a step about the part
+-- wherever these lets are known, a plan leads to a step about the part
 abbrev pub HasRowWhere : Before → (known : List FirstPart) → (part : ℕ) → Env → (type : ℕ) → Type 0
 HasRowWhere b known part d t =
     (steps : List StepLine) (lets : List (ℕ × ℕ)) → KnowsLets (after b steps lets) known
     → HasRow (after b steps lets) steps part d t
 
--- each first part has lines wherever those before it are known
+-- each first part has a row wherever those before it are known
 abbrev pub HaveRows : Before → (known firsts : List FirstPart) → Type 0
 HaveRows b known [] = Unit {0}
 HaveRows b known (first ∷ firsts) =

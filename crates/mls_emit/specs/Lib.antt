@@ -1,5 +1,6 @@
 pub mod Shown
 pub mod Trees
+pub mod Drafts
 pub mod Heads
 pub mod Layouts
 pub mod Uses
@@ -7,7 +8,10 @@ pub mod PairLists
 pub mod steps
 pub mod Emitted
 pub mod Runs
+pub mod Plans
 pub mod Rows
 pub mod Lets
 pub mod Scopes
 pub mod Posed
+pub mod PosedUses
+pub mod Parts

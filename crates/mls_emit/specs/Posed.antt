@@ -24,8 +24,8 @@ module _ (nodes : List TermNode) (a : Automaton) (IsGoal : ℕ → ℕ → Type 
     pub IsPosed : List ℕ → ℕ → TermTree → Type 0
     IsPosed scope i (bound at x) = (form_at nodes i ≡ Some (form.Bound x)) × Contains scope x
         × HasFlow a (binder x) (root i)
-    IsPosed scope i (inner at k) = IsUse scope i
-    IsPosed scope i (global at g) = IsUse scope i
+    IsPosed scope i (inner at k) = (form_at nodes i ≡ Some (form.Inner k)) × IsUse scope i
+    IsPosed scope i (global at g) = (form_at nodes i ≡ Some (form.Global g)) × IsUse scope i
     IsPosed scope i (number at value) = (form_at nodes i ≡ Some (form.Number value))
         × (polarity_at a (root i) ≡ Positive) × ((head_at a (root i)).integer ≡ true)
     IsPosed scope i (truth at value) = (form_at nodes i ≡ Some (form.Truth value))

@@ -10,6 +10,7 @@ use Rattle.mls_deriv.specs.declared.derivation.StepLine.{StepLine}
 use Rattle.mls_deriv.specs.Steps.{env_of, IsRising, Before, Says}
 use Rattle.mls_emit.specs.Shown.{IsShown}
 use Rattle.mls_emit.specs.Runs.{IsRun}
+use Rattle.mls_emit.specs.Plans.{PlannedLine, planned_steps, AreLinesOf}
 
 -- the same place of the section, after these steps
 abbrev pub at : Before → List StepLine → Before
@@ -24,10 +25,11 @@ pub record Fits (b : Before) (d : List BinderNode) (t : ℕ) : Type 0 where
   pub scheme : IsScheme (concluded b (env_of d) t)
   pub rising : IsRising d
 
--- lines lead from these steps to more steps, and what was said stays
+-- A plan leads from these steps to more steps, whichever lists of pairs its steps have, and what was said stays.
 pub record Leads (b : Before) (steps more : List StepLine) : Type 0 where
-  pub lines : List SectionLine
-  pub run : IsRun (at b steps) lines (at b more)
+  pub plan : List PlannedLine
+  pub adds : more ≡ steps ++ planned_steps plan
+  pub run : (lines : List SectionLine) → AreLinesOf b.book steps plan lines → IsRun (at b steps) lines (at b more)
   pub kept : (number part : ℕ) (s : Scheme) → Says (at b steps) number part s → Says (at b more) number part s
 
 -- the last of these steps is about this part, with this environment and type
@@ -39,7 +41,7 @@ pub record EndsWith (steps : List StepLine) (part : ℕ) (d : Env) (t : ℕ) : T
   pub env : env_of last.env ≡ d
   pub root : last.root.0 ≡ t
 
--- lines lead to a step about this part, with this environment and type
+-- a plan leads to a step about this part, with this environment and type
 pub record HasRow (b : Before) (steps : List StepLine) (part : ℕ) (d : Env) (t : ℕ) : Type 0 where
   pub more : List StepLine
   pub leads : Leads b steps more

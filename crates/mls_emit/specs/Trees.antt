@@ -1,11 +1,12 @@
 -- Trees of joins, for positive places, and of meets, for negative places.
-use Rattle.std.specs.Prelude.{◌≡◌, ◌<◌, ℕ, List, ◌++◌, length, Contains}
+use Rattle.std.specs.Prelude.{◌≡◌, ◌<◌, ℕ, List, [], ◌∷◌, ◌++◌, length, All, Contains}
 use Rattle.mls_book.specs.declared.book.NodeId.{NodeId}
 use Rattle.mls_book.specs.declared.book.Node.{Node}
 use Rattle.mls_book.specs.declared.book.Node.TheVariants as node
-use Rattle.mls_book.specs.Books.{node_at}
+use Rattle.mls_book.specs.Books.{node_at, IsBook}
 use Rattle.mls_automaton.specs.declared.automaton.Polarity.{Polarity}
 use Rattle.mls_automaton.specs.declared.automaton.Polarity.TheVariants.{Positive, Negative}
+use Rattle.mls_emit.specs.declared.tree.PlannedTree.{PlannedTree}
 
 -- the node of no member, and that of two trees
 abbrev pub none_node : Polarity → Node
@@ -46,5 +47,24 @@ IsNodeIn nodes i = Contains nodes (record { 0 = i })
 pub record AddsTree (p : Polarity) (members : List NodeId) (old new : List Node) (i : ℕ) : Type 0 where
   pub more : List Node
   pub longer : new ≡ old ++ more
+  pub is_book : IsBook old → IsBook new
   pub inside : i < length new
   pub tree : IsTree new p (IsNodeIn members) i
+
+-- these numbers are those of trees of the book, for one list of members after the other
+abbrev pub AreTrees : List Node → List PlannedTree → List NodeId → Type 0
+AreTrees book [] [] = Unit {0}
+AreTrees book (tree ∷ trees) (id ∷ ids) =
+    ((id.0 < length book) × IsTree book tree.polarity (IsNodeIn tree.members) id.0) × AreTrees book trees ids
+AreTrees book _ _ = ⊥
+
+-- each member is a number of the book
+abbrev pub HasMembersIn : List Node → PlannedTree → Type 0
+HasMembersIn book tree = All (λ (id : NodeId). id.0 < length book) tree.members
+
+-- The second book is the first and more nodes, and has these trees.
+pub record AddsTrees (trees : List PlannedTree) (old new : List Node) (ids : List NodeId) : Type 0 where
+  pub more : List Node
+  pub longer : new ≡ old ++ more
+  pub is_book : IsBook old → IsBook new
+  pub are : IsBook old → AreTrees new trees ids

@@ -1,5 +1,6 @@
 -- A use of a name: the nodes of its type, and a copy of it in the constraint of the part.
-use Rattle.std.specs.Prelude.{◌≡◌, ◌⊎◌, ℕ, List, Contains, Some}
+use Rattle.std.specs.Prelude.{◌≡◌, ◌⊎◌, ℕ, ◌<◌, List, length, All, Contains, Some, None}
+use Rattle.mls_book.specs.declared.book.Field.{Field}
 use Rattle.mls_book.specs.declared.book.Node.{Node}
 use Rattle.mls_book.specs.declared.book.Node.TheVariants as node
 use Rattle.mls_book.specs.Books.{node_at}
@@ -48,6 +49,32 @@ pub record ArePuts (book : List Node) (IsPlace : ℕ → Type 0) (sign : ℕ →
   pub tree : (s x : ℕ) → IsPlace s → Shows book variables s x
       → IsTree book Positive (λ i. (n : ℕ) × IsPlace n × (sign n ≡ Negative) × Shows book variables n x
       × (place (copy n) ≡ i)) (joined x)
+
+-- What is known of a name: the nodes of its type, of which one place is the top, a copy of the type in the constraint,
+-- and the nodes of its variables.
+pub record IsCopyOf (book : List Node) (a : Automaton) (place : ℕ → ℕ) (IsPlace : ℕ → Type 0) (top : ℕ) : Type 0 where
+  pub sign : ℕ → Polarity
+  pub known_place : ℕ → ℕ
+  pub copy : ℕ → ℕ
+  pub type : IsNameLayout book a IsPlace sign known_place copy
+  pub puts : List Put
+  pub are : ArePuts book IsPlace sign type.variables place copy puts
+  pub low : (x n : ℕ) → put_at puts x ≡ Some n → n < length book
+  pub at_top : IsPlace top
+  pub is_positive : sign top ≡ Positive
+
+-- each node that the node names is of this kind
+abbrev pub NamesOnly : (ℕ → Type 0) → Node → Type 0
+NamesOnly IsOne (node.Arrow j k) = IsOne j.0 × IsOne k.0
+NamesOnly IsOne (node.Rcd fields) = All (λ (field : Field). IsOne field.node.0) fields
+NamesOnly IsOne (node.Join j k) = IsOne j.0 × IsOne k.0
+NamesOnly IsOne (node.Meet j k) = IsOne j.0 × IsOne k.0
+NamesOnly IsOne _ = Unit {0}
+
+-- nodes from which no variable is reached that stands for another node
+pub record AreFree (book : List Node) (puts : List Put) (Free : ℕ → Type 0) : Type 0 where
+  pub children : (i : ℕ) → Free i → NamesOnly Free (node_at book i)
+  pub variables : (i x : ℕ) → Free i → node_at book i ≡ node.Var x → put_at puts x ≡ None
 
 -- a positive place of the type is below its copy, where its variables stand for their nodes, and a negative place is
 -- above its copy

@@ -3,3 +3,4 @@ pub mod Lines
 pub mod Needs
 pub mod Growth
 pub mod Rounds
+pub mod Filling

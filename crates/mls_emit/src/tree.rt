@@ -1,11 +1,13 @@
 //! Joins and meets of nodes.
 ghost use Rattle.std.specs.Prelude.{◌≡◌, ◌<◌, ◌++◌, ◌∷◌, [], All, length, IfOk, OnOk};
 ghost use Rattle.mls_book.specs.Books.{IsBook};
-ghost use Rattle.mls_emit.specs.Trees.{AddsTree, none_node, two_node};
+ghost use Rattle.mls_emit.specs.Trees.{AddsTree, AddsTrees, HasMembersIn, none_node, two_node};
 
 use mls_automaton::automaton::Polarity;
+use mls_base::list::List;
 use mls_base::memory::Memory;
 use mls_book::book::{Book, Node, NodeId};
+use std::alloc::Global;
 
 // The node of no member.
 fn none_node(polarity: Polarity) -> Node
@@ -35,6 +37,7 @@ fn push_two(
     requires left { left.0 < length book.old }
     requires right { right.0 < length book.old }
     ensures is_book { IsBook book.old }
+    ensures is_new { OnOk result (IsBook book.new) }
     ensures book { OnOk result (book.new ≡ book.old ++ two_node polarity left right ∷ []) }
     ensures number { IfOk result (λ id. id.0 ≡ length book.old) }
 {
@@ -80,4 +83,39 @@ pub fn push_tree(book: &mut Book, polarity: Polarity, members: &[NodeId]) -> Res
         }
         Some((first, rest)) => push_chain(book, polarity, *first, rest),
     }
+}
+
+/// A join of nodes, for a positive place, or a meet of them, for a negative one.
+#[derive(Drop)]
+pub struct PlannedTree {
+    pub polarity: Polarity,
+    pub members: NodeIds,
+}
+
+/// Numbers of nodes in order.
+pub type NodeIds = List<NodeId>;
+
+// Adds the tree of these members, which are nodes of the book.
+fn push_planned(book: &mut Book, tree: &PlannedTree) -> Result<NodeId, Memory>
+    requires { HasMembersIn book.old tree.now }
+    ensures { IfOk result (λ id. AddsTree tree.now.polarity tree.now.members book.old book.new id.0) }
+{
+    push_tree(book, tree.polarity, tree.members.as_slice())
+}
+
+/// Adds joins and meets of nodes of the book, one after another.
+///
+/// # Errors
+///
+/// `Memory` where memory is wanting.
+pub fn push_trees(alloc: Global, book: &mut Book, trees: &[PlannedTree]) -> Result<NodeIds, Memory>
+    requires { All (HasMembersIn book.old) trees.now }
+    ensures { IfOk result (AddsTrees trees.now book.old book.new) }
+{
+    let mut ids = NodeIds::new(alloc);
+    for tree in trees {
+        let id = push_planned(book, tree)?;
+        ids.push(id)?;
+    }
+    Ok(ids)
 }
