@@ -54,6 +54,22 @@ cat >main.mli <<'END'
 val d : int
 val r : bool | int
 END
+echo 'let id = fun x -> x' >id.ml
+cat >id.mld <<'END'
+derivation 1
+val id : a -> a
+node fn 1 2
+node var 0
+node var 0
+node fn 1 1
+step 0 var env 0 1 type 1
+step 1 fun 0 env type 3
+step 1 sub 1 env type 0
+pair lr 3 0
+pair rl 1 1
+pair lr 1 2
+end
+END
 echo 'let bad = fun x -> let y = x 1 in if y then y.a else {b = true, c = 1 2}' >bad.ml
 
 # front FILE WHOLE: the bytes of FILE begin WHOLE.
@@ -99,4 +115,5 @@ for module in pairs church counter main; do
 done
 refuse infer bad
 refuse check absent
+refuse verify id
 exit $failed

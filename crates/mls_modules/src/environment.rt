@@ -63,8 +63,12 @@ fn add_entries(alloc: Global, names: &mut Names, entries: &[SigEntry]) -> Result
     Ok(())
 }
 
-/// The names that each import declares.
-pub(crate) fn declared_names(alloc: Global, imports: &[Interface]) -> Result<List<NameList>, Memory>
+/// The names that each import declares, as `resolve` takes them.
+///
+/// # Errors
+///
+/// `Memory` where memory is wanting.
+pub fn declared_names(alloc: Global, imports: &[Interface]) -> Result<List<NameList>, Memory>
     ensures { IfOk result (λ names. names ≡ declared_names imports.now) }
 {
     let mut declared = List::new(alloc);

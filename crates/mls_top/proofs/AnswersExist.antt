@@ -1,5 +1,5 @@
 -- All words have an answer over all files, or ask for types of a module whose imports are read and whose names have
--- meanings.
+-- meanings, or for the check of a derivation for one.
 use Rattle.std.proofs.Common.{◌≡◌, ◌⊎◌, inl, inr, ℕ, List, [], ◌∷◌, refl, sym, subst}
 use Rattle.std.specs.Prelude.{Option, Some, None, Result, Ok, Err}
 use Rattle.mls_base.specs.Files.{Files}
@@ -8,7 +8,7 @@ use Rattle.mls_grammar.specs.declared.fault.Fault.TheVariants.{UnknownName}
 use Rattle.mls_grammar.specs.declared.module.Module.{Module}
 use Rattle.mls_grammar.specs.declared.module.Import.{Import}
 use Rattle.mls_grammar.specs.Trees.{SourceTree}
-use Rattle.mls_grammar.specs.Modules.{IsTextOf, module_of, IsModuleText}
+use Rattle.mls_grammar.specs.Modules.{IsModule, IsTextOf, module_of, IsModuleText}
 use Rattle.mls_grammar.specs.GrammarLaws.{IsTreeOrFault}
 use Rattle.mls_grammar.proofs.FirstStops.{tree_or_fault}
 use Rattle.mls_term.specs.declared.term.Resolved.{Resolved}
@@ -20,16 +20,16 @@ use Rattle.mls_iface.specs.Interfaces.{IsInterfaceText, HasInterfaceFault}
 use Rattle.mls_iface.proofs.InterfaceTotal.{interface_or_fault}
 use Rattle.mls_modules.specs.Environments.{declared_names}
 use Rattle.mls_top.specs.declared.command.Command.{Command}
-use Rattle.mls_top.specs.declared.command.Command.TheVariants.{Infer, Check, Generate}
+use Rattle.mls_top.specs.declared.command.Command.TheVariants.{Infer, Check, Verify, Generate}
 use Rattle.mls_top.specs.declared.status.Status.{Status}
 use Rattle.mls_top.specs.declared.status.Status.TheVariants.{Usage}
 use Rattle.mls_top.specs.Commands.{command_of}
 use Rattle.mls_top.specs.Generator.{generated_name, generated_files}
-use Rattle.mls_top.specs.Lines.{module_file, interface_file, usage_line}
+use Rattle.mls_top.specs.Lines.{module_file, interface_file, derivation_file, usage_line}
 use Rattle.mls_top.specs.Refusals.{Refusal, for_fault, for_interface_fault, text_at, refusal_status, refusal_text}
-use Rattle.mls_top.specs.Outcomes.{module_limit, is_module, is_faulty, ReadsInterface, no_interface, is_interface, is_no_interface, ReadsImports, no_import, first_refused, later_refused, all_read, unknown_name, refused, InfersText, bad_module, bad_import, has_imports, Infers, no_text, has_text, no_signature}
-use Rattle.mls_top.specs.Answers.{IsAnswer, IsAnswerOf, no_command, of_command, infer, check, generate}
-use Rattle.mls_top.specs.Laws.{InfersTypesOf, files_for, AskForTypes, AnswerExists}
+use Rattle.mls_top.specs.Outcomes.{module_limit, derivation_limit, is_faulty, ReadsInterface, no_interface, is_interface, is_no_interface, ReadsImports, no_import, first_refused, later_refused, all_read, HasSource, HasNoSource, no_text, bad_module, bad_import, unknown_name, refused, Infers, no_source, has_source, no_signature, names_mean, no_meaning, no_derivation, Verifies, unread, bad_names, bad_derivation}
+use Rattle.mls_top.specs.Answers.{IsAnswer, IsAnswerOf, no_command, of_command, infer, check, verify, generate}
+use Rattle.mls_top.specs.Laws.{InfersTypesOf, files_for, AskForTypes, AskForCheck, AnswerExists}
 
 module _ (files : Files) where
   -- every interface is read or refused,
@@ -61,43 +61,50 @@ module _ (files : Files) where
       by (Ok j, first) (Err r, more) = (Err r, later_refused first more)
       by (Ok j, first) (Ok others, more) = (Ok (j ∷ others), all_read first more)
 
-  -- the text is that of a module whose imports are read and whose names have meanings
-  record AwaitsTypes (text : List ℕ) : Type 0 where
-    pub m : Module
-    pub imports : List Interface
-    pub r : Resolved
-    pub is_module : IsModuleText text m
-    pub reads : ReadsImports files m.imports (Ok imports)
-    pub resolves : Resolves m (declared_names imports) r
-
   module _ (x : List ℕ) where
-    -- a text is refused, unless its types are to be inferred
-    abbrev Found : List ℕ → Type 0
-    Found text = ((r : Refusal) × InfersText files x text (refused r)) ⊎ AwaitsTypes text
+    -- the module is there with what its imports declare
+    pub record Sourced : Type 0 where
+      pub text : List ℕ
+      pub m : Module
+      pub imports : List Interface
+      pub source : HasSource files x text m imports
+      pub is_module : IsModule m
 
-    module _ (text : List ℕ) (tree : SourceTree) (is : IsTextOf text tree) where
-      abbrev m : Module
-      m = module_of tree
+    abbrev IsSourced : Type 0
+    IsSourced = ((r : Refusal) × HasNoSource files x r) ⊎ Sourced
 
-      read : IsModuleText text m
-      read = record { tree = tree; text_of = is; nodes = refl }
+    module _ (text : List ℕ) (there : text_at files (module_file x) module_limit ≡ Ok text) where
+      module _ (tree : SourceTree) (is : IsTextOf text tree) where
+        read : IsModuleText text (module_of tree)
+        read = record { tree = tree; text_of = is; nodes = refl }
 
-      by_names : (imports : List Interface) → ReadsImports files m.imports (Ok imports)
-          → ((r : Resolved) × Resolves m (declared_names imports) r) ⊎ ((fault : Fault) × HasUnknownName m (declared_names imports) fault)
-          → Found text
-      by_names imports reads (inl (r, resolves)) = inr (record { m = m; imports = imports; r = r; is_module = read; reads = reads; resolves = resolves })
-      by_names imports reads (inr (fault, has)) =
-          let P : Fault → Type 0 = λ fault. HasUnknownName m (declared_names imports) fault in
-          inl (for_fault (module_file x) text (UnknownName has.place), has_imports (is_module read) reads (unknown_name {at = has.place} (subst P has.fault_is has)))
+        by_imports : ImportsRead (module_of tree).imports → IsSourced
+        by_imports (Err r, reads) = inl (r, bad_import there read reads)
+        by_imports (Ok imports, reads) = inr (record {
+          text = text;
+          m = module_of tree;
+          imports = imports;
+          source = record { text_is = there; is_module = read; reads = reads };
+          is_module = record { tree = tree; no_doubles = is.no_doubles; nodes = refl };
+        })
 
-      by_imports : ImportsRead m.imports → Found text
-      by_imports (Err r, reads) = inl (r, bad_import (is_module read) reads)
-      by_imports (Ok imports, reads) =
-          by_names imports reads (resolution_or_unknown_name m (declared_names imports) (record { tree = tree; no_doubles = is.no_doubles; nodes = refl }))
+      of_text : IsTreeOrFault text → IsSourced
+      of_text (inl (tree, is)) = by_imports tree is (imports_read (module_of tree).imports)
+      of_text (inr (fault, has)) = inl (for_fault (module_file x) text fault, bad_module there (is_faulty has))
 
-    of_text : (text : List ℕ) → IsTreeOrFault text → Found text
-    of_text text (inl (tree, is)) = by_imports text tree is (imports_read (module_of tree).imports)
-    of_text text (inr (fault, has)) = inl (for_fault (module_file x) text fault, bad_module (is_faulty has))
+    of_file : (r : Result (List ℕ) Refusal) → text_at files (module_file x) module_limit ≡ r → IsSourced
+    of_file (Err r) there = inl (r, no_text there)
+    of_file (Ok text) there = of_text text there (tree_or_fault text)
+
+    pub sourced : IsSourced
+    sourced = of_file (text_at files (module_file x) module_limit) refl
+
+    -- its names have meanings, or one of them has none
+    abbrev Named : Module → List Interface → Type 0
+    Named m imports = ((r : Resolved) × Resolves m (declared_names imports) r) ⊎ ((fault : Fault) × HasUnknownName m (declared_names imports) fault)
+
+    pub named : (it : Sourced) → Named it.m it.imports
+    named it = resolution_or_unknown_name it.m (declared_names it.imports) it.is_module
 
 module _ (files : Files) where
   -- a command that infers the types of a refused module has its refusal as answer
@@ -105,12 +112,13 @@ module _ (files : Files) where
   answer_of x (Infer y) same r h = let P : List ℕ → Type 0 = λ x. Infers files x (refused r) in infer y (refused r) (subst P (sym same) h) refl refl
   answer_of x (Check y) same r h =
       let P : List ℕ → Type 0 = λ x. Infers files x (refused r) in check y (refused r) (no_signature (subst P (sym same) h)) refl refl
+  answer_of x (Verify y) wrong r h = absurd wrong
   answer_of x (Generate seed count) same r h =
       let P : List ℕ → Type 0 = λ x. Infers (generated_files seed count) x (refused r) in generate seed count (refused r) (subst P (sym same) h) refl refl
 
   module _ (words : List (List ℕ)) where
     abbrev HasAnswer : Type 0
-    HasAnswer = ((status : Status) × (text : List ℕ) × IsAnswer files words status text) ⊎ AskForTypes files words
+    HasAnswer = ((status : Status) × (text : List ℕ) × IsAnswer files words status text) ⊎ AskForTypes files words ⊎ AskForCheck files words
 
     module _ (x : List ℕ) (command : Command) (infers : InfersTypesOf x command) (e : command_of words ≡ Some command) where
       abbrev from : Files
@@ -119,35 +127,60 @@ module _ (files : Files) where
       is_refused : (r : Refusal) → Infers from x (refused r) → HasAnswer
       is_refused r h = inl (refusal_status r, refusal_text r, of_command command e (answer_of x command infers r h))
 
-      of_found : (text : List ℕ) → text_at from (module_file x) module_limit ≡ Ok text → Found from x text → HasAnswer
-      of_found text there (inl (r, h)) = is_refused r (has_text there h)
-      of_found text there (inr it) = inr (record {
+      types_of_named : (it : Sourced from x) → Named from x it.m it.imports → HasAnswer
+      types_of_named it (inl (r, resolves)) = inr (inl (record {
         x = x;
         command = command;
         infers = infers;
         words_are = e;
-        text = text;
+        text = it.text;
         m = it.m;
         imports = it.imports;
-        r = it.r;
-        text_is = there;
-        is_module = it.is_module;
-        reads = it.reads;
-        resolves = it.resolves;
-      })
+        r = r;
+        source = it.source;
+        resolves = resolves;
+      }))
+      types_of_named it (inr (fault, has)) =
+          let P : Fault → Type 0 = λ fault. HasUnknownName it.m (declared_names it.imports) fault in
+          is_refused (for_fault (module_file x) it.text (UnknownName has.place)) (has_source it.source (unknown_name {at = has.place} (subst P has.fault_is has)))
 
-      of_file : (r : Result (List ℕ) Refusal) → text_at from (module_file x) module_limit ≡ r → HasAnswer
-      of_file (Err r) there = is_refused r (no_text there)
-      of_file (Ok text) there = of_found text there (of_text from x text (tree_or_fault text))
+      types_of : IsSourced from x → HasAnswer
+      types_of (inl (r, none)) = is_refused r (no_source none)
+      types_of (inr it) = types_of_named it (named from x it)
 
-      of_command_is : HasAnswer
-      of_command_is = of_file (text_at from (module_file x) module_limit) refl
+    module _ (x : List ℕ) (e : command_of words ≡ Some (Verify x)) where
+      not_verified : (r : Refusal) → Verifies files x (refused r) → HasAnswer
+      not_verified r h = inl (refusal_status r, refusal_text r, of_command (Verify x) e (verify x (refused r) h refl refl))
+
+      check_of_text : (it : Sourced files x) (b : Resolved) → Resolves it.m (declared_names it.imports) b → (r : Result (List ℕ) Refusal) → text_at files (derivation_file x) derivation_limit ≡ r → HasAnswer
+      check_of_text it b resolves (Err r) there = not_verified r (bad_derivation it.source (names_mean resolves) (no_derivation there))
+      check_of_text it b resolves (Ok derivation) there = inr (inr (record {
+        x = x;
+        words_are = e;
+        text = it.text;
+        m = it.m;
+        imports = it.imports;
+        r = b;
+        source = it.source;
+        resolves = resolves;
+        derivation = derivation;
+        derivation_is = there;
+      }))
+
+      check_of_named : (it : Sourced files x) → Named files x it.m it.imports → HasAnswer
+      check_of_named it (inl (b, resolves)) = check_of_text it b resolves (text_at files (derivation_file x) derivation_limit) refl
+      check_of_named it (inr (fault, has)) = not_verified (for_fault (module_file x) it.text fault) (bad_names it.source (no_meaning has))
+
+      check_of : IsSourced files x → HasAnswer
+      check_of (inl (r, none)) = not_verified r (unread none)
+      check_of (inr it) = check_of_named it (named files x it)
 
     of_words : (o : Option Command) → command_of words ≡ o → HasAnswer
     of_words None e = inl (Usage, usage_line, no_command e)
-    of_words (Some (Infer x)) e = of_command_is x (Infer x) refl e
-    of_words (Some (Check x)) e = of_command_is x (Check x) refl e
-    of_words (Some (Generate seed count)) e = of_command_is generated_name (Generate seed count) refl e
+    of_words (Some (Infer x)) e = types_of x (Infer x) refl e (sourced files x)
+    of_words (Some (Check x)) e = types_of x (Check x) refl e (sourced files x)
+    of_words (Some (Verify x)) e = check_of x e (sourced files x)
+    of_words (Some (Generate seed count)) e = types_of generated_name (Generate seed count) refl e (sourced (generated_files seed count) generated_name)
 
 pub answer_exists : AnswerExists
 answer_exists files words = of_words files words (command_of words) refl

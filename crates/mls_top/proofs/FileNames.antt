@@ -12,7 +12,7 @@ use Rattle.mls_automaton.proofs.Lists.{Contains-cases, Contains-map}
 use Rattle.mls_typing.proofs.Lists.{nothing_in}
 use Rattle.mls_grammar.specs.declared.module.Import.{Import}
 use Rattle.mls_grammar.specs.Modules.{AreDistinct}
-use Rattle.mls_top.specs.Lines.{module_file, interface_file}
+use Rattle.mls_top.specs.Lines.{module_file, interface_file, derivation_file}
 use Rattle.mls_top.specs.steps.Fetching.{IsInterfaceFile, IsFileOf}
 
 -- the text of a module is no interface
@@ -22,6 +22,20 @@ not_interface x y same =
     sym (reverse-append x (codes ".ml")) ∙ (ap (λ (l : List ℕ). reverse l) same ∙ reverse-append y (codes ".mli")) in
     let last : get_or (reverse (codes ".ml") ++ reverse x) 0 0 ≡ get_or (reverse (codes ".mli") ++ reverse y) 0 0 = ap (λ l. get_or l 0 0) back in
     let wrong : 108 ≡ 105 = last in
+    absurd (omega arith)
+
+-- a derivation is neither
+derivation_ends : (x file : List ℕ) → file ≡ derivation_file x → get_or (reverse file) 0 0 ≡ 100
+derivation_ends x file same = ap (λ (l : List ℕ). get_or (reverse l) 0 0) same ∙ ap (λ (l : List ℕ). get_or l 0 0) (reverse-append x (codes ".mld"))
+
+pub derivation_not_fetched : (x : List ℕ) (imports : List Import) (file : List ℕ) → IsFileOf x imports file → file ≡ derivation_file x → ⊥
+derivation_not_fetched x imports file (inl text) same =
+    let last : get_or (reverse file) 0 0 ≡ 108 = ap (λ (l : List ℕ). get_or (reverse l) 0 0) text ∙ ap (λ (l : List ℕ). get_or l 0 0) (reverse-append x (codes ".ml")) in
+    let other : get_or (reverse file) 0 0 ≡ 100 = derivation_ends x file same in
+    absurd (omega arith)
+derivation_not_fetched x imports file (inr import) same =
+    let last : get_or (reverse file) 0 0 ≡ 105 = ap (λ (l : List ℕ). get_or (reverse l) 0 0) import.2 ∙ ap (λ (l : List ℕ). get_or l 0 0) (reverse-append import.0.name (codes ".mli")) in
+    let other : get_or (reverse file) 0 0 ≡ 100 = derivation_ends x file same in
     absurd (omega arith)
 
 -- and interfaces of one name are those of one module

@@ -24,7 +24,7 @@ use Rattle.mls_top.specs.declared.status.Status.TheVariants.{Done}
 use Rattle.mls_top.specs.Answers.{generate}
 use Rattle.mls_top.specs.Generator.{generated, generated_name, generated_files}
 use Rattle.mls_top.specs.Lines.{module_file, generated_line}
-use Rattle.mls_top.specs.Outcomes.{module_limit, ReadsModule, is_module, ReadsImports, InfersBindings, all_inferred, bad_module, has_imports, Infers, has_text, Outcome, refused, signed, outcome_status, generated_text}
+use Rattle.mls_top.specs.Outcomes.{module_limit, ReadsModule, ReadsImports, bad_module, InfersBindings, all_inferred, Infers, no_source, has_source, Outcome, refused, signed, outcome_status, generated_text}
 use Rattle.mls_top.specs.Outcomes.{no_import as nothing_imported}
 use Rattle.mls_top.specs.Refusals.{found, text_at}
 use Rattle.mls_top.specs.Statuses.{is_answer}
@@ -95,7 +95,7 @@ module _ (seed count : ℕ) where
         let P : List ℕ → Type 0 = λ file. IsStop (λ r. ReadsModule file read (Err r)) s in
         let Q : List ℕ → Type 0 = λ read. IsStop (λ r. ReadsModule (codes "generated.ml") read (Err r)) s in
         generate_stops s
-        (stop_then (λ r. ReadsModule (codes "generated.ml") text (Err r)) (λ r. Infers (generated_files seed count) generated_name (refused r)) (λ r bad. has_text there (bad_module bad)) s (subst Q same (subst P is h)))
+        (stop_then (λ r. ReadsModule (codes "generated.ml") text (Err r)) (λ r. Infers (generated_files seed count) generated_name (refused r)) (λ r bad. no_source (bad_module there bad)) s (subst Q same (subst P is h)))
         quiet
 
     module _ (read : List ℕ) (same : read ≡ text) (m : Module) (is : IsModuleText read m) where
@@ -115,7 +115,7 @@ module _ (seed count : ℕ) where
           let P : List ℕ → Type 0 = λ read. InfersBindings (codes "generated.ml") read m [] o in
           let Q : List Interface → Type 0 = λ given. InfersBindings (codes "generated.ml") read m given o in
           let R : List Import → Type 0 = λ is. ReadsImports (generated_files seed count) is (Ok []) in
-          has_text there (has_imports (is_module (subst (λ read. IsModuleText read m) same is)) (subst R (sym none) nothing_imported) (subst P same (subst Q nothing h)))
+          has_source {text = text} {m = m} {imports = []} (record { text_is = there; is_module = subst (λ read. IsModuleText read m) same is; reads = subst R (sym none) nothing_imported }) (subst P same (subst Q nothing h))
 
       -- it has no signature
       pub generated_bindings_stop : (file : List ℕ) (given : List Interface) (s : Stop) → file ≡ codes "generated.ml" → given ≡ [] → IsStop (λ r. InfersBindings file read m given (refused r)) s → IsUncounted s

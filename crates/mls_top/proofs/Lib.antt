@@ -2,13 +2,13 @@ pub mod AlikeSignatures
 pub mod AnswersExist
 pub mod CommandLimits
 pub mod CommandNumbers
+pub mod DerivationsRead
 pub mod FileNames
 pub mod FirstTokens
 pub mod GeneratedModules
 pub mod GeneratedRows
 pub mod GeneratedTexts
 pub mod ImportsRead
-pub mod InterfaceFaultsWithin
 pub mod InterfacesRead
 pub mod Learning
 pub mod OneAnswer
@@ -18,8 +18,11 @@ pub mod Operators
 pub mod ParsedWords
 pub mod Running
 pub mod SamePlaces
+pub mod SameVerdicts
 pub mod SignedModules
 pub mod SitesTold
+pub mod SourcesRead
 pub mod Telling
+pub mod VerifiedModules
 pub mod WordsFound
 pub mod Written

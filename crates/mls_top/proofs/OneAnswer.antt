@@ -1,5 +1,5 @@
 -- Two answers of the same words over the same files agree.
-use Rattle.std.proofs.Common.{◌≡◌, ℕ, List, All, refl, sym, ap, ◌∙◌, subst}
+use Rattle.std.proofs.Common.{◌≡◌, ℕ, List, [], All, refl, sym, ap, ◌∙◌, subst}
 use Rattle.std.specs.Prelude.{Some, slice_get, Result, Ok, Err}
 use Rattle.mls_base.specs.Files.{Files}
 use Rattle.mls_lexer.specs.Tokens.{line_of, column_of}
@@ -7,8 +7,16 @@ use Rattle.mls_grammar.specs.declared.fault.Fault.TheVariants as names
 use Rattle.mls_grammar.specs.declared.module.Binding.{Binding}
 use Rattle.mls_grammar.specs.declared.module.ExprNode.{ExprNode}
 use Rattle.mls_grammar.specs.declared.module.Module.{Module}
-use Rattle.mls_grammar.specs.Modules.{IsModule}
+use Rattle.mls_grammar.specs.Modules.{IsModule, IsModuleText}
+use Rattle.mls_term.specs.declared.term.Resolved.{Resolved}
+use Rattle.mls_term.specs.declared.term.ResolvedBinding.{ResolvedBinding}
 use Rattle.mls_term.specs.declared.term.TermNode.{TermNode}
+use Rattle.mls_typetext.specs.declared.scheme.ReadScheme.{ReadScheme}
+use Rattle.mls_typetext.specs.Schemes.{environment}
+use Rattle.mls_deriv.specs.declared.derivation.Derivation.{Derivation}
+use Rattle.mls_deriv.specs.declared.derivation.Section.{Section}
+use Rattle.mls_deriv.specs.Sections.{schemes_of}
+use Rattle.mls_deriv.proofs.Verdicts.{one_verdict}
 use Rattle.mls_infer.specs.declared.fault.Site.{Site}
 use Rattle.mls_infer.specs.declared.fault.SiteKind.{SiteKind}
 use Rattle.mls_iface.specs.declared.interface.Interface.{Interface}
@@ -16,7 +24,7 @@ use Rattle.mls_iface.specs.declared.matching.MatchAnswer.TheVariants.{All as all
 use Rattle.mls_iface.specs.declared.signature.Signature.{Signature}
 use Rattle.mls_iface.specs.Signatures.{AreEntries}
 use Rattle.mls_modules.specs.declared.fault.ModuleFault.TheVariants.{UnknownName, NoScheme}
-use Rattle.mls_modules.specs.Environments.{IsValidInterface}
+use Rattle.mls_modules.specs.Environments.{IsValidInterface, declared_schemes}
 use Rattle.mls_modules.specs.Laws as modules
 use Rattle.mls_modules.proofs.SignatureLaws.{one_signature, no_fault_beside_signature, one_module_fault}
 use Rattle.mls_modules.proofs.ValidSignatures.{signatures_are_valid}
@@ -24,13 +32,14 @@ use Rattle.mls_top.specs.declared.command.Command.{Command}
 use Rattle.mls_top.specs.declared.status.Status.{Status}
 use Rattle.mls_top.specs.Generator.{generated_name, generated_files}
 use Rattle.mls_top.specs.Lines.{module_file, no_scheme_line, too_special_line}
-use Rattle.mls_top.specs.Refusals.{Refusal, no_file, too_long, bad_text, no_scheme, absent, too_special, for_fault, refusal_status, refusal_text}
-use Rattle.mls_top.specs.Outcomes.{ReadsModule, is_module, ReadsImports, HasNoScheme, InfersBindings, unknown_name, one_has_none, all_inferred, Outcome, refused, signed, matching, outcome_status, outcome_text, generated_text, InfersText, bad_module, bad_import, has_imports, Infers, no_text, has_text, Compares, all_match, one_is_absent, one_is_too_special, Checks, no_signature, bad_interface, compared}
-use Rattle.mls_top.specs.Answers.{no_command, of_command, IsAnswerOf, infer, check, generate}
+use Rattle.mls_top.specs.Refusals.{Refusal, no_file, too_long, bad_text, no_scheme, absent, too_special, bad_line, not_allowed, for_fault, refusal_status, refusal_text}
+use Rattle.mls_top.specs.Outcomes.{HasNoScheme, InfersBindings, unknown_name, one_has_none, all_inferred, Outcome, refused, signed, matching, verified, outcome_status, outcome_text, generated_text, HasSource, Infers, no_source, has_source, Compares, all_match, one_is_absent, one_is_too_special, Checks, no_signature, bad_interface, compared, ReadsNames, ChecksSteps, all_allowed, one_refused, Verifies, unread, bad_names, bad_derivation, checked}
+use Rattle.mls_top.specs.Answers.{no_command, of_command, IsAnswerOf, infer, check, verify, generate}
 use Rattle.mls_top.specs.Laws.{both_absent, both_too_special, AreAlike, OneAnswer}
 use Rattle.mls_top.proofs.AlikeSignatures.{one_answer_of_alike}
-use Rattle.mls_top.proofs.OneReading.{ok, err, ok_is, one_reading, one_interface_read, one_declared, valid_imports}
+use Rattle.mls_top.proofs.OneReading.{err_is, ok_is, ok_is_no_err, one_interface_read, one_source, not_refused, one_refusal, one_meaning, one_derivation_read, valid_imports}
 use Rattle.mls_top.proofs.SamePlaces.{site_stands}
+use Rattle.mls_top.proofs.SameVerdicts.{allowed_over, refused_over}
 
 -- two refusals are told alike
 abbrev Agree : Refusal → Refusal → Type 0
@@ -68,15 +77,11 @@ itself (too_special x declared path) = record {
   one_binding = λ is. absurd (cc);
   one_declaration = λ _. both_too_special x declared path path refl refl;
 }
+itself (bad_line file line) = record { one_status = refl; one_text = λ _ _ _. refl; one_binding = λ is. absurd (cc); one_declaration = λ is. absurd (cc) }
+itself (not_allowed x step) = record { one_status = refl; one_text = λ _ _ _. refl; one_binding = λ is. absurd (cc); one_declaration = λ is. absurd (cc) }
 
 agree : (r s : Refusal) → r ≡ s → Agree r s
 agree r s e = subst (λ (s : Refusal). Agree r s) e (itself r)
-
-err_is : {X E : Type 0} {x y : E} → err X E x ≡ err X E y → x ≡ y
-err_is e = cc
-
-ok_is_no_err : {X E : Type 0} {x : X} {y : E} → ok X E x ≡ err X E y → ⊥
-ok_is_no_err e = absurd (cc)
 
 some_is : {X : Type 0} {x y : X} → Some x ≡ Some y → x ≡ y
 some_is e = cc
@@ -134,48 +139,21 @@ module _ (file text : List ℕ) (m : Module) (is : IsModule m) (imports : List I
   one_found _ _ (all_inferred {s} h) (one_has_none {kind} k) = absurd (no_fault_beside_signature m imports s (NoScheme k.number (record { node = k.node; kind = kind })) valid h k.without)
   one_found _ _ (all_inferred {s} h) (all_inferred {s = t} k) = (signatures_are_valid m imports s is h, one_signature m imports s t valid h k)
 
--- a text that is read as a module is one
-module_read : (file text : List ℕ) (m : Module) → ReadsModule file text (Ok m) → IsModule m
-module_read file text _ (is_module it) = record { tree = it.tree; no_doubles = it.text_of.no_doubles; nodes = it.nodes }
+-- a text of a module is one
+module_read : (text : List ℕ) (m : Module) → IsModuleText text m → IsModule m
+module_read text m it = record { tree = it.tree; no_doubles = it.text_of.no_doubles; nodes = it.nodes }
 
 module _ (files : Files) (x : List ℕ) where
-  module _ (text : List ℕ) where
-    abbrev Reads : Result Module Refusal → Type 0
-    Reads r = ReadsModule (module_file x) text r
-
-    one : (r s : Result Module Refusal) → Reads r → Reads s → r ≡ s
-    one = one_reading (module_file x) text
-
-    -- the imports of the one module
-    imports_of_one : (m n : Module) (r : Result (List Interface) Refusal) → Reads (Ok m) → Reads (Ok n) → ReadsImports files m.imports r → ReadsImports files n.imports r
-    imports_of_one m n r h k read = subst (λ (l : Module). ReadsImports files l.imports r) (ok_is (one (Ok m) (Ok n) h k)) read
-
-    one_text : (o p : Outcome) → InfersText files x text o → InfersText files x text p → AreSame o p
-    one_text _ _ (bad_module {r} h) (bad_module {r = s} k) = agree r s (err_is (one (Err r) (Err s) h k))
-    one_text _ _ (bad_module {r} h) (bad_import {m} k read) = absurd (ok_is_no_err (one (Ok m) (Err r) k h))
-    one_text _ _ (bad_module {r} h) (has_imports {m} k read found) = absurd (ok_is_no_err (one (Ok m) (Err r) k h))
-    one_text _ _ (bad_import {m} h read) (bad_module {r} k) = absurd (ok_is_no_err (one (Ok m) (Err r) h k))
-    one_text _ _ (bad_import {m} {r} h read) (bad_import {m = n} {r = s} k read') =
-        agree r s (err_is (one_declared files n.imports (Err r) (Err s) (imports_of_one m n (Err r) h k read) read'))
-    one_text _ _ (bad_import {m} {r} h read) (has_imports {m = n} {imports} k read' found) =
-        absurd (ok_is_no_err (one_declared files n.imports (Ok imports) (Err r) read' (imports_of_one m n (Err r) h k read)))
-    one_text _ _ (has_imports {m} h read found) (bad_module {r} k) = absurd (ok_is_no_err (one (Ok m) (Err r) h k))
-    one_text _ _ (has_imports {m} {imports} h read found) (bad_import {m = n} {r} k read') =
-        absurd (ok_is_no_err (one_declared files n.imports (Ok imports) (Err r) (imports_of_one m n (Ok imports) h k read) read'))
-    one_text o p (has_imports {m} {imports} h read found) (has_imports {m = n} {imports = others} k read' found') =
-        let same : m ≡ n = ok_is (one (Ok m) (Ok n) h k) in
-        let also : imports ≡ others = ok_is (one_declared files n.imports (Ok imports) (Ok others) (imports_of_one m n (Ok imports) h k read) read') in
-        one_found (module_file x) text n (module_read (module_file x) text n k) others (valid_imports files n.imports others read') o p
-        (subst (λ (is : List Interface). InfersBindings (module_file x) text n is o) also (subst (λ (l : Module). InfersBindings (module_file x) text l imports o) same found))
-        found'
-
   one_inferred : (o p : Outcome) → Infers files x o → Infers files x p → AreSame o p
-  one_inferred _ _ (no_text {r} h) (no_text {r = s} k) = agree r s (err_is (sym h ∙ k))
-  one_inferred _ _ (no_text {r} h) (has_text {text} k found) = absurd (ok_is_no_err (sym k ∙ h))
-  one_inferred _ _ (has_text {text} h found) (no_text {r} k) = absurd (ok_is_no_err (sym h ∙ k))
-  one_inferred o p (has_text {text} h found) (has_text {text = other} k found') =
-      let same : text ≡ other = ok_is (sym h ∙ k) in
-      one_text other o p (subst (λ t. InfersText files x t o) same found) found'
+  one_inferred _ _ (no_source {r} h) (no_source {r = s} k) = agree r s (one_refusal files x r s h k)
+  one_inferred _ _ (no_source {r} h) (has_source {text} {m} {imports} k found) = absurd (not_refused files x text m imports r k h)
+  one_inferred _ _ (has_source {text} {m} {imports} h found) (no_source {r} k) = absurd (not_refused files x text m imports r h k)
+  one_inferred o p (has_source {text} {m} {imports} h found) (has_source {text = other} {m = n} {imports = others} k found') =
+      let same = one_source files x text other m n imports others h k in
+      one_found (module_file x) other n (module_read other n k.is_module) others (valid_imports files n.imports others k.reads) o p
+      (subst (λ (is : List Interface). InfersBindings (module_file x) other n is o) same.2
+      (subst (λ (l : Module). InfersBindings (module_file x) other l imports o) same.1 (subst (λ t. InfersBindings (module_file x) t m imports o) same.0 found)))
+      found'
 
   -- two outcomes are told alike
   abbrev ToldAlike : Outcome → Outcome → Type 0
@@ -185,10 +163,13 @@ module _ (files : Files) (x : List ℕ) where
   told (refused r) (refused s) same = same
   told (refused r) (signed s) same = absurd same
   told (refused r) matching same = absurd same
+  told (refused r) verified same = absurd same
   told (signed s) (refused r) same = absurd same
   told (signed s) (signed t) same = record { one_status = refl; one_text = λ other _ _. absurd (other refl); one_binding = λ is. absurd (cc); one_declaration = λ is. absurd (cc) }
   told (signed s) matching same = absurd same
+  told (signed s) verified same = absurd same
   told matching p same = absurd same
+  told verified p same = absurd same
 
   module _ (s t : Signature) (i : Interface) (entries : AreEntries s.entries) (are : modules.AreAlike s.entries t.entries) where
     one_comparison : (o p : Outcome) → Compares x s i o → Compares x t i p → ToldAlike o p
@@ -227,15 +208,69 @@ module _ (files : Files) (x : List ℕ) where
       let alike = one_inferred (signed s) (signed t) h k in
       one_comparison s t j alike.0 alike.1 o p (subst (λ (i : Interface). Compares x s i o) same is) is'
 
+  -- steps are checked in one way over names that mean the same
+  module _ (known other : List ReadScheme) (same : schemes_of known ≡ schemes_of other) (bindings : List ResolvedBinding) (sections : List Section) where
+    one_check_of_steps : (o p : Outcome) → ChecksSteps x known bindings sections o → ChecksSteps x other bindings sections p → ToldAlike o p
+    one_check_of_steps _ _ (all_allowed h d) (all_allowed k e) = record { one_status = refl; one_text = λ _ _ _. refl; one_binding = λ is. absurd (cc); one_declaration = λ is. absurd (cc) }
+    one_check_of_steps _ _ (all_allowed h d) (one_refused {step} k) = absurd ((one_verdict other bindings sections).not_both step (allowed_over known other same bindings sections h) k)
+    one_check_of_steps _ _ (one_refused {step} h) (all_allowed k e) =
+        absurd ((one_verdict other bindings sections).not_both step k (refused_over known other same 0 bindings sections step h))
+    one_check_of_steps _ _ (one_refused {step} h) (one_refused {step = later} k) =
+        agree (not_allowed x step) (not_allowed x later)
+        (ap (not_allowed x) ((one_verdict other bindings sections).one_refused step later (refused_over known other same 0 bindings sections step h) k))
+
+  -- names of one source mean one thing
+  one_meaning_of : (text other : List ℕ) (m n : Module) (imports others : List Interface) → HasSource files x text m imports → HasSource files x other n others → (r s : Result Resolved Refusal)
+      → ReadsNames (module_file x) text m imports r → ReadsNames (module_file x) other n others s → r ≡ s
+  one_meaning_of text other m n imports others h k r s read read' =
+      let same = one_source files x text other m n imports others h k in
+      one_meaning (module_file x) other n others r s
+      (subst (λ (is : List Interface). ReadsNames (module_file x) other n is r) same.2
+      (subst (λ (l : Module). ReadsNames (module_file x) other l imports r) same.1 (subst (λ t. ReadsNames (module_file x) t m imports r) same.0 read)))
+      read'
+
+  one_verified : (o p : Outcome) → Verifies files x o → Verifies files x p → ToldAlike o p
+  one_verified _ _ (unread {r} h) (unread {r = s} k) = agree r s (one_refusal files x r s h k)
+  one_verified _ _ (unread {r} h) (bad_names {text} {m} {imports} k bad) = absurd (not_refused files x text m imports r k h)
+  one_verified _ _ (unread {r} h) (bad_derivation {text} {m} {imports} k means bad) = absurd (not_refused files x text m imports r k h)
+  one_verified _ _ (unread {r} h) (checked {text} {m} {imports} k means read mean is) = absurd (not_refused files x text m imports r k h)
+  one_verified _ _ (bad_names {text} {m} {imports} h bad) (unread {r} k) = absurd (not_refused files x text m imports r h k)
+  one_verified _ _ (bad_names {text} {m} {imports} {r} h bad) (bad_names {text = other} {m = n} {imports = others} {r = s} k bad') =
+      agree r s (err_is (one_meaning_of text other m n imports others h k (Err r) (Err s) bad bad'))
+  one_verified _ _ (bad_names {text} {m} {imports} {r} h bad) (bad_derivation {text = other} {m = n} {imports = others} {b} k means bad') =
+      absurd (ok_is_no_err (one_meaning_of other text n m others imports k h (Ok b) (Err r) means bad))
+  one_verified _ _ (bad_names {text} {m} {imports} {r} h bad) (checked {text = other} {m = n} {imports = others} {b} k means read mean is) =
+      absurd (ok_is_no_err (one_meaning_of other text n m others imports k h (Ok b) (Err r) means bad))
+  one_verified _ _ (bad_derivation {text} {m} {imports} h means bad) (unread {r} k) = absurd (not_refused files x text m imports r h k)
+  one_verified _ _ (bad_derivation {text} {m} {imports} {b} h means bad) (bad_names {text = other} {m = n} {imports = others} {r} k bad') =
+      absurd (ok_is_no_err (one_meaning_of text other m n imports others h k (Ok b) (Err r) means bad'))
+  one_verified _ _ (bad_derivation {r} h means bad) (bad_derivation {r = s} k means' bad') = agree r s (err_is (one_derivation_read files x (Err r) (Err s) bad bad'))
+  one_verified _ _ (bad_derivation {r} h means bad) (checked {d} k means' read mean is) = absurd (ok_is_no_err (one_derivation_read files x (Ok d) (Err r) read bad))
+  one_verified _ _ (checked {text} {m} {imports} h means read mean is) (unread {r} k) = absurd (not_refused files x text m imports r h k)
+  one_verified _ _ (checked {text} {m} {imports} {b} h means read mean is) (bad_names {text = other} {m = n} {imports = others} {r} k bad) =
+      absurd (ok_is_no_err (one_meaning_of text other m n imports others h k (Ok b) (Err r) means bad))
+  one_verified _ _ (checked {d} h means read mean is) (bad_derivation {r} k means' bad) = absurd (ok_is_no_err (one_derivation_read files x (Ok d) (Err r) read bad))
+  one_verified o p (checked {text} {m} {imports} {b} {d} {known} h means read mean is) (checked {text = other} {m = n} {imports = others} {b = c} {d = e} {known = known'} k means' read' mean' is') =
+      let source = one_source files x text other m n imports others h k in
+      let one : b ≡ c = ok_is (one_meaning_of text other m n imports others h k (Ok b) (Ok c) means means') in
+      let also : d ≡ e = ok_is (one_derivation_read files x (Ok d) (Ok e) read read') in
+      let alike : schemes_of known ≡ schemes_of known' = mean ∙ (ap (λ (is : List Interface). environment (declared_schemes is) []) source.2 ∙ sym mean') in
+      one_check_of_steps known known' alike c.bindings e.sections o p
+      (subst (λ (d : Derivation). ChecksSteps x known c.bindings d.sections o) also (subst (λ (b : Resolved). ChecksSteps x known b.bindings d.sections o) one is))
+      is'
+
 -- two outcomes for a generated module are told alike
 told_generated : (seed count : ℕ) (o p : Outcome) → AreSame o p → AreAlike (outcome_status o) (outcome_status p) (generated_text seed count o) (generated_text seed count p)
 told_generated seed count (refused r) (refused s) same = same
 told_generated seed count (refused r) (signed s) same = absurd same
 told_generated seed count (refused r) matching same = absurd same
+told_generated seed count (refused r) verified same = absurd same
 told_generated seed count (signed s) (refused r) same = absurd same
 told_generated seed count (signed s) (signed t) same = record { one_status = refl; one_text = λ other _ _. absurd (other refl); one_binding = λ is. absurd (cc); one_declaration = λ is. absurd (cc) }
 told_generated seed count (signed s) matching same = absurd same
+told_generated seed count (signed s) verified same = absurd same
 told_generated seed count matching p same = absurd same
+told_generated seed count verified p same = absurd same
 
 -- answers that tell outcomes by these texts
 module _ (said_of : Outcome → List ℕ) where
@@ -253,6 +288,8 @@ one_command : (files : Files) (command : Command) (status other : Status) (text 
 one_command files _ status other text said (infer x o found s t) (infer _ p found' s' t') =
     told_so (outcome_text x) o p status other text said (told files x o p (one_inferred files x o p found found')) s t s' t'
 one_command files _ status other text said (check x o found s t) (check _ p found' s' t') = told_so (outcome_text x) o p status other text said (one_check files x o p found found') s t s' t'
+one_command files _ status other text said (verify x o found s t) (verify _ p found' s' t') =
+    told_so (outcome_text x) o p status other text said (one_verified files x o p found found') s t s' t'
 one_command files _ status other text said (generate seed count o found s t) (generate _ _ p found' s' t') =
     told_so (generated_text seed count) o p status other text said (told_generated seed count o p (one_inferred (generated_files seed count) generated_name o p found found')) s t s' t'
 

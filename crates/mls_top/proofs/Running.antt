@@ -4,7 +4,7 @@ use Rattle.std.specs.Prelude.{Option, Some, None}
 use Rattle.mls_base.specs.Files.{Files}
 use Rattle.mls_io.specs.Sinks.{Written, TakesNone}
 use Rattle.mls_top.specs.declared.status.Status.{Status}
-use Rattle.mls_top.specs.declared.status.Status.TheVariants.{Done, NoScheme, Mismatch, BadText, NoFile, ReadFault, WriteFault, Memory, Usage, TooLong}
+use Rattle.mls_top.specs.declared.status.Status.TheVariants.{Done, NoScheme, Mismatch, BadText, NoFile, ReadFault, WriteFault, Memory, Usage, NotVerified, TooLong}
 use Rattle.mls_top.specs.declared.command.Command.{Command}
 use Rattle.mls_top.specs.Statuses.{is_cut, is_answer}
 use Rattle.mls_top.specs.Commands.{command_of}
@@ -25,6 +25,7 @@ answer_not_cut ReadFault h = absurd (cc)
 answer_not_cut WriteFault h = absurd (cc)
 answer_not_cut Memory h = absurd (cc)
 answer_not_cut Usage h = refl
+answer_not_cut NotVerified h = refl
 answer_not_cut TooLong h = refl
 
 module _ (words : List (List ℕ)) (old new : Written) where
@@ -39,6 +40,7 @@ module _ (words : List (List ℕ)) (old new : Written) where
   whole_run files WriteFault h a = absurd (cc)
   whole_run files Memory h a = absurd (cc)
   whole_run files Usage h a = a
+  whole_run files NotVerified h a = a
   whole_run files TooLong h a = a
 
   module _ (status : Status) (text : List ℕ) where

@@ -12,12 +12,12 @@ use Rattle.mls_top.specs.declared.answer.Stop.TheVariants as stop
 use Rattle.mls_infer.specs.declared.fault.SiteKind.{SiteKind}
 use Rattle.mls_infer.specs.declared.fault.SiteKind.TheVariants.{Lacks}
 use Rattle.mls_top.specs.Lines.{kind_text}
-use Rattle.mls_top.specs.declared.command.Command.TheVariants.{Infer, Check}
+use Rattle.mls_top.specs.declared.command.Command.TheVariants.{Infer, Check, Verify}
 use Rattle.mls_top.specs.declared.status.Status.{Status}
-use Rattle.mls_top.specs.declared.status.Status.TheVariants.{Done, NoScheme, Mismatch, BadText, NoFile, ReadFault, WriteFault, Memory, Usage, TooLong}
-use Rattle.mls_top.specs.Answers.{infer, check, IsOver}
-use Rattle.mls_top.specs.Outcomes.{Outcome, refused, signed, matching, outcome_status, Infers, Checks, no_signature}
-use Rattle.mls_top.specs.Refusals.{Refusal, no_file, too_long, bad_text, no_scheme, absent, too_special}
+use Rattle.mls_top.specs.declared.status.Status.TheVariants.{Done, NoScheme, Mismatch, BadText, NoFile, ReadFault, WriteFault, Memory, Usage, NotVerified, TooLong}
+use Rattle.mls_top.specs.Answers.{infer, check, verify, IsOver}
+use Rattle.mls_top.specs.Outcomes.{Outcome, refused, signed, matching, verified, outcome_status, Infers, Checks, no_signature, Verifies}
+use Rattle.mls_top.specs.Refusals.{Refusal, no_file, too_long, bad_text, no_scheme, absent, too_special, bad_line, not_allowed}
 use Rattle.mls_top.specs.Statuses.{is_answer}
 use Rattle.mls_top.specs.steps.Answering.{IsCausedBy, IsCausedStop, IsUncounted, IsStop, IsAsked, IsAskedStop, Tells, TellsOutcome}
 
@@ -29,8 +29,11 @@ outcome_is_answer (refused (bad_text file text place number words)) = refl
 outcome_is_answer (refused (no_scheme file text place x kind)) = refl
 outcome_is_answer (refused (absent x declared)) = refl
 outcome_is_answer (refused (too_special x declared path)) = refl
+outcome_is_answer (refused (bad_line file line)) = refl
+outcome_is_answer (refused (not_allowed x step)) = refl
 outcome_is_answer (signed s) = refl
 outcome_is_answer matching = refl
+outcome_is_answer verified = refl
 
 -- statuses of which no count speaks
 abbrev pub IsQuiet : Status → Type 0
@@ -50,6 +53,7 @@ caused_by_later ReadFault old mid new first h = Grows-Rose old.faults mid.faults
 caused_by_later WriteFault old mid new first h = tt
 caused_by_later Memory old mid new first h = tt
 caused_by_later Usage old mid new first h = tt
+caused_by_later NotVerified old mid new first h = tt
 caused_by_later TooLong old mid new first h = Grows-Rose old.longs mid.longs new.longs first.longs h
 
 pub caused_later : (s : Stop) (old mid new : Holdings) → Follows old mid → IsCausedStop mid new s → IsCausedStop old new s
@@ -78,6 +82,13 @@ module _ (x : List ℕ) (old new : Holdings) (answer : Answer) (o : Outcome) (te
     answer_status = ap is_answer tells.status ∙ outcome_is_answer o;
   }
 
+  pub verify_is_asked : IsOver old.files (λ files. Verifies files x o) → IsAsked old new (Verify x) answer
+  verify_is_asked it = record {
+    answers = record { files = it.files; of_store = it.of_store; holds = verify x o it.holds tells.status tells.text };
+    caused = caused;
+    answer_status = ap is_answer tells.status ∙ outcome_is_answer o;
+  }
+
 -- a refusal that is told is an outcome that is told
 refusal_told : (x : List ℕ) (r : Refusal) (answer : Answer) → Tells r answer → TellsOutcome x (refused r) answer
 refusal_told x r answer it = record { status = it.status; text = it.text }
@@ -90,6 +101,10 @@ infer_stops x old new (stop.Halt why) h caused = caused
 pub check_stops : (x : List ℕ) (old new : Holdings) (s : Stop) → IsStop (λ r. IsOver old.files (λ files. Checks files x (refused r))) s → IsCausedStop old new s → IsAskedStop old new (Check x) s
 check_stops x old new (stop.Refused answer) h caused = check_is_asked x old new answer (refused h.0) (refusal_told x h.0 answer h.1) caused h.2
 check_stops x old new (stop.Halt why) h caused = caused
+
+pub verify_stops : (x : List ℕ) (old new : Holdings) (s : Stop) → IsStop (λ r. IsOver old.files (λ files. Verifies files x (refused r))) s → IsCausedStop old new s → IsAskedStop old new (Verify x) s
+verify_stops x old new (stop.Refused answer) h caused = verify_is_asked x old new answer (refused h.0) (refusal_told x h.0 answer h.1) caused h.2
+verify_stops x old new (stop.Halt why) h caused = caused
 
 pub unsigned_over : (told : Option Files) (x : List ℕ) (r : Refusal) → IsOver told (λ files. Infers files x (refused r)) → IsOver told (λ files. Checks files x (refused r))
 unsigned_over told x r it = record { files = it.files; of_store = it.of_store; holds = no_signature it.holds }

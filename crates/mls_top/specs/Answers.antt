@@ -2,13 +2,13 @@
 use Rattle.std.specs.Prelude.{◌≡◌, ℕ, List, ◌++◌, Option, Some, None, IfSome}
 use Rattle.mls_base.specs.Files.{Files}
 use Rattle.mls_top.specs.declared.command.Command.{Command}
-use Rattle.mls_top.specs.declared.command.Command.TheVariants.{Infer, Check, Generate}
+use Rattle.mls_top.specs.declared.command.Command.TheVariants.{Infer, Check, Verify, Generate}
 use Rattle.mls_top.specs.declared.status.Status.{Status}
 use Rattle.mls_top.specs.declared.status.Status.TheVariants.{Usage}
 use Rattle.mls_top.specs.Commands.{command_of}
 use Rattle.mls_top.specs.Generator.{generated_name, generated_files}
 use Rattle.mls_top.specs.Lines.{usage_line}
-use Rattle.mls_top.specs.Outcomes.{Outcome, Infers, Checks, outcome_status, outcome_text, generated_text}
+use Rattle.mls_top.specs.Outcomes.{Outcome, Infers, Checks, Verifies, outcome_status, outcome_text, generated_text}
 
 -- these files may be those of a store: where it tells its files, they are those
 abbrev pub MayBeThose : Option Files → Files → Type 0
@@ -24,6 +24,10 @@ pub data IsAnswerOf (files : Files) : Command → Status → List ℕ → Type 0
   check : {status : Status} {text : List ℕ} (x : List ℕ) (outcome : Outcome)
       → Checks files x outcome → status ≡ outcome_status outcome → text ≡ outcome_text x outcome
       → IsAnswerOf files (Check x) status text
+  -- whether the derivation of the module is allowed
+  verify : {status : Status} {text : List ℕ} (x : List ℕ) (outcome : Outcome)
+      → Verifies files x outcome → status ≡ outcome_status outcome → text ≡ outcome_text x outcome
+      → IsAnswerOf files (Verify x) status text
   -- the signature of a generated module, over the files where just its text is, whatever these files are
   generate : {status : Status} {text : List ℕ} (seed count : ℕ) (outcome : Outcome)
       → Infers (generated_files seed count) generated_name outcome

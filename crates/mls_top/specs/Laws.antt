@@ -5,7 +5,6 @@ use Rattle.mls_term.specs.declared.term.Resolved.{Resolved}
 use Rattle.mls_grammar.specs.declared.module.Module.{Module}
 use Rattle.mls_grammar.specs.declared.module.Op.{Op}
 use Rattle.mls_grammar.specs.declared.module.Op.TheVariants.{Plus, Minus, Times, Less, Equal}
-use Rattle.mls_grammar.specs.Modules.{IsModuleText}
 use Rattle.mls_names.specs.Resolution.{Resolves, operator_number}
 use Rattle.mls_infer.specs.declared.fault.SiteKind.{SiteKind}
 use Rattle.mls_typetext.specs.declared.scheme.ReadScheme.{ReadScheme}
@@ -19,14 +18,14 @@ use Rattle.mls_iface.specs.Signatures.{IsPlain, entry_line}
 use Rattle.mls_modules.specs.Entries.{IsSignatureOf}
 use Rattle.mls_modules.specs.Environments.{declared_names}
 use Rattle.mls_top.specs.declared.command.Command.{Command}
-use Rattle.mls_top.specs.declared.command.Command.TheVariants.{Infer, Check, Generate}
+use Rattle.mls_top.specs.declared.command.Command.TheVariants.{Infer, Check, Verify, Generate}
 use Rattle.mls_top.specs.declared.status.Status.{Status}
 use Rattle.mls_top.specs.declared.status.Status.TheVariants.{Done, NoScheme, Mismatch}
 use Rattle.mls_top.specs.Answers.{IsAnswer}
 use Rattle.mls_top.specs.Commands.{command_of}
 use Rattle.mls_top.specs.Generator.{generated_name, generated_files}
-use Rattle.mls_top.specs.Lines.{module_file, no_scheme_line, absent_line, too_special_line}
-use Rattle.mls_top.specs.Outcomes.{module_limit, ReadsImports}
+use Rattle.mls_top.specs.Lines.{derivation_file, no_scheme_line, absent_line, too_special_line}
+use Rattle.mls_top.specs.Outcomes.{derivation_limit, HasSource}
 use Rattle.mls_top.specs.Refusals.{text_at}
 
 -- both texts say of the same binding, at the same place of the same file, that it has no scheme
@@ -68,6 +67,7 @@ OneAnswer =
 abbrev pub InfersTypesOf : List ℕ → Command → Type 0
 InfersTypesOf x (Infer y) = y ≡ x
 InfersTypesOf x (Check y) = y ≡ x
+InfersTypesOf x (Verify y) = ⊥
 InfersTypesOf x (Generate seed count) = generated_name ≡ x
 
 -- the files that the module is read from, where these are those of the store
@@ -85,16 +85,28 @@ pub record AskForTypes (files : Files) (words : List (List ℕ)) : Type 0 where
   pub m : Module
   pub imports : List Interface
   pub r : Resolved
-  pub text_is : text_at (files_for files command) (module_file x) module_limit ≡ Ok text
-  pub is_module : IsModuleText text m
-  pub reads : ReadsImports (files_for files command) m.imports (Ok imports)
+  pub source : HasSource (files_for files command) x text m imports
   pub resolves : Resolves m (declared_names imports) r
 
--- all words have an answer over all files, or ask for types of such a module
+-- the words ask for the check of a derivation whose text is there, for such a module
+pub record AskForCheck (files : Files) (words : List (List ℕ)) : Type 0 where
+  pub x : List ℕ
+  pub words_are : command_of words ≡ Some (Verify x)
+  pub text : List ℕ
+  pub m : Module
+  pub imports : List Interface
+  pub r : Resolved
+  pub source : HasSource files x text m imports
+  pub resolves : Resolves m (declared_names imports) r
+  pub derivation : List ℕ
+  pub derivation_is : text_at files (derivation_file x) derivation_limit ≡ Ok derivation
+
+-- all words have an answer over all files, or ask for types of such a module, or for the check of a derivation for one
 abbrev pub AnswerExists : Type 0
 AnswerExists =
     (files : Files) (words : List (List ℕ))
-    → ((status : Status) × (text : List ℕ) × IsAnswer files words status text) ⊎ AskForTypes files words
+    → ((status : Status) × (text : List ℕ) × IsAnswer files words status text)
+    ⊎ AskForTypes files words ⊎ AskForCheck files words
 
 -- the line of an entry is plain up to the newline that ends it
 pub record IsOneLine (e : SigEntry) : Type 0 where

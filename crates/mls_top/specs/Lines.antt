@@ -1,5 +1,7 @@
 -- The lines that are printed.
-pub use Rattle.mls_grammar.specs.Faults.{fault_place}
+pub use Rattle.mls_grammar.specs.Faults.{fault_number, fault_place}
+pub use Rattle.mls_iface.specs.FaultPlaces.{fault_number as interface_fault_number}
+pub use Rattle.mls_iface.specs.FaultPlaces.{fault_place as interface_fault_place}
 use Rattle.std.specs.Prelude.{ℕ, List, [], ◌++◌, codes, decimal}
 use Rattle.std.specs.List.{flat_map}
 use Rattle.mls_grammar.specs.declared.fault.Fault.{Fault}
@@ -29,24 +31,15 @@ module_file x = x ++ codes ".ml"
 abbrev pub interface_file : List ℕ → List ℕ
 interface_file x = x ++ codes ".mli"
 
+-- the file of a derivation for a module
+abbrev pub derivation_file : List ℕ → List ℕ
+derivation_file x = x ++ codes ".mld"
+
 abbrev pub not_found_line : List ℕ → List ℕ
 not_found_line file = file ++ codes ": not found\n"
 
 abbrev pub too_long_line : List ℕ → ℕ → List ℕ
 too_long_line file limit = file ++ codes ": longer than " ++ decimal limit ++ codes " bytes\n"
-
--- the number of a fault; Memory is none
-abbrev pub fault_number : Fault → ℕ
-fault_number (BadByte at) = 1
-fault_number (BigNumber at) = 2
-fault_number (Unexpected at kind) = 3
-fault_number Ended = 4
-fault_number (TooDeep at) = 5
-fault_number (UnknownName at) = 6
-fault_number (DuplicateBinding at) = 7
-fault_number (DuplicateLabel at) = 8
-fault_number (DuplicateImport at) = 9
-fault_number Memory = 0
 
 -- what is said of a fault
 abbrev pub fault_text : Fault → List ℕ
@@ -61,19 +54,6 @@ fault_text (DuplicateLabel at) = codes "label given twice"
 fault_text (DuplicateImport at) = codes "module imported twice"
 fault_text Memory = []
 
--- the number of a fault of an interface; Memory is none
-abbrev pub interface_fault_number : IfaceFault → ℕ
-interface_fault_number (faulty.BadByte at) = 1
-interface_fault_number (faulty.BigNumber at) = 2
-interface_fault_number (faulty.Unexpected at kind) = 10
-interface_fault_number faulty.Ended = 11
-interface_fault_number (faulty.NotPolar at) = 12
-interface_fault_number (faulty.Unguarded at) = 13
-interface_fault_number (faulty.Contravariant at) = 14
-interface_fault_number (faulty.DuplicateLabel at) = 15
-interface_fault_number (faulty.DuplicateVal at) = 16
-interface_fault_number faulty.Memory = 0
-
 -- what is said of a fault of an interface
 abbrev pub interface_fault_text : IfaceFault → List ℕ
 interface_fault_text (faulty.BadByte at) = codes "a byte that begins no token"
@@ -86,19 +66,6 @@ interface_fault_text (faulty.Contravariant at) = codes "contravariant recursion"
 interface_fault_text (faulty.DuplicateLabel at) = codes "label given twice"
 interface_fault_text (faulty.DuplicateVal at) = codes "name declared twice"
 interface_fault_text faulty.Memory = []
-
--- the place of a fault in the text of an interface of this length: where it stands, or the end of the text
-abbrev pub interface_fault_place : ℕ → IfaceFault → ℕ
-interface_fault_place end (faulty.BadByte at) = at
-interface_fault_place end (faulty.BigNumber at) = at
-interface_fault_place end (faulty.Unexpected at kind) = at
-interface_fault_place end faulty.Ended = end
-interface_fault_place end (faulty.NotPolar at) = at
-interface_fault_place end (faulty.Unguarded at) = at
-interface_fault_place end (faulty.Contravariant at) = at
-interface_fault_place end (faulty.DuplicateLabel at) = at
-interface_fault_place end (faulty.DuplicateVal at) = at
-interface_fault_place end faulty.Memory = 0
 
 -- FILE:LINE:COLUMN
 abbrev pub place_text : List ℕ → (line column : ℕ) → List ℕ
@@ -129,6 +96,18 @@ no_scheme_line file line column x kind =
 -- NAME matches NAME.mli
 abbrev pub matches_line : List ℕ → List ℕ
 matches_line x = x ++ codes " matches " ++ interface_file x ++ codes "\n"
+
+-- NAME is verified
+abbrev pub verified_line : List ℕ → List ℕ
+verified_line x = x ++ codes " is verified\n"
+
+-- FILE:LINE: fault 19: bad line
+abbrev pub bad_line_text : List ℕ → ℕ → List ℕ
+bad_line_text file line = file ++ codes ":" ++ decimal line ++ codes ": fault 19: bad line\n"
+
+-- MODULE: step N is not allowed
+abbrev pub not_allowed_line : List ℕ → ℕ → List ℕ
+not_allowed_line x step = x ++ codes ": step " ++ decimal step ++ codes " is not allowed\n"
 
 -- generate: COUNT bindings, B bytes in, G bytes out
 abbrev pub generated_line : (count bytes printed : ℕ) → List ℕ

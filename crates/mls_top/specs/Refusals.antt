@@ -4,10 +4,10 @@ use Rattle.mls_base.specs.Files.{Files, bytes_at}
 use Rattle.mls_lexer.specs.Tokens.{line_of, column_of}
 use Rattle.mls_grammar.specs.declared.fault.Fault.{Fault}
 use Rattle.mls_top.specs.declared.status.Status.{Status}
-use Rattle.mls_top.specs.declared.status.Status.TheVariants.{NoScheme, Mismatch, BadText, NoFile, TooLong}
+use Rattle.mls_top.specs.declared.status.Status.TheVariants.{NoScheme, Mismatch, BadText, NoFile, NotVerified, TooLong}
 use Rattle.mls_infer.specs.declared.fault.SiteKind.{SiteKind}
 use Rattle.mls_top.specs.Lines.{not_found_line, too_long_line, fault_line, fault_number, fault_text, fault_place}
-use Rattle.mls_top.specs.Lines.{no_scheme_line, absent_line, too_special_line}
+use Rattle.mls_top.specs.Lines.{no_scheme_line, absent_line, too_special_line, bad_line_text, not_allowed_line}
 use Rattle.mls_top.specs.Lines.{interface_fault_number, interface_fault_text, interface_fault_place}
 use Rattle.mls_iface.specs.declared.interface.IfaceFault.{IfaceFault}
 use Rattle.mls_subsume.specs.declared.verdict.Path.{Path}
@@ -26,6 +26,10 @@ pub data Refusal : Type 0 where
   -- the interface of the module x declares this name with a type that that of its binding does not subsume: this is the
   -- path to the first difference, and the reason
   too_special : (x declared : List ℕ) (path : Path) → Refusal
+  -- this line of the file, counted from 1, is not of the format of derivations
+  bad_line : (file : List ℕ) (line : ℕ) → Refusal
+  -- the step of this number of the derivation of the module x is not allowed
+  not_allowed : (x : List ℕ) (step : ℕ) → Refusal
 
 -- the refusal of a text for a fault of modules
 abbrev pub for_fault : (file text : List ℕ) → Fault → Refusal
@@ -56,6 +60,8 @@ refusal_status (bad_text file text place number words) = BadText
 refusal_status (no_scheme file text place x kind) = NoScheme
 refusal_status (absent x declared) = Mismatch
 refusal_status (too_special x declared path) = Mismatch
+refusal_status (bad_line file line) = BadText
+refusal_status (not_allowed x step) = NotVerified
 
 abbrev pub refusal_text : Refusal → List ℕ
 refusal_text (no_file file) = not_found_line file
@@ -66,3 +72,5 @@ refusal_text (no_scheme file text place x kind) =
     no_scheme_line file (line_of text place) (column_of text place) x kind
 refusal_text (absent x declared) = absent_line x declared
 refusal_text (too_special x declared path) = too_special_line x declared path
+refusal_text (bad_line file line) = bad_line_text file line
+refusal_text (not_allowed x step) = not_allowed_line x step

@@ -3,7 +3,7 @@ use Rattle.std.specs.Prelude.{ℕ, Bool, true, false}
 use Rattle.mls_top.specs.declared.status.Status.{Status}
 use Rattle.mls_top.specs.declared.status.Status.TheVariants.{Done, NoScheme, Mismatch, BadText, NoFile}
 use Rattle.mls_top.specs.declared.status.Status.TheVariants.{ReadFault, WriteFault}
-use Rattle.mls_top.specs.declared.status.Status.TheVariants.{Memory, Usage, TooLong}
+use Rattle.mls_top.specs.declared.status.Status.TheVariants.{Memory, Usage, NotVerified, TooLong}
 
 -- the exit code of each status
 abbrev pub code_of : Status → ℕ
@@ -16,6 +16,7 @@ code_of ReadFault = 5
 code_of WriteFault = 6
 code_of Memory = 7
 code_of Usage = 8
+code_of NotVerified = 9
 code_of TooLong = 11
 
 -- a run that ended so did not give its whole answer
@@ -32,5 +33,6 @@ is_answer NoScheme = true
 is_answer Mismatch = true
 is_answer BadText = true
 is_answer NoFile = true
+is_answer NotVerified = true
 is_answer TooLong = true
 is_answer _ = false

@@ -10,6 +10,7 @@ use crate::command::Command;
 use crate::generate::generate_and_infer;
 use crate::infer::infer;
 use crate::status::Status;
+use crate::verify::verify;
 use mls_base::memory::Memory;
 use mls_io::store::Store;
 use std::alloc::Global;
@@ -82,6 +83,7 @@ fn asked<S: Store>(alloc: Global, command: &Command, store: &mut S) -> Result<An
     match command {
         Command::Infer(name) => infer(alloc, store, name),
         Command::Check(name) => check(alloc, store, name),
+        Command::Verify(name) => verify(alloc, store, name),
         Command::Generate { seed, count } => generate_and_infer(alloc, *seed, *count),
     }
 }

@@ -29,9 +29,9 @@ pub fn check<S: Store>(alloc: Global, store: &mut S, name: &Name) -> Result<Answ
     ensures stop { IfErr result (IsAskedStop (S.holdings store.old) (S.holdings store.new) (Command.Check name.now)) }
 {
     let found = signed(alloc, store, name)?;
-    match number_of(found.source.imports.as_slice(), name) {
+    match number_of(found.source.parsed.imports.as_slice(), name) {
         Some(number) => {
-            let own = &found.imports.as_slice()[number];
+            let own = &found.source.imports.as_slice()[number];
             Ok(compared(alloc, name, &found.signature, own)?)
         }
         None => {

@@ -12,11 +12,9 @@ ghost use Rattle.mls_top.specs.steps.Fetching.{Learns, IsFileOf};
 
 use crate::answer::{Answer, Stop};
 use crate::command::Command;
-use crate::fetching::text_of;
-use crate::lines::{module_file, no_scheme_line};
-use crate::reading::{MODULE_LIMIT, faulty_module, imports_of, module_of};
+use crate::lines::no_scheme_line;
+use crate::reading::{Source, faulty_module, source_of};
 use crate::status::Status;
-use mls_base::list::List;
 use mls_base::memory::Memory;
 use mls_book::name::Name;
 use mls_iface::interface::Interface;
@@ -31,11 +29,10 @@ use mls_syntax::module::Module;
 use mls_syntax::parse::Fault;
 use std::alloc::Global;
 
-/// A module with what its imports declare, in their order, and its signature.
+/// A module with what its imports declare, and its signature.
 #[derive(Drop)]
 pub struct SignedModule {
-    pub source: Module,
-    pub imports: List<Interface>,
+    pub source: Source,
     pub signature: Signature,
 }
 
@@ -55,31 +52,24 @@ pub fn infer<S: Store>(alloc: Global, store: &mut S, name: &Name) -> Result<Answ
 /// The module of this name with its signature, over the interfaces of its imports.
 pub fn signed<S: Store>(alloc: Global, store: &mut S, name: &Name) -> Result<SignedModule, Stop>
     ensures follows { Follows (S.holdings store.old) (S.holdings store.new) }
-    ensures signed { IfOk result (λ s. Learns (S.holdings store.old).files (IsFileOf name.now s.source.imports)
+    ensures signed { IfOk result (λ s. Learns (S.holdings store.old).files (IsFileOf name.now s.source.parsed.imports)
         (λ files. IsSignedModule files name.now s)) }
-    ensures source { IfOk result (λ s. IsModule s.source) }
-    ensures imports { IfOk result (λ s. AreInterfacesOf s.source s.imports) }
-    ensures signature { IfOk result (λ s. IsSignatureOf s.source s.imports s.signature) }
+    ensures source { IfOk result (λ s. IsModule s.source.parsed) }
+    ensures imports { IfOk result (λ s. AreInterfacesOf s.source.parsed s.source.imports) }
+    ensures signature { IfOk result (λ s. IsSignatureOf s.source.parsed s.source.imports s.signature) }
     ensures refused { IfErr result (IsStop (λ r. IsOver (S.holdings store.old).files
         (λ files. Infers files name.now (refused r)))) }
     ensures counted { IfErr result (IsCausedStop (S.holdings store.old) (S.holdings store.new)) }
 {
-    let file = module_file(alloc, name)?;
-    let text = text_of(alloc, store, file.as_str(), MODULE_LIMIT)?;
-    let source = module_of(alloc, file.as_str(), text.as_slice())?;
-    let imports = imports_of(alloc, store, source.imports.as_slice())?;
+    let source = source_of(alloc, store, name)?;
     let signature = signature_of(
         alloc,
-        file.as_str(),
-        text.as_slice(),
-        &source,
-        imports.as_slice(),
+        source.file.as_str(),
+        source.text.as_slice(),
+        &source.parsed,
+        source.imports.as_slice(),
     )?;
-    Ok(SignedModule {
-        source,
-        imports,
-        signature,
-    })
+    Ok(SignedModule { source, signature })
 }
 
 /// The signature of the module that this text of a file is, where these are the interfaces of its imports.

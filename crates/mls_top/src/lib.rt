@@ -36,5 +36,8 @@ mod tests_of_imports;
 #[cfg(test)]
 mod tests_of_signatures;
 #[cfg(test)]
+mod tests_of_verifying;
+#[cfg(test)]
 mod tests_of_words;
+mod verify;
 mod writing;

@@ -1,6 +1,7 @@
 //! Names of files, and the lines of refusals.
 ghost use Rattle.std.specs.Prelude.{◌≡◌, ◌++◌, string_bytes, IfOk, OnOk};
 ghost use Rattle.mls_top.specs.Lines.{module_file, interface_file, not_found_line, too_long_line, fault_line};
+ghost use Rattle.mls_top.specs.Lines.{bad_line_text, derivation_file, not_allowed_line, verified_line};
 ghost use Rattle.mls_top.specs.Lines.{generated_line, head_text, kind_text, no_scheme_line, place_text};
 
 use mls_base::memory::Memory;
@@ -28,6 +29,16 @@ pub fn interface_file(alloc: Global, name: &Name) -> Result<String, Memory>
     Ok(file)
 }
 
+/// The file of a derivation for a module.
+pub fn derivation_file(alloc: Global, name: &Name) -> Result<String, Memory>
+    ensures { IfOk result (λ file. string_bytes file ≡ derivation_file name.now) }
+{
+    let mut file = String::new(alloc);
+    file.push_str(name.as_str())?;
+    file.push_str(".mld")?;
+    Ok(file)
+}
+
 /// The line of a file that is not there.
 pub fn not_found_line(alloc: Global, file: &str) -> Result<Vec<u8>, Memory>
     ensures { IfOk result (λ line. line.items ≡ not_found_line file.now) }
@@ -48,6 +59,40 @@ pub fn too_long_line(alloc: Global, file: &str, limit: usize) -> Result<Vec<u8>,
     line.extend_from_slice(limit.to_string(alloc)?.as_bytes())?;
     line.extend_from_slice(b" bytes\n")?;
     Ok(line)
+}
+
+/// The line of a module whose derivation is allowed.
+pub fn verified_line(alloc: Global, name: &Name) -> Result<Vec<u8>, Memory>
+    ensures { IfOk result (λ line. line.items ≡ verified_line name.now) }
+{
+    let mut line = Vec::new(alloc);
+    line.extend_from_slice(name.bytes())?;
+    line.extend_from_slice(b" is verified\n")?;
+    Ok(line)
+}
+
+/// The line of a module whose derivation has a step that is not allowed, with the number of the step.
+pub fn not_allowed_line(alloc: Global, name: &Name, step: usize) -> Result<Vec<u8>, Memory>
+    ensures { IfOk result (λ line. line.items ≡ not_allowed_line name.now step) }
+{
+    let mut line = Vec::new(alloc);
+    line.extend_from_slice(name.bytes())?;
+    line.extend_from_slice(b": step ")?;
+    line.extend_from_slice(step.to_string(alloc)?.as_bytes())?;
+    line.extend_from_slice(b" is not allowed\n")?;
+    Ok(line)
+}
+
+/// What is told of a file whose line of this number is none of a derivation.
+pub fn bad_line_text(alloc: Global, file: &str, line: usize) -> Result<Vec<u8>, Memory>
+    ensures { IfOk result (λ text. text.items ≡ bad_line_text file.now line) }
+{
+    let mut text = Vec::new(alloc);
+    text.extend_from_slice(file.as_bytes())?;
+    text.extend_from_slice(b":")?;
+    text.extend_from_slice(line.to_string(alloc)?.as_bytes())?;
+    text.extend_from_slice(b": fault 19: bad line\n")?;
+    Ok(text)
 }
 
 /// The line of a generated module with `count` bindings, whose text and printed signature have so many bytes.

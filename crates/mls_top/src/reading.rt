@@ -1,26 +1,29 @@
-//! Modules and interfaces from their files.
-ghost use Rattle.std.specs.Prelude.{◌≡◌, ◌≤◌, length, map, All, Ok, Err, IfOk, IfErr};
+//! Modules, interfaces and derivations from their files.
+ghost use Rattle.std.specs.Prelude.{◌≡◌, ◌≤◌, length, map, string_bytes, All, Ok, Err, IfOk, IfErr};
 ghost use Rattle.mls_io.specs.Stores.{Follows};
 ghost use Rattle.mls_grammar.specs.Modules.{AreDistinct, IsModuleText};
 ghost use Rattle.mls_iface.specs.Interfaces.{HasInterfaceFault, IsInterfaceText};
-ghost use Rattle.mls_modules.specs.Environments.{IsValidInterface};
-ghost use Rattle.mls_top.specs.Lines.{fault_place, interface_file, interface_fault_place};
-ghost use Rattle.mls_top.specs.Outcomes.{ReadsModule, ReadsInterface, ReadsImports};
+ghost use Rattle.mls_deriv.specs.Texts.{IsTextOf};
+ghost use Rattle.mls_modules.specs.Environments.{AreInterfacesOf, IsValidInterface};
+ghost use Rattle.mls_top.specs.Answers.{IsOver};
+ghost use Rattle.mls_top.specs.Lines.{derivation_file, fault_place, interface_file, interface_fault_place, module_file};
+ghost use Rattle.mls_top.specs.Outcomes.{HasNoSource, HasSource, ReadsDerivation, ReadsImports, ReadsInterface};
+ghost use Rattle.mls_top.specs.Outcomes.{ReadsModule};
 ghost use Rattle.mls_top.specs.Refusals.{bad_text, for_fault, for_interface_fault};
-ghost use Rattle.mls_top.specs.steps.Answering.{IsStop, IsCausedStop, IsUncounted, IsForFault, Tells};
-ghost use Rattle.mls_top.specs.steps.Fetching.{Learns, IsInterfaceFile};
+ghost use Rattle.mls_top.specs.steps.Answering.{IsStop, IsCausedStop, IsUncounted, IsForBadLine, IsForFault, Tells};
+ghost use Rattle.mls_top.specs.steps.Fetching.{Learns, IsFileOf, IsInterfaceFile};
 
 use crate::answer::{Answer, Stop};
-use crate::faults::{
-    fault_number, fault_place, fault_text, interface_fault_number, interface_fault_place,
-    interface_fault_text,
-};
+use crate::faults::{fault_text, interface_fault_text};
 use crate::fetching::text_of;
-use crate::lines::{fault_line, interface_file};
+use crate::lines::{bad_line_text, derivation_file, fault_line, interface_file, module_file};
 use crate::status::Status;
 use mls_base::list::List;
 use mls_base::memory::Memory;
 use mls_book::name::Name;
+use mls_deriv::derivation::Derivation;
+use mls_deriv::fault::DerivFault;
+use mls_deriv::read::read_derivation;
 use mls_iface::interface::{IfaceFault, Interface};
 use mls_iface::read::read_interface;
 use mls_io::store::Store;
@@ -31,6 +34,42 @@ use std::alloc::Global;
 
 /// The most bytes that the text of a module or of an interface may have.
 pub const MODULE_LIMIT: usize = 1_048_576;
+
+/// The most bytes that the text of a derivation may have.
+pub const DERIVATION_LIMIT: usize = 67_108_864;
+
+/// The file of a module, its text, the module that it is, and what its imports declare, in their order.
+#[derive(Drop)]
+pub struct Source {
+    pub file: String,
+    pub text: Vec<u8>,
+    pub parsed: Module,
+    pub imports: List<Interface>,
+}
+
+/// The module of this name, and what its imports declare. No file is fetched twice.
+pub fn source_of<S: Store>(alloc: Global, store: &mut S, name: &Name) -> Result<Source, Stop>
+    ensures follows { Follows (S.holdings store.old) (S.holdings store.new) }
+    ensures read { IfOk result (λ s. Learns (S.holdings store.old).files (IsFileOf name.now s.parsed.imports)
+        (λ files. HasSource files name.now s.text.items s.parsed s.imports)) }
+    ensures file { IfOk result (λ s. string_bytes s.file ≡ module_file name.now) }
+    ensures module { IfOk result (λ s. IsModuleText s.text.items s.parsed) }
+    ensures imports { IfOk result (λ s. AreInterfacesOf s.parsed s.imports) }
+    ensures refused { IfErr result (IsStop (λ r. IsOver (S.holdings store.old).files
+        (λ files. HasNoSource files name.now r))) }
+    ensures counted { IfErr result (IsCausedStop (S.holdings store.old) (S.holdings store.new)) }
+{
+    let file = module_file(alloc, name)?;
+    let bytes = text_of(alloc, store, file.as_str(), MODULE_LIMIT)?;
+    let parsed = module_of(alloc, file.as_str(), bytes.as_slice())?;
+    let imports = imports_of(alloc, store, parsed.imports.as_slice())?;
+    Ok(Source {
+        file,
+        text: bytes,
+        parsed,
+        imports,
+    })
+}
 
 /// The module that the text of a file is.
 pub fn module_of(alloc: Global, file: &str, text: &[u8]) -> Result<Module, Stop>
@@ -59,15 +98,8 @@ pub fn faulty_module(
     requires { fault_place (length text.now) fault.now ≤ length text.now }
     ensures { IfOk result (Tells (for_fault file.now text.now fault.now)) }
 {
-    let place = fault_place(fault, text.len());
-    bad_text(
-        alloc,
-        file,
-        text,
-        place,
-        fault_number(fault),
-        fault_text(fault),
-    )
+    let place = fault.place(text.len());
+    bad_text(alloc, file, text, place, fault.number(), fault_text(fault))
 }
 
 /// What the imports of a module declare, in their order. No file is fetched twice.
@@ -135,13 +167,13 @@ fn faulty_interface(
     requires { interface_fault_place (length text.now) fault.now ≤ length text.now }
     ensures { IfOk result (Tells (for_interface_fault file.now text.now fault.now)) }
 {
-    let place = interface_fault_place(fault, text.len());
+    let place = fault.place(text.len());
     bad_text(
         alloc,
         file,
         text,
         place,
-        interface_fault_number(fault),
+        fault.number(),
         interface_fault_text(fault),
     )
 }
@@ -162,4 +194,39 @@ fn bad_text(
         status: Status::BadText,
         text: fault_line(alloc, file, locate(text, place), number, said)?,
     })
+}
+
+/// The derivation for the module of this name.
+pub fn derivation_of<S: Store>(
+    alloc: Global,
+    store: &mut S,
+    name: &Name,
+) -> Result<Derivation, Stop>
+    ensures follows { Follows (S.holdings store.old) (S.holdings store.new) }
+    ensures read { IfOk result (λ d. Learns (S.holdings store.old).files (λ f. f ≡ derivation_file name.now)
+        (λ files. ReadsDerivation files name.now (Ok d))) }
+    ensures refused { IfErr result (IsStop (λ r. Learns (S.holdings store.old).files
+        (λ f. f ≡ derivation_file name.now)
+        (λ files. ReadsDerivation files name.now (Err r)))) }
+    ensures counted { IfErr result (IsCausedStop (S.holdings store.old) (S.holdings store.new)) }
+{
+    let file = derivation_file(alloc, name)?;
+    let text = text_of(alloc, store, file.as_str(), DERIVATION_LIMIT)?;
+    derivation_in(alloc, file.as_str(), text.as_slice())
+}
+
+// The derivation whose text this is.
+fn derivation_in(alloc: Global, file: &str, text: &[u8]) -> Result<Derivation, Stop>
+    ensures derivation { IfOk result (IsTextOf text.now) }
+    ensures refused { IfErr result (IsStop (IsForBadLine file.now text.now)) }
+    ensures uncounted { IfErr result IsUncounted }
+{
+    match read_derivation(alloc, text) {
+        Ok(derivation) => Ok(derivation),
+        Err(DerivFault::BadLine(line)) => Err(Stop::Refused(Answer {
+            status: Status::BadText,
+            text: bad_line_text(alloc, file, line)?,
+        })),
+        Err(DerivFault::Memory) => Err(Stop::from(Memory)),
+    }
 }

@@ -139,8 +139,19 @@ pub(crate) fn are_answered(
     command: &str,
     rows: &[Row],
 ) -> Result<(), Memory> {
+    are_answered_of(rt, alloc, command, "main", rows)
+}
+
+/// Tests a command on the module of this name.
+pub(crate) fn are_answered_of(
+    rt: &impl Abort,
+    alloc: Global,
+    command: &str,
+    name: &str,
+    rows: &[Row],
+) -> Result<(), Memory> {
     for (files, printed, code, fetches) in rows {
-        let (said, status, count) = answered(alloc, command, "main", files, 0)?;
+        let (said, status, count) = answered(alloc, command, name, files, 0)?;
         assert_eq!(rt; said.as_slice(), printed.as_bytes());
         assert_eq!(rt; status, *code, "{printed}");
         assert_eq!(rt; count, *fetches, "{printed}");

@@ -23,13 +23,15 @@ pub enum Status {
     Memory,
     /// The words are no command; the usage is printed.
     Usage,
+    /// A step of a derivation is not allowed; the first such step is printed.
+    NotVerified,
     /// A file is longer than its limit; its name and the limit are printed.
     TooLong,
 }
 
 impl Status {
     /// The exit code of the program: 0 for Done, 1 NoScheme, 2 Mismatch, 3 BadText, 4 NoFile, 5 ReadFault, 6
-    /// WriteFault, 7 Memory, 8 Usage and 11 TooLong. It takes no memory.
+    /// WriteFault, 7 Memory, 8 Usage, 9 NotVerified and 11 TooLong. It takes no memory.
     pub fn code(&self) -> u8
         ensures { result ≡ code_of self.now }
     {
@@ -43,6 +45,7 @@ impl Status {
             Status::WriteFault => 6,
             Status::Memory => 7,
             Status::Usage => 8,
+            Status::NotVerified => 9,
             Status::TooLong => 11,
         }
     }

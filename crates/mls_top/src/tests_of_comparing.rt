@@ -1,72 +1,78 @@
 //! Modules beside their interfaces.
-use crate::samples::{MODULES, Row, answered, are_answered};
+use crate::samples::{MODULES, Row, answered, are_answered, are_answered_of};
 use std::test::Fail;
 
 #[test]
 fn compares_the_identity(rt: HostRuntime) -> Result<(), Fail> {
     let rows: [Row; 8] = [
         (
-            "main.ml let id = fun x -> x\nmain.mli val id : int -> int",
-            "main matches main.mli\n",
+            "id.ml let id = fun x -> x\nid.mli val id : int -> int",
+            "id matches id.mli\n",
             0,
             2,
         ),
         (
-            "main.ml let id = fun x -> x\nmain.mli val id : a & int -> a | int",
-            "main matches main.mli\n",
+            "id.ml let id = fun x -> x\nid.mli val id : a & int -> a | int",
+            "id matches id.mli\n",
             0,
             2,
         ),
         (
-            "main.ml let id = fun x -> x\nmain.mli val id : (rec a. {next: a}) -> rec a. {next: a}",
-            "main matches main.mli\n",
+            "id.ml let id = fun x -> x\nid.mli val id : (rec a. {next: a}) -> rec a. {next: a}",
+            "id matches id.mli\n",
             0,
             2,
         ),
         (
-            "main.ml let id = fun x -> x\nmain.mli val id : a -> b",
-            "main: val id is not general enough at root.cod (flow)\n",
+            "id.ml let id = fun x -> x\nid.mli val id : a -> b",
+            "id: val id is not general enough at root.cod (flow)\n",
             2,
             2,
         ),
         (
-            "main.ml let id = fun x -> x\nmain.mli val id : int -> bool",
-            "main: val id is not general enough at root.cod (flow)\n",
+            "id.ml let id = fun x -> x\nid.mli val id : int -> bool",
+            "id: val id is not general enough at root.cod (flow)\n",
             2,
             2,
         ),
         (
-            "main.ml let id = fun x -> x\nmain.mli val id : {}",
-            "main: val id is not general enough at root (function)\n",
+            "id.ml let id = fun x -> x\nid.mli val id : {}",
+            "id: val id is not general enough at root (function)\n",
             2,
             2,
         ),
         (
-            "main.ml let id = fun x -> x\nmain.mli val k : int",
-            "main: val k is declared and not bound\n",
+            "id.ml let id = fun x -> x\nid.mli val k : int",
+            "id: val k is declared and not bound\n",
             2,
             2,
         ),
         (
-            "main.ml let id = fun x -> x\nmain.mli ",
-            "main matches main.mli\n",
+            "id.ml let id = fun x -> x\nid.mli ",
+            "id matches id.mli\n",
             0,
             2,
         ),
     ];
-    are_answered(&rt, rt.alloc(), "check", rows.as_slice())?;
+    are_answered_of(&rt, rt.alloc(), "check", "id", rows.as_slice())?;
+    Ok(())
+}
+
+#[test]
+fn compares_an_empty_record(rt: HostRuntime) -> Result<(), Fail> {
+    let rows: [Row; 1] = [(
+        "e.ml let e = {}\ne.mli val e : {a: int}",
+        "e: val e is not general enough at root (field a)\n",
+        2,
+        2,
+    )];
+    are_answered_of(&rt, rt.alloc(), "check", "e", rows.as_slice())?;
     Ok(())
 }
 
 #[test]
 fn compares_modules(rt: HostRuntime) -> Result<(), Fail> {
-    let rows: [Row; 10] = [
-        (
-            "main.ml let e = {}\nmain.mli val e : {a: int}",
-            "main: val e is not general enough at root (field a)\n",
-            2,
-            2,
-        ),
+    let rows: [Row; 9] = [
         (
             "main.ml let f = fun x -> {l = {}}\nmain.mli val f : int -> {l: {k: int}}",
             "main: val f is not general enough at root.cod.{l} (field k)\n",

@@ -21,6 +21,11 @@ fn ends_at_each_fetch_that_fails(rt: HostRuntime) -> Result<(), Fail> {
         ("check", 3, "", 5, 3),
         ("check", 4, "", 5, 4),
         ("check", 5, "main matches main.mli\n", 0, 4),
+        ("verify", 1, "", 5, 1),
+        ("verify", 2, "", 5, 2),
+        ("verify", 3, "", 5, 3),
+        ("verify", 4, "", 5, 4),
+        ("verify", 5, "main.mld: not found\n", 4, 4),
     ] {
         let (said, status, count) = answered(rt.alloc(), command, "main", files, failing)?;
         assert_eq!(rt; said.as_slice(), printed.as_bytes(), "{command}");
@@ -118,6 +123,7 @@ val d : int
             "",
             "absent.ml: not found\n",
         ),
+        (&["verify", "main"].as_slice(), "", "main.mld: not found\n"),
         (
             &["generate", "1", "4"].as_slice(),
             "",

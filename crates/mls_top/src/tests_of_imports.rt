@@ -1,5 +1,9 @@
 //! Modules over the interfaces of their imports.
-use crate::samples::{Row, are_answered};
+use crate::run::run;
+use crate::samples::{Row, are_answered, words_of};
+use mls_base::memory::Memory;
+use mls_io::memory::{FileEntry, SureSink, SureStore, have_distinct_names};
+use std::alloc::Global;
 use std::test::Fail;
 
 #[test]
@@ -398,5 +402,31 @@ fn compares_modules_with_imports(rt: HostRuntime) -> Result<(), Fail> {
         ),
     ];
     are_answered(&rt, rt.alloc(), "check", rows.as_slice())?;
+    Ok(())
+}
+
+// A file of this name with this text.
+fn file_of(alloc: Global, name: &str, text: &str) -> Result<FileEntry, Memory> {
+    Ok(FileEntry {
+        name: String::from_str(alloc, name)?,
+        bytes: Vec::from_slice(alloc, text.as_bytes())?,
+    })
+}
+
+#[test]
+fn prints_nothing_for_imports_alone(rt: HostRuntime) -> Result<(), Fail> {
+    let alloc = rt.alloc();
+    let files = vec![in alloc;
+        file_of(alloc, "main.ml", "import a\nimport b\n")?,
+        file_of(alloc, "a.mli", "")?,
+        file_of(alloc, "b.mli", "")?,
+    ]?;
+    assert!(rt; have_distinct_names(files.as_slice()));
+    let mut store = SureStore::new(alloc, files)?;
+    let mut sink = SureSink::new(alloc);
+    let words = words_of(alloc, &["infer", "main"])?;
+    let status = run(alloc, &words, &mut store, &mut sink);
+    assert_eq!(rt; status.code(), 0);
+    assert_eq!(rt; sink.bytes(), b"".as_slice());
     Ok(())
 }

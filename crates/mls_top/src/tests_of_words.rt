@@ -62,9 +62,11 @@ fn reads_words_and_fetches_once(rt: HostRuntime) -> Result<(), Fail> {
         (&["infer", "--help"].as_slice(), false, usage, 8, 0),
         (&["infer", "Main"].as_slice(), false, usage, 8, 0),
         (&["infer", "let"].as_slice(), true, usage, 8, 0),
+        (&["link", "a", "a"].as_slice(), false, usage, 8, 0),
         (&["check"].as_slice(), false, usage, 8, 0),
         (&["check", "1"].as_slice(), false, usage, 8, 0),
         (&["Check", "main"].as_slice(), false, usage, 8, 0),
+        (&["verify"].as_slice(), false, usage, 8, 0),
         (
             &["infer", "main"].as_slice(),
             false,
@@ -74,6 +76,13 @@ fn reads_words_and_fetches_once(rt: HostRuntime) -> Result<(), Fail> {
         ),
         (&["infer", "main"].as_slice(), true, "", 5, 1),
         (&["check", "k"].as_slice(), false, "k.ml: not found\n", 4, 1),
+        (
+            &["verify", "k"].as_slice(),
+            false,
+            "k.ml: not found\n",
+            4,
+            1,
+        ),
     ] {
         let mut store = CountingStore {
             is_broken,
@@ -129,6 +138,7 @@ fn reads_names_that_are_names_of_commands(rt: HostRuntime) -> Result<(), Fail> {
         (["check", "infer"].as_slice(), "infer.ml: not found\n"),
         (["infer", "help"].as_slice(), "help.ml: not found\n"),
         (["check", "check"].as_slice(), "check.ml: not found\n"),
+        (["verify", "verify"].as_slice(), "verify.ml: not found\n"),
     ] {
         let (said, code) = run_alone(alloc, words)?;
         assert_eq!(rt; said.as_slice(), printed.as_bytes());

@@ -1,14 +1,20 @@
 -- What the phases of a run say to one another.
-use Rattle.std.specs.Prelude.{◌≡◌, ◌≢◌, ℕ, ◌<◌, ◌≤◌, List, Result, Ok, MatchResult, IsTrue}
+use Rattle.std.specs.Prelude.{◌≡◌, ◌≢◌, ℕ, ◌<◌, ◌≤◌, List, [], Result, MatchResult, IsTrue}
 use Rattle.mls_base.specs.Files.{Files}
 use Rattle.mls_io.specs.Counts.{Rose}
 use Rattle.mls_io.specs.Stores.{Holdings}
 use Rattle.mls_grammar.specs.declared.module.Module.{Module}
-use Rattle.mls_grammar.specs.Modules.{IsModuleText}
 use Rattle.mls_iface.specs.declared.interface.Interface.{Interface}
 use Rattle.mls_iface.specs.declared.interface.IfaceFault.{IfaceFault}
 use Rattle.mls_iface.specs.declared.signature.Signature.{Signature}
 use Rattle.mls_iface.specs.Interfaces.{HasInterfaceFault}
+use Rattle.mls_term.specs.declared.term.ResolvedBinding.{ResolvedBinding}
+use Rattle.mls_typetext.specs.declared.scheme.ReadScheme.{ReadScheme}
+use Rattle.mls_typetext.specs.Schemes.{environment}
+use Rattle.mls_deriv.specs.declared.derivation.Section.{Section}
+use Rattle.mls_deriv.specs.BadLines.{IsFirstBadLine}
+use Rattle.mls_deriv.specs.Sections.{schemes_of}
+use Rattle.mls_modules.specs.Environments.{declared_schemes}
 use Rattle.mls_modules.specs.declared.fault.ModuleFault.{ModuleFault}
 use Rattle.mls_modules.specs.declared.fault.ModuleFault.TheVariants.{Memory as WantOfMemory}
 use Rattle.mls_modules.specs.Entries.{IsSignatureOf}
@@ -24,10 +30,9 @@ use Rattle.mls_top.specs.declared.infer.SignedModule.{SignedModule}
 use Rattle.mls_top.specs.declared.status.Status.{Status}
 use Rattle.mls_top.specs.declared.status.Status.TheVariants.{NoFile, TooLong, ReadFault, Memory}
 use Rattle.mls_top.specs.Answers.{IsAnswerFor}
-use Rattle.mls_top.specs.Lines.{module_file}
-use Rattle.mls_top.specs.Outcomes.{Outcome, refused, module_limit, Compares, InfersBindings, ReadsImports}
+use Rattle.mls_top.specs.Outcomes.{Outcome, refused, Compares, ChecksSteps, HasSource, InfersBindings}
 use Rattle.mls_top.specs.Outcomes.{outcome_status, outcome_text}
-use Rattle.mls_top.specs.Refusals.{Refusal, for_interface_fault, refusal_status, refusal_text, text_at}
+use Rattle.mls_top.specs.Refusals.{Refusal, bad_line, for_interface_fault, refusal_status, refusal_text}
 use Rattle.mls_top.specs.Statuses.{is_answer}
 
 -- the status of a run that has no answer
@@ -110,14 +115,24 @@ pub record TellsFault (file text : List ℕ) (m : Module) (fault : ModuleFault) 
 
 -- over these files this is the module of this name, what its imports declare, and its signature
 pub record IsSignedModule (files : Files) (x : List ℕ) (s : SignedModule) : Type 0 where
-  pub text : List ℕ
-  pub text_is : text_at files (module_file x) module_limit ≡ Ok text
-  pub is_module : IsModuleText text s.source
-  pub reads : ReadsImports files s.source.imports (Ok s.imports)
-  pub signature : IsSignatureOf s.source s.imports s.signature
+  pub source : HasSource files x s.source.text.items s.source.parsed s.source.imports
+  pub signature : IsSignatureOf s.source.parsed s.source.imports s.signature
 
 -- the answer tells what is found where the signature of the module of this name is compared with its interface
 pub record TellsComparison (x : List ℕ) (s : Signature) (i : Interface) (answer : Answer) : Type 0 where
   pub outcome : Outcome
   pub compares : Compares x s i outcome
+  pub tells : TellsOutcome x outcome answer
+
+-- the refusal is that of a derivation with this text for its first bad line
+abbrev pub IsForBadLine : (file text : List ℕ) → Refusal → Type 0
+IsForBadLine file text r = (line : ℕ) × IsFirstBadLine text line × (r ≡ bad_line file line)
+
+-- the answer tells what is found where the steps of a derivation are checked, over what the imports declare
+pub record TellsCheck (x : List ℕ) (imports : List Interface) (bindings : List ResolvedBinding)
+    (sections : List Section) (answer : Answer) : Type 0 where
+  pub known : List ReadScheme
+  pub mean : schemes_of known ≡ environment (declared_schemes imports) []
+  pub outcome : Outcome
+  pub checks : ChecksSteps x known bindings sections outcome
   pub tells : TellsOutcome x outcome answer
