@@ -117,6 +117,52 @@ is 8 "a generated module that is longer" "$program" generate 1 10001
 is 8 "a word that begins with a hyphen" "$program" generate -- 1 4
 is 6 "a summary on output that is full" sh -c '"$0" generate 1 4 >/dev/full' "$program"
 
+# derivations
+is 4 "a derivation that is absent" "$program" verify id
+prints "id.mld: not found"
+mkdir id.mld
+is 5 "a derivation that is a folder" "$program" verify id
+rmdir id.mld
+# derives WANTED WHAT FORMAT FIRST LAST TAIL: behind four nodes and two steps stands this line for each of the numbers,
+# and then the tail.
+derives() {
+  { printf '%s\n' 'derivation 1' 'val id : a -> a' 'node fn 1 2' 'node var 0' 'node var 0' 'node fn 1 1' \
+      'step 0 var env 0 1 type 1' 'step 1 fun 0 env type 3'
+    printf "$6"
+    seq -f "$3" "$4" "$5"
+    echo end; } >id.mld
+  is "$1" "$2" "$program" verify id
+}
+derives 9 "80,000 let numbers" 'let %.0f 0' 1 80000 ''
+derives 9 "80,000 variables that are put" 'put %.0f 0' 1 80000 'step 1 sub 1 env type 0\n'
+{ printf '%s\n' 'derivation 1' 'val id : a -> a' 'node fn 1 2' 'node var 0' 'node var 0'
+  yes 'node fn 1 1' | head -n 297
+  printf '%s\n' 'step 0 var env 0 1 type 1' 'step 1 fun 0 env type 3' 'step 1 sub 1 env type 0'
+  i=0; while [ $i -lt 300 ]; do seq -f "pair lr $i %.0f" 0 299; i=$((i + 1)); done
+  echo end; } >id.mld
+is 9 "90,000 pairs" "$program" verify id
+{ printf '%s\n' 'derivation 1' 'val id : a -> a' 'node fn 1 2' 'node var 0' 'node var 0'
+  yes 'node fn 1 1' | head -n 80000
+  echo end; } >id.mld
+is 9 "80,000 nodes" "$program" verify id
+{ printf '%s\n' 'derivation 1' 'val id : a -> a' 'node fn 1 2' 'node var 0' 'node var 0'
+  printf 'step 0 var env'; seq -f ' %.0f 1' 0 90000 | tr -d '\n'; echo ' type 1'
+  echo end; } >id.mld
+is 9 "a step with 90,000 binders" "$program" verify id
+{ printf '%s\n' 'derivation 1' 'val id : a -> a' 'node fn 1 2' 'node var 0' 'node var 0'
+  printf 'node rcd'; seq -f ' a%06.0f 1' 0 90000 | tr -d '\n'; echo
+  echo end; } >id.mld
+is 9 "a node with 90,000 fields" "$program" verify id
+{ printf '%s\n' 'derivation 1' 'val id : a -> a' 'node fn 1 2' 'node var 0' 'node var 0'
+  printf 'let '; head -c 1048576 /dev/zero | tr '\0' 1; echo ' 0'; } >id.mld
+is 3 "a number of 1,048,576 digits" "$program" verify id
+prints "id.mld:6: fault 19: bad line"
+head -c 100000 /dev/urandom >id.mld
+is 3 "bytes that are no derivation" "$program" verify id
+head -c 67108865 /dev/zero >id.mld
+is 11 "a derivation that is one byte too long" "$program" verify id
+rm id.mld
+
 # the worst texts of a mebibyte
 if [ -d "$texts" ]; then
   mkdir worst
