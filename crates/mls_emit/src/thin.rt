@@ -2,12 +2,12 @@
 ghost use Rattle.std.specs.Prelude.{IfOk, OnOk};
 ghost use Rattle.mls_emit.specs.steps.Rounds.{AddsKept, AreThose, IsJustifiedBy, IsShownBy};
 
+use crate::justify::is_shown;
 use crate::lines::table_with;
 use crate::pairs::Pairs;
 use mls_base::memory::Memory;
 use mls_book::book::{Book, NodeId};
 use mls_deriv::claim::{Pair, Put};
-use mls_deriv::justify::is_shown;
 use mls_deriv::table::Table;
 use std::alloc::Global;
 
