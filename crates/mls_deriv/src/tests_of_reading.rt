@@ -7,16 +7,16 @@ use std::alloc::Global;
 use std::test::Fail;
 
 // The derivation of `fun x -> x` at `a -> a`.
-const IDENTITY: &[u8] =
-    b"derivation 1\nval id : a -> a\nnode fn 1 2\nnode var 0\nnode var 0\nnode fn 1 1\nstep 0 var env 0 1 type 1\nstep 1 fun 0 env type 3\nstep 1 sub 1 env type 0\npair lr 3 0\npair rl 1 1\npair lr 1 2\nend\n";
+const IDENTITY: &str =
+    "derivation 1\nval id : a -> a\nnode fn 1 2\nnode var 0\nnode var 0\nnode fn 1 1\nstep 0 var env 0 1 type 1\nstep 1 fun 0 env type 3\nstep 1 sub 1 env type 0\npair lr 3 0\npair rl 1 1\npair lr 1 2\nend\n";
 
 // The text with another line in place of that of this number, which is left out if the other one is empty.
 fn changed(alloc: Global, number: usize, other: &[u8]) -> Result<Vec<u8>, Memory> {
     let mut text = Vec::new(alloc);
-    let mut at = 0;
-    for line in IDENTITY.split(|byte| *byte == b'\n') {
-        at += 1;
-        let line = if at == number { other } else { line };
+    let mut at: usize = 0;
+    for line in IDENTITY.split('\n') {
+        at = at.saturating_add(1);
+        let line = if at == number { other } else { line.as_bytes() };
         if !line.is_empty() {
             text.extend_from_slice(line)?;
             text.extend_from_slice(b"\n")?;
@@ -28,11 +28,11 @@ fn changed(alloc: Global, number: usize, other: &[u8]) -> Result<Vec<u8>, Memory
 // The text up to the end of the line before this number, and then other lines.
 fn behind(alloc: Global, number: usize, others: &[u8]) -> Result<Vec<u8>, Memory> {
     let mut text = Vec::new(alloc);
-    let mut at = 0;
-    for line in IDENTITY.split(|byte| *byte == b'\n') {
-        at += 1;
+    let mut at: usize = 0;
+    for line in IDENTITY.split('\n') {
+        at = at.saturating_add(1);
         if at < number {
-            text.extend_from_slice(line)?;
+            text.extend_from_slice(line.as_bytes())?;
             text.extend_from_slice(b"\n")?;
         }
     }
@@ -59,7 +59,7 @@ fn bad_line(alloc: Global, text: &[u8]) -> Result<usize, Fail> {
 #[test]
 fn reads_the_identity(rt: HostRuntime) -> Result<(), Fail> {
     let alloc = rt.alloc();
-    assert_eq!(rt; bad_line(alloc, IDENTITY)?, 0);
+    assert_eq!(rt; bad_line(alloc, IDENTITY.as_bytes())?, 0);
     assert_eq!(rt; bad_line(alloc, b"derivation 1\n")?, 0);
     assert_eq!(rt; bad_line(alloc, b"")?, 1);
     assert_eq!(rt; bad_line(alloc, b"derivation 1")?, 1);
