@@ -1,6 +1,7 @@
 -- What the check of a step asks of its lists, rule by rule.
 use Rattle.std.specs.Prelude.{◌≡◌, ◌⊎◌, ◌==◌, Bool, ℕ, suc, ◌+◌, ◌-◌, ◌<◌, List, [], ◌∷◌, filter, find, length}
-use Rattle.std.specs.Prelude.{slice_get, option_map, cond, not, nat_eq, bytes_eq, is_some, IsTrue, All, Option, Some, None}
+use Rattle.std.specs.Prelude.{slice_get, option_map, cond, not, nat_eq, bytes_eq, is_some}
+use Rattle.std.specs.Prelude.{IsTrue, All, Option, Some, None}
 use Rattle.mls_book.specs.declared.book.Field.{Field}
 use Rattle.mls_book.specs.declared.book.NodeId.{NodeId}
 use Rattle.mls_book.specs.declared.book.Node.{Node}
