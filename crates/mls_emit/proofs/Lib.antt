@@ -43,3 +43,7 @@ pub mod ReadLayouts
 pub mod TreesMade
 pub mod Filled
 pub mod LongerLayouts
+pub mod Posings
+pub mod Copies
+pub mod FieldsPosed
+pub mod PosedTrees

@@ -4,3 +4,4 @@ pub mod Needs
 pub mod Growth
 pub mod Rounds
 pub mod Filling
+pub mod Results
