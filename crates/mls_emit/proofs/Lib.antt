@@ -47,3 +47,4 @@ pub mod Posings
 pub mod Copies
 pub mod FieldsPosed
 pub mod PosedTrees
+pub mod PosedByNode

@@ -17,8 +17,8 @@ use Rattle.mls_deriv.proofs.TermNodes.{IsTreeAt, AreTreesAt}
 use Rattle.mls_emit.specs.Posed.{IsPosed, ArePosed}
 use Rattle.mls_emit.specs.PosedNodes.{IsNodePosed, HasPartsIn, IsRising, AreRising, IsUsable}
 
-module _ (nodes : List TermNode) (a : Automaton) (IsGoal : ℕ → ℕ → Type 0) (root binder : ℕ → ℕ) (IsUse : ℕ → Type 0) (InPart : ℕ → Type 0) (let_scope : ℕ → List ℕ)
-    (IsUseIn : List ℕ → ℕ → Type 0) (use_in : (scope : List ℕ) (i : ℕ) (f : TermForm) → form_at nodes i ≡ Some f → IsUsable let_scope scope f → IsUse i → IsUseIn scope i)
+module _ (nodes : List TermNode) (a : Automaton) (IsGoal : ℕ → ℕ → Type 0) (root binder : ℕ → ℕ) (IsUse : ℕ → TermForm → Type 0) (InPart : ℕ → Type 0) (let_scope : ℕ → List ℕ)
+    (IsUseIn : List ℕ → ℕ → Type 0) (use_in : (scope : List ℕ) (i : ℕ) (f : TermForm) → form_at nodes i ≡ Some f → IsUsable let_scope scope f → IsUse i f → IsUseIn scope i)
     (children : (i : ℕ) (f : TermForm) → InPart i → form_at nodes i ≡ Some f → HasPartsIn InPart f)
     (each : (i : ℕ) (f : TermForm) → InPart i → form_at nodes i ≡ Some f → IsNodePosed a IsGoal root binder IsUse i f) where
   mutual

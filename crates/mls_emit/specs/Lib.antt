@@ -17,3 +17,4 @@ pub mod PosedUses
 pub mod Parts
 pub mod Posings
 pub mod PosedNodes
+pub mod PosedCopies

@@ -11,12 +11,13 @@ use Rattle.mls_term.specs.Terms.{TermTree, TermFields, bound, inner, global, num
 use Rattle.mls_term.specs.Terms.{choice, local, fix, no_field, a_field}
 use Rattle.mls_emit.specs.Posed.{HasArms}
 
-module _ (a : Automaton) (IsGoal : ℕ → ℕ → Type 0) (root binder : ℕ → ℕ) (IsUse : ℕ → Type 0) where
+module _ (a : Automaton) (IsGoal : ℕ → ℕ → Type 0) (root binder : ℕ → ℕ) (IsUse : ℕ → TermForm
+    → Type 0) where
   -- by the form of node `i`
   abbrev pub IsNodePosed : ℕ → TermForm → Type 0
   IsNodePosed i (form.Bound x) = HasFlow a (binder x) (root i)
-  IsNodePosed i (form.Inner k) = IsUse i
-  IsNodePosed i (form.Global g) = IsUse i
+  IsNodePosed i (form.Inner k) = IsUse i (form.Inner k)
+  IsNodePosed i (form.Global g) = IsUse i (form.Global g)
   IsNodePosed i (form.Number value) = (polarity_at a (root i) ≡ Positive) × ((head_at a (root i)).integer ≡ true)
   IsNodePosed i (form.Truth value) = (polarity_at a (root i) ≡ Positive) × ((head_at a (root i)).boolean ≡ true)
   IsNodePosed i (form.Fun x j) =
@@ -33,7 +34,7 @@ module _ (a : Automaton) (IsGoal : ℕ → ℕ → Type 0) (root binder : ℕ �
   IsNodePosed i (form.If j k l) =
       (bit n : ℕ) × ((head_at a bit).boolean ≡ true) × IsGoal (root j) bit × IsGoal (root k) n × IsGoal (root l) n
       × HasFlow a n (root i)
-  IsNodePosed i (form.Let k j l) = (root i ≡ root l) × IsUse i
+  IsNodePosed i (form.Let k j l) = (root i ≡ root l) × IsUse i (form.Let k j l)
   IsNodePosed i (form.Rec x j) = (root i ≡ root j) × IsGoal (root j) (binder x)
 
 -- the children of a node that belong to its part: all but the first part of a let
