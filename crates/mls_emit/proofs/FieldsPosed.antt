@@ -7,7 +7,8 @@ use Rattle.std.specs.Cmp.Lexicographic.{slice_cmp}
 use Rattle.std.proofs.lemmas.List.{length-map}
 use Rattle.mls_automaton.specs.declared.automaton.FieldSet.{FieldSet}
 use Rattle.mls_automaton.specs.Heads.{set_at}
-use Rattle.mls_automaton.proofs.Lists.{Contains-cases}
+use Rattle.mls_automaton.proofs.Lists.{Contains-cases, Contains-map_back}
+use Rattle.std.proofs.lemmas.List.Elements.{All-contains}
 use Rattle.mls_infer.specs.Constraints.{AreRoots}
 use Rattle.mls_infer.specs.Joining.{AreRows, Rows, part_labels, row_field}
 use Rattle.mls_infer.proofs.FieldRows.{fields_made}
@@ -46,4 +47,10 @@ fields_posed root parts rows ordered are =
       rising = made.rising;
       there = roots_there root (map row_field rows.entries) parts made.found;
       back = λ label some. subst (λ (ls : List (List ℕ)). Contains ls label) (same_labels labels) ((made.labels label).0 some);
+      single = λ field at. one_part field (All-contains (λ (f : FieldSet). (r : ℕ) × Contains roots r × (f.set ≡ r ∷ [])) (map row_field rows.entries) field made.single at);
     }
+  where
+    one_part : (field : FieldSet) → (r : ℕ) × Contains (map (λ (part : Part). root part.child) parts) r × (field.set ≡ r ∷ []) → (part : Part) × Contains parts part × (field.set ≡ root part.child ∷ [])
+    one_part field (r, there, is) =
+        let found = Contains-map_back (λ (part : Part). root part.child) parts r there in
+        (found.0, found.1, is ∙ ap (λ r. r ∷ []) (sym found.2))

@@ -48,3 +48,5 @@ pub mod Copies
 pub mod FieldsPosed
 pub mod PosedTrees
 pub mod PosedByNode
+pub mod PosedKept
+pub mod GoodPosings

@@ -61,3 +61,14 @@ module _ (known_global known_let : ℕ → Option Scheme) (q : Posing) (i : ℕ)
       × (root_in q i ≡ n + s.root.0)
   IsUsePosed (form.Let k j l) = (s : Scheme) × (n : ℕ) × (known_let k ≡ Some s) × IsCopyAt q s n
   IsUsePosed _ = ⊥
+
+-- a binder is there
+abbrev pub HasBinder : Posing → ℕ → Type 0
+HasBinder p x = IsSome (get nat_cmp p.binders x)
+
+-- the binder of a function, a recursion or a use is there
+abbrev pub HasBinderOf : Posing → TermForm → Type 0
+HasBinderOf p (form.Bound x) = HasBinder p x
+HasBinderOf p (form.Fun x j) = HasBinder p x
+HasBinderOf p (form.Rec x j) = HasBinder p x
+HasBinderOf p _ = Unit {0}

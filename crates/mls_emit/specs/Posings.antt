@@ -128,6 +128,8 @@ pub record AreFieldsOf (root : ℕ → ℕ) (parts : List Part) (fields : List F
   pub there : (part : Part) → Contains parts part → set_at fields part.label ≡ Some (root part.child ∷ [])
   pub back : (label : List ℕ) → IsSome (set_at fields label)
       → Contains (map (λ (part : Part). part.label) parts) label
+  pub single : (field : FieldSet) → Contains fields field
+      → (part : Part) × Contains parts part × (field.set ≡ root part.child ∷ [])
 
 -- a copy of a known type, whose states stand from n on: what its binders ask is asked of those around
 abbrev pub copied_need : ℕ → Scheme → EnvEntry → Need
