@@ -50,3 +50,13 @@ pub mod PosedTrees
 pub mod PosedByNode
 pub mod PosedKept
 pub mod GoodPosings
+pub mod DistinctLists
+pub mod NumberedNodes
+pub mod PlacedParts
+pub mod HeldTypes
+pub mod KeptTypes
+pub mod FoundTypes
+pub mod EachTyped
+pub mod NodeTypes
+pub mod TypedModels
+pub mod PosedModels

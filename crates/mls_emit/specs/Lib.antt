@@ -18,3 +18,6 @@ pub mod Parts
 pub mod Posings
 pub mod PosedNodes
 pub mod PosedCopies
+pub mod NumberedNodes
+pub mod NodeTypes
+pub mod PosedModels

@@ -13,6 +13,7 @@ use Rattle.mls_automaton.specs.Automata.{empty_head, head_at, HasFlow, IsState}
 use Rattle.mls_automaton.specs.Embeddings.{renamed_head, renamed_state}
 use Rattle.mls_automaton.specs.Heads.{set_at, AreRising}
 use Rattle.mls_automaton.specs.Models.{IsClosed}
+use Rattle.mls_automaton.specs.Schemes.{state_of}
 use Rattle.mls_biunify.specs.declared.goal.Goal.{Goal}
 use Rattle.mls_term.specs.declared.term.Part.{Part}
 use Rattle.mls_term.specs.declared.term.TermForm.{TermForm}
@@ -164,6 +165,8 @@ pub record IsKnownTo (p : Posing) (known : Scheme) : Type 0 where
   pub states : (entry : EnvEntry) → Contains known.env entry → IsState known.automaton Negative entry.state.0
   pub around : (entry : EnvEntry) → Contains known.env entry
       → IsState p.automaton Negative (binder_in p entry.binder)
+  pub there : (entry : EnvEntry) → Contains known.env entry → IsSome (get nat_cmp p.binders entry.binder)
+  pub found : (entry : EnvEntry) → Contains known.env entry → state_of known.env entry.binder ≡ Some entry.state.0
 
 -- The second constraint has a copy of the known type, from state n on, as far as its binders have these entries.
 pub record AddsCopy (p q : Posing) (n : ℕ) (known : Scheme) (env : List EnvEntry) : Type 0 where
