@@ -3,7 +3,7 @@
 --     node_good
 use Rattle.std.proofs.Common.{◌≡◌, ◌⊎◌, ◌↔◌, inl, inr, ℕ, zero, suc, ◌+◌, ◌<◌, ◌≤◌, Bool, true, false, List, [], ◌∷◌, ◌++◌, map, length, get_or, All, Contains, refl, sym, ap, ◌∙◌, subst, arith, Option, Some, None, IsSome, length-append}
 use Rattle.std.specs.Prelude.{cond}
-use Rattle.std.specs.BTreeMap.{get}
+use Rattle.std.specs.BTreeMap.{BTreeMap, get}
 use Rattle.std.specs.Ordering.{nat_cmp, is_eq}
 use Rattle.std.proofs.Math.ListN.{get_or-append}
 use Rattle.std.proofs.lemmas.List.{get_or-append-add}
@@ -33,7 +33,7 @@ use Rattle.mls_emit.specs.declared.pose.Need.{Need}
 use Rattle.mls_emit.specs.declared.pose.Posing.{Posing}
 use Rattle.mls_emit.specs.PosedCopies.{HasBinder, HasBinderOf, IsGood, IsNew}
 use Rattle.mls_emit.specs.PosedNodes.{HasPartsIn}
-use Rattle.mls_emit.specs.Posings.{Added, Adds, AddsNode, IsCopiedEdge, IsKnownTo, OneEdge, binder_in, copied_need, copy_added, NoEdge, bool_head, fix_added, function_head, goal, int_head, literal_added, negative, one_field, or_zero, positive, record_head, root_in, size}
+use Rattle.mls_emit.specs.Posings.{Added, Adds, AddsNode, CanPose, HasKnown, known_in, IsCopiedEdge, IsKnownTo, OneEdge, binder_in, copied_need, copy_added, NoEdge, bool_head, fix_added, function_head, goal, int_head, literal_added, negative, one_field, or_zero, positive, record_head, root_in, size}
 use Rattle.mls_emit.proofs.PosedByNode.{new_state}
 use Rattle.mls_emit.proofs.Posings.{longer, state_there}
 
@@ -115,6 +115,11 @@ module _ (p q : Posing) (i : ℕ) (new : Added) (IsEdge : ℕ → ℕ → Type 0
       need_good : (need : Need) → Contains p.needs need ⊎ Contains new.needs need → HasStatesIn (IsState q.automaton) Negative need.head × HasRisingLabels need.head.fields
       need_good need (inl old) = (states_more (IsState p.automaton) (IsState q.automaton) old_state Negative need.head (good.needs need old), good.labels need old)
       need_good need (inr there) = needs need there
+
+-- a known type that is there
+pub known_from : (p : Posing) (s : Scheme) (o : Option Scheme) → HasKnown p o → o ≡ Some s → IsKnownTo p s
+known_from p s None has e = absurd has
+known_from p s (Some t) has e = let same : t ≡ s = cc in subst (IsKnownTo p) same has
 
 module _ (p q : Posing) (i : ℕ) (good : IsGood p) where
   abbrev HasRoot : ℕ → Type 0
@@ -254,20 +259,21 @@ module _ (p q : Posing) (i : ℕ) (good : IsGood p) where
           let found = Contains-map_back (copied_need (size p) s) s.env need there in
           subst (λ (d : Need). HasStatesIn (IsState q.automaton) Negative d.head × HasRisingLabels d.head.fields) found.2 (need_of found.0 found.1)
 
-  pub node_good : (known_global known_let : ℕ → Option Scheme) → ((k : ℕ) (s : Scheme) → known_global k ≡ Some s → IsKnownTo p s) → ((k : ℕ) (s : Scheme) → known_let k ≡ Some s → IsKnownTo p s)
-      → (f : TermForm) → AddsNode known_global known_let p q i f → HasPartsIn HasRoot f → HasBinderOf p f → IsGood q
-  node_good known_global known_let globals lets (form.Bound x) it parts binder =
+  pub node_good : (globals lets : BTreeMap ℕ Scheme) (f : TermForm) → AddsNode (known_in globals) (known_in lets) p q i f → HasPartsIn HasRoot f → HasBinderOf p f → CanPose globals lets p f → IsGood q
+  node_good globals lets (form.Bound x) it parts binder can =
       literal_good empty_head (OneEdge (binder_in p x) (size p)) it (λ old. no_states (IsState q.automaton) Positive) tt
       (λ n s edge. (edge.1, subst (IsState p.automaton Negative) (sym edge.0) (binder_before x binder)))
-  node_good known_global known_let globals lets (form.Inner k) (s, is, it) parts binder =
-      copy_good s (size p + s.root.0) (lets k s is) it (λ above old. above Positive s.root.0 (lets k s is).root)
-  node_good known_global known_let globals lets (form.Global g) (s, is, it) parts binder =
-      copy_good s (size p + s.root.0) (globals g s is) it (λ above old. above Positive s.root.0 (globals g s is).root)
-  node_good known_global known_let globals lets (form.Number value) it parts binder =
+  node_good globals lets (form.Inner k) (s, is, it) parts binder can =
+      let known = known_from p s (known_in lets k) can is in
+      copy_good s (size p + s.root.0) known it (λ above old. above Positive s.root.0 known.root)
+  node_good globals lets (form.Global g) (s, is, it) parts binder can =
+      let known = known_from p s (known_in globals g) can is in
+      copy_good s (size p + s.root.0) known it (λ above old. above Positive s.root.0 known.root)
+  node_good globals lets (form.Number value) it parts binder can =
       literal_good int_head NoEdge it (λ old. record { function = tt; fields = tt }) tt (λ n s edge. absurd edge)
-  node_good known_global known_let globals lets (form.Truth value) it parts binder =
+  node_good globals lets (form.Truth value) it parts binder can =
       literal_good bool_head NoEdge it (λ old. record { function = tt; fields = tt }) tt (λ n s edge. absurd edge)
-  node_good known_global known_let globals lets (form.Fun x j) it parts binder =
+  node_good globals lets (form.Fun x j) it parts binder can =
       literal_good (function_head (binder_in p x) (root_in p j)) NoEdge it
       (λ old. record {
         function = (
@@ -276,7 +282,7 @@ module _ (p q : Posing) (i : ℕ) (good : IsGood p) where
         );
         fields = tt;
       }) tt (λ n s edge. absurd edge)
-  node_good known_global known_let globals lets (form.Apply j k) it parts binder =
+  node_good globals lets (form.Apply j k) it parts binder can =
       result_good (function_head (root_in p k) (suc (size p))) (goal (root_in p j) (suc (suc (size p))) ∷ []) it
       (λ old into. record {
         function = (
@@ -285,7 +291,7 @@ module _ (p q : Posing) (i : ℕ) (good : IsGood p) where
         );
         fields = tt;
       }) tt (λ g there. one_goal (root_in p j) (suc (suc (size p))) (root_before j parts.0) (inr refl) g there)
-  node_good known_global known_let globals lets (form.Make ps) (fields, are, it) roots binder =
+  node_good globals lets (form.Make ps) (fields, are, it) roots binder can =
       literal_good (record_head fields) NoEdge it
       (λ old. record { function = tt; fields = All-contained (λ (field : FieldSet). All (IsState q.automaton Positive) field.set) fields (λ field there. field_good old field there) })
       are.rising (λ n s edge. absurd edge)
@@ -294,11 +300,11 @@ module _ (p q : Posing) (i : ℕ) (good : IsGood p) where
       field_good old field there =
           let found = are.single field there in
           subst (λ (set : List ℕ). All (IsState q.automaton Positive) set) (sym found.2) (only (IsState q.automaton Positive) (root_in p found.0.child) (old Positive (root_in p found.0.child) (root_before found.0.child (roots found.0 found.1))))
-  node_good known_global known_let globals lets (form.Project j label) it parts binder =
+  node_good globals lets (form.Project j label) it parts binder can =
       result_good (record_head (one_field label (suc (size p)))) (goal (root_in p j) (suc (suc (size p))) ∷ []) it
       (λ old into. record { function = tt; fields = only (λ (field : FieldSet). All (IsState q.automaton Negative) field.set) _ (only (IsState q.automaton Negative) (suc (size p)) into) })
       (λ i d low. absurd (omega arith), tt) (λ g there. one_goal (root_in p j) (suc (suc (size p))) (root_before j parts) (inr refl) g there)
-  node_good known_global known_let globals lets (form.If j k l) it parts binder =
+  node_good globals lets (form.If j k l) it parts binder can =
       result_good bool_head (goal (root_in p j) (suc (suc (size p))) ∷ goal (root_in p k) (suc (size p)) ∷ goal (root_in p l) (suc (size p)) ∷ []) it
       (λ old into. record { function = tt; fields = tt }) tt
       (λ g there. elim (Contains-cases (goal (root_in p j) (suc (suc (size p)))) (goal (root_in p k) (suc (size p)) ∷ goal (root_in p l) (suc (size p)) ∷ []) g there) [
@@ -308,9 +314,9 @@ module _ (p q : Posing) (i : ℕ) (good : IsGood p) where
           | inr last ↦ one_goal (root_in p l) (suc (size p)) (root_before l parts.2) (inl refl) g last
         ]
       ])
-  node_good known_global known_let globals lets (form.Let k j l) (s, is, it) parts binder =
-      copy_good s (root_in p l) (lets k s is) it (λ above old. old Positive (root_in p l) (root_before l parts))
-  node_good known_global known_let globals lets (form.Rec x j) it parts binder =
+  node_good globals lets (form.Let k j l) (s, is, it) parts binder can =
+      copy_good s (root_in p l) (known_from p s (known_in lets k) can is) it (λ above old. old Positive (root_in p l) (root_before l parts))
+  node_good globals lets (form.Rec x j) it parts binder can =
       adds_good p q i (fix_added (root_in p j) (binder_in p x)) NoEdge it good (λ k. (no_states (IsState q.automaton) Positive, tt)) (λ n s edge. absurd edge)
       (λ g there. recursion g there) (old Positive (root_in p j) (root_before j parts)) (λ need there. let low : there.0 < 0 = there.1 in absurd (omega arith))
     where

@@ -60,3 +60,4 @@ pub mod EachTyped
 pub mod NodeTypes
 pub mod TypedModels
 pub mod PosedModels
+pub mod MetNeeds

@@ -5,7 +5,7 @@ use Rattle.std.proofs.Common.{◌≡◌, ◌⊎◌, ◌↔◌, inl, inr, ℕ, ze
 use Rattle.std.specs.Prelude.{bytes_eq, cond, find, option_map, slice_get}
 use Rattle.std.specs.FinMap as finmap
 use Rattle.std.proofs.lemmas.Slice.Eq.{bytes_eq-Decides}
-use Rattle.std.specs.BTreeMap.{get}
+use Rattle.std.specs.BTreeMap.{BTreeMap, get}
 use Rattle.std.specs.Ordering.{nat_cmp, is_eq}
 use Rattle.std.proofs.Math.ListN.{get_or-append, get_or-map}
 use Rattle.std.proofs.lemmas.List.{get_or_past, length-map}
@@ -43,9 +43,10 @@ use Rattle.mls_typing.proofs.Contexts.{same_key}
 use Rattle.mls_emit.specs.declared.pose.Need.{Need}
 use Rattle.mls_emit.specs.declared.pose.Posing.{Posing}
 use Rattle.mls_emit.specs.PosedCopies.{HasBinder, HasBinderOf, IsGood}
-use Rattle.mls_emit.specs.PosedModels.{HasModel}
+use Rattle.mls_emit.specs.PosedModels.{AreOver, HasModel}
+use Rattle.mls_emit.proofs.GoodPosings.{known_from}
 use Rattle.mls_book.proofs.Depths.{Implies-same, Implies-trans}
-use Rattle.mls_emit.specs.Posings.{Added, Adds, AddsNode, IsCopiedEdge, IsKnownTo, NoEdge, OneEdge, binder_in, bool_head, copied_need, copy_added, fix_added, function_head, goal, int_head, literal_added, negative, one_field, or_zero, positive, record_head, root_in, size}
+use Rattle.mls_emit.specs.Posings.{Added, Adds, AddsNode, CanPose, known_in, IsCopiedEdge, IsKnownTo, NoEdge, OneEdge, binder_in, bool_head, copied_need, copy_added, fix_added, function_head, goal, int_head, literal_added, negative, one_field, or_zero, positive, record_head, root_in, size}
 use Rattle.mls_automaton.specs.declared.scheme.EnvEntry.{EnvEntry}
 use Rattle.mls_automaton.specs.declared.scheme.Scheme.{Scheme}
 use Rattle.mls_emit.proofs.TypedModels.{IsCopiedModel, copied_model}
@@ -361,19 +362,17 @@ module _ (p : Posing) (good : IsGood p) (type binder : ℕ → Predicate) (m : H
               let found = Contains-map_back (copied_need (size p) s) s.env need there in
               subst (λ (d : Need). Implies (binder d.binder) (head_value Negative W d.head)) found.2 (need_of found.0 found.1)
 
-    module _ (known : Known) (known_global known_let : ℕ → Option Scheme)
-        (global_is : (g : ℕ) (s : Scheme) (b : book.Scheme) → known_global g ≡ Some s → slice_get known.globals g ≡ Some b → IsKnownTo p s × IsScheme s × IsSchemeOf s b)
-        (let_is : (k : ℕ) (s : Scheme) (b : book.Scheme) → known_let k ≡ Some s → finmap.get known.lets k ≡ Some b → IsKnownTo p s × IsScheme s × IsSchemeOf s b) where
+    module _ (known : Known) (globals lets : BTreeMap ℕ Scheme) (are_over : AreOver known globals lets) where
       -- a name that has an instance of its type
-      name_model : (s : Scheme) (b : book.Scheme) → IsKnownTo p s × IsScheme s × IsSchemeOf s b → HasInstance b binder (type i)
+      name_model : (s : Scheme) (b : book.Scheme) → IsKnownTo p s → IsScheme s × IsSchemeOf s b → HasInstance b binder (type i)
           → Adds p q i (copy_added (size p) s (size p + s.root.0)) (IsCopiedEdge (size p) (binder_in p) s s.env) → HasModel q type binder
-      name_model s b (is, scheme, over) (a, root_is) it =
+      name_model s b is (scheme, over) (a, root_is) it =
           let made = copied_model s b scheme over binder (type i) a in
           copy_model s is (passes_by a.reading b.book b.root) made.0 made.1 (size p + s.root.0) it
           (copy_value s is (passes_by a.reading b.book b.root) made.0 made.1 s.root.0 is.root.in_range ∙ (made.1.root ∙ root_is))
 
-      pub node_model : (f : TermForm) → AddsNode known_global known_let p q i f → HasPartsIn HasRoot f → HasBinderOf p f → IsNodeTyped known type binder i f → HasModel q type binder
-      node_model (form.Bound x) it parts has typed =
+      pub node_model : (f : TermForm) → AddsNode (known_in globals) (known_in lets) p q i f → HasPartsIn HasRoot f → HasBinderOf p f → CanPose globals lets p f → IsNodeTyped known type binder i f → HasModel q type binder
+      node_model (form.Bound x) it parts has can typed =
           let at = binder_low x has in
           literal_model empty_head (OneEdge (binder_in p x) (size p)) it (λ v same. subst (λ f. Implies f (type i)) (sym (empty_value Positive v)) (λ t e. absurd (cc)))
           (λ n s edge. (
@@ -381,19 +380,19 @@ module _ (p : Posing) (good : IsGood p) (type binder : ℕ → Predicate) (m : H
             subst (λ n. n < size p) (sym edge.0) at.0,
             subst (λ n. Implies (m.value n) (type i)) (sym edge.0) (subst (λ f. Implies f (type i)) (sym at.1) typed),
           ))
-      node_model (form.Inner k) (s, is, it) parts has (b, at, instance) = name_model s b (let_is k s b is at) instance it
-      node_model (form.Global g) (s, is, it) parts has (b, at, instance) = name_model s b (global_is g s b is at) instance it
-      node_model (form.Number number) it parts has typed =
+      node_model (form.Inner k) (s, is, it) parts has can (b, at, instance) = name_model s b (known_from p s (known_in lets k) can is) (are_over.lets k s b is at) instance it
+      node_model (form.Global g) (s, is, it) parts has can (b, at, instance) = name_model s b (known_from p s (known_in globals g) can is) (are_over.globals g s b is at) instance it
+      node_model (form.Number number) it parts has can typed =
           literal_model int_head NoEdge it (λ v same. subst (λ f. Implies f (type i)) (sym (int_value Positive v)) typed) (λ n s edge. absurd edge)
-      node_model (form.Truth truth) it parts has typed =
+      node_model (form.Truth truth) it parts has can typed =
           literal_model bool_head NoEdge it (λ v same. subst (λ f. Implies f (type i)) (sym (bool_value Positive v)) typed) (λ n s edge. absurd edge)
-      node_model (form.Fun x j) it parts has typed =
+      node_model (form.Fun x j) it parts has can typed =
           let from = binder_low x has in
           let to = root_low j parts in
           literal_model (function_head (binder_in p x) (root_in p j)) NoEdge it
           (λ v same. subst (λ f. Implies f (type i)) (sym (function_is Positive v (binder_in p x) (root_in p j) ∙ (λ k. arrow ((same (binder_in p x) from.0 ∙ from.1) k) ((same (root_in p j) to.0 ∙ to.1) k)))) typed)
           (λ n s edge. absurd edge)
-      node_model (form.Apply j k) it parts has typed =
+      node_model (form.Apply j k) it parts has can typed =
           let one = root_low j parts.0 in
           let two = root_low k parts.1 in
           let head : Head = function_head (root_in p k) (suc (size p)) in
@@ -403,7 +402,7 @@ module _ (p : Posing) (good : IsGood p) (type binder : ℕ → Predicate) (m : H
           result_model head goals upper upper_type it
           (λ same. Implies-same upper (head_value Negative (V head goals upper upper_type) head) (sym (function_is Negative (V head goals upper upper_type) (root_in p k) (suc (size p)) ∙ (λ l. arrow ((same (root_in p k) two.0 ∙ two.1) l) (at_into head goals upper upper_type l)))))
           (one_up head goals upper upper_type (root_in p j) (suc (suc (size p))) (up_goal head goals upper upper_type (root_in p j) (suc (suc (size p))) (type j) upper one.0 one.1 (at_upper head goals upper upper_type) typed))
-      node_model (form.Make ps) (fields, are, it) roots has typed = literal_model (record_head fields) NoEdge it (λ v same. below v same) (λ n s edge. absurd edge)
+      node_model (form.Make ps) (fields, are, it) roots has can typed = literal_model (record_head fields) NoEdge it (λ v same. below v same) (λ n s edge. absurd edge)
         where
           fieldwise : (v : ℕ → Predicate) → ((s : ℕ) → s < size p → v s ≡ m.value s) → (label : List ℕ) (g : Predicate) → part_types type ps label ≡ Some g
               → (f : Predicate) × (option_map (set_value Positive v) (set_at fields label) ≡ Some f) × Implies f g
@@ -421,7 +420,7 @@ module _ (p : Posing) (good : IsGood p) (type binder : ℕ → Predicate) (m : H
               subst (λ f. Implies f (type i)) (sym (record_head-value Positive v fields))
               (Implies-trans (record_value Positive v (set_at fields)) (rcd (part_types type ps)) (type i)
               (rcd-implies (λ label. option_map (set_value Positive v) (set_at fields label)) (part_types type ps) (λ label g e. fieldwise v same label g e)) typed)
-      node_model (form.Project j label) it parts has typed =
+      node_model (form.Project j label) it parts has can typed =
           let one = root_low j parts in
           let head : Head = record_head (one_field label (suc (size p))) in
           let goals : List Goal = goal (root_in p j) (suc (suc (size p))) ∷ [] in
@@ -431,7 +430,7 @@ module _ (p : Posing) (good : IsGood p) (type binder : ℕ → Predicate) (m : H
           (λ same. Implies-same upper (head_value Negative (V head goals upper upper_type) head)
           (sym (record_head-value Negative (V head goals upper upper_type) (one_field label (suc (size p))) ∙ (λ k. rcd (λ other. one_value (V head goals upper upper_type) label (suc (size p)) (type i) (at_into head goals upper upper_type) other k)))))
           (one_up head goals upper upper_type (root_in p j) (suc (suc (size p))) (up_goal head goals upper upper_type (root_in p j) (suc (suc (size p))) (type j) upper one.0 one.1 (at_upper head goals upper upper_type) typed))
-      node_model (form.If j k l) it parts has typed =
+      node_model (form.If j k l) it parts has can typed =
           let one = root_low j parts.0 in
           let two = root_low k parts.1 in
           let three = root_low l parts.2 in
@@ -442,13 +441,14 @@ module _ (p : Posing) (good : IsGood p) (type binder : ℕ → Predicate) (m : H
           (up_goal bool_head goals bool bool_type (root_in p j) (suc (suc (size p))) (type j) bool one.0 one.1 (at_upper bool_head goals bool bool_type) typed.0)
           (up_goal bool_head goals bool bool_type (root_in p k) (suc (size p)) (type k) (type i) two.0 two.1 (at_into bool_head goals bool bool_type) typed.1)
           (up_goal bool_head goals bool bool_type (root_in p l) (suc (size p)) (type l) (type i) three.0 three.1 (at_into bool_head goals bool bool_type) typed.2))
-      node_model (form.Let k j l) (s, is, it) parts has (same, b, at, allows) =
-          let known_is = let_is k s b is at in
-          let made = copied_model s b known_is.1 known_is.2 binder top allows in
+      node_model (form.Let k j l) (s, is, it) parts has can (same, b, at, allows) =
+          let known_is = known_from p s (known_in lets k) can is in
+          let over = are_over.lets k s b is at in
+          let made = copied_model s b over.0 over.1 binder top allows in
           let second = root_low l parts in
-          copy_model s known_is.0 (passes_by allows.reading b.book b.root) made.0 made.1 (root_in p l) it
+          copy_model s known_is (passes_by allows.reading b.book b.root) made.0 made.1 (root_in p l) it
           (extended_old (size p) m.value (kept_types s made.0) (root_in p l) second.0 ∙ (second.1 ∙ sym same))
-      node_model (form.Rec x j) it parts has typed =
+      node_model (form.Rec x j) it parts has can typed =
           let body = root_low j parts in
           let from = binder_low x has in
           let U : ℕ → Predicate = extended (size p) m.value (λ k. top) in

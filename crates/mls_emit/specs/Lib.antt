@@ -21,3 +21,4 @@ pub mod PosedCopies
 pub mod NumberedNodes
 pub mod NodeTypes
 pub mod PosedModels
+pub mod MetNeeds

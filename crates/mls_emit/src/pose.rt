@@ -11,6 +11,8 @@ ghost use Rattle.mls_automaton.specs.declared.automaton.FieldSet.{FieldSet};
 ghost use Rattle.mls_automaton.specs.Automata.{IsState, empty_head};
 ghost use Rattle.mls_infer.specs.Joining.{AreRows, part_labels, row_field};
 ghost use Rattle.mls_term.specs.declared.term.Part.{Part};
+ghost use Rattle.mls_automaton.specs.Models.{IsClosed};
+ghost use Rattle.mls_emit.specs.MetNeeds.{AreNeeds, HasMet};
 ghost use Rattle.mls_emit.specs.Posings.{AddsNode, CanPose, known_in};
 ghost use Rattle.mls_emit.specs.Posings.{Adds, NoEdge, OneEdge, AreFieldsOf, number_at, root_in, binder_in, size};
 ghost use Rattle.mls_emit.specs.Posings.{literal_added, fun_added, apply_added, project_added, choice_added, fix_added};
@@ -19,6 +21,7 @@ ghost use Rattle.mls_emit.specs.Posings.{AddsCopy, IsCopiedEdge, IsKnownTo, copy
 ghost use Rattle.mls_emit.specs.steps.Results.{AddsEdges, Binds, CanBind, HasResult};
 
 use mls_automaton::automaton::{Arms, Automaton, FieldSet, FieldSets, Head, Polarity};
+use mls_automaton::combine::combine_heads;
 use mls_automaton::scheme::{EnvEntry, Scheme};
 use mls_automaton::state_set::{StateId, StateSet};
 use mls_base::list::List;
@@ -416,4 +419,27 @@ fn copied_label(label: &Name) -> Result<Name, Memory>
 {
     let copy = label.clone()?;
     Ok(copy)
+}
+
+/// Gives the states of binders the heads that copies of known types need.
+///
+/// # Errors
+///
+/// `Memory` where memory is wanting.
+pub fn meet_needs(
+    alloc: Global,
+    automaton: &mut Automaton,
+    binders: &BTreeMap<usize, usize>,
+    needs: &[Need],
+) -> Result<(), Memory>
+    requires closed { IsClosed automaton.old }
+    requires needs { AreNeeds automaton.old binders.now needs.now }
+    ensures { OnOk result (HasMet binders.now needs.now automaton.old automaton.new) }
+{
+    for need in needs {
+        let state = StateId(number_at(binders, need.binder));
+        let head = combine_heads(alloc, Polarity::Negative, automaton.head(state), &need.head)?;
+        automaton.set_head(state, head);
+    }
+    Ok(())
 }
