@@ -61,3 +61,5 @@ pub mod NodeTypes
 pub mod TypedModels
 pub mod PosedModels
 pub mod MetNeeds
+pub mod BegunPosings
+pub mod PosedParts

@@ -1,6 +1,7 @@
 -- What a node adds is what its form asks for.
 --     adds_extends        what was there stays
 --     node_posed          and the node is posed
+--     node_extends, node_root
 use Rattle.std.proofs.Common.{◌≡◌, ◌⊎◌, inl, inr, ℕ, suc, ◌+◌, ◌<◌, ◌≤◌, Bool, true, false, List, [], ◌∷◌, ◌++◌, map, length, get_or, Contains, refl, sym, ap, ◌∙◌, subst, arith, Option, Some, None, length-append, IsSome}
 use Rattle.std.specs.Prelude.{cond}
 use Rattle.std.specs.BTreeMap.{BTreeMap, get, Updates}
@@ -192,3 +193,32 @@ module _ (known_global known_let : ℕ → Option Scheme) (p q : Posing) (i : �
     root_is p q i _ _ it ∙ sym (same_root p q i _ _ it is_new j parts),
     subst (λ n. IsGoal q.goals (root_in q j) n) (sym (same_binder p q i _ _ it x)) (goal_there _ _ it j (binder_in p x) parts (Contains-here _ [])),
   )
+
+  pub node_extends : (f : TermForm) → AddsNode known_global known_let p q i f → Extends p q
+  node_extends (form.Bound x) it = adds_extends p q i _ _ it is_new
+  node_extends (form.Inner k) it = adds_extends p q i _ _ it.2 is_new
+  node_extends (form.Global g) it = adds_extends p q i _ _ it.2 is_new
+  node_extends (form.Number value) it = adds_extends p q i _ _ it is_new
+  node_extends (form.Truth value) it = adds_extends p q i _ _ it is_new
+  node_extends (form.Fun x j) it = adds_extends p q i _ _ it is_new
+  node_extends (form.Apply j k) it = adds_extends p q i _ _ it is_new
+  node_extends (form.Make parts) it = adds_extends p q i _ _ it.2 is_new
+  node_extends (form.Project j label) it = adds_extends p q i _ _ it is_new
+  node_extends (form.If j k l) it = adds_extends p q i _ _ it is_new
+  node_extends (form.Let k j l) it = adds_extends p q i _ _ it.2 is_new
+  node_extends (form.Rec x j) it = adds_extends p q i _ _ it is_new
+
+  -- the node has a root now, and no other node has one more
+  pub node_root : (f : TermForm) → AddsNode known_global known_let p q i f → (root : ℕ) × Updates nat_cmp p.roots q.roots i (Some root)
+  node_root (form.Bound x) it = (_, it.roots)
+  node_root (form.Inner k) it = (_, it.2.roots)
+  node_root (form.Global g) it = (_, it.2.roots)
+  node_root (form.Number value) it = (_, it.roots)
+  node_root (form.Truth value) it = (_, it.roots)
+  node_root (form.Fun x j) it = (_, it.roots)
+  node_root (form.Apply j k) it = (_, it.roots)
+  node_root (form.Make parts) it = (_, it.2.roots)
+  node_root (form.Project j label) it = (_, it.roots)
+  node_root (form.If j k l) it = (_, it.roots)
+  node_root (form.Let k j l) it = (_, it.2.roots)
+  node_root (form.Rec x j) it = (_, it.roots)

@@ -70,7 +70,7 @@ extended_new (suc n) old new k =
     let at : suc n + k ≡ suc (n + k) = omega arith in
     ap (extended (suc n) old new) at ∙ extended_new n (λ k. old (suc k)) new k
 
-extended_types : (n : ℕ) (old new : ℕ → Predicate) → ((s : ℕ) → s < n → IsType (old s)) → ((k : ℕ) → IsType (new k)) → (s : ℕ) → IsType (extended n old new s)
+pub extended_types : (n : ℕ) (old new : ℕ → Predicate) → ((s : ℕ) → s < n → IsType (old s)) → ((k : ℕ) → IsType (new k)) → (s : ℕ) → IsType (extended n old new s)
 extended_types zero old new olds news s = news s
 extended_types (suc n) old new olds news zero = olds 0 (omega arith)
 extended_types (suc n) old new olds news (suc s) = extended_types n (λ k. old (suc k)) new (λ k low. olds (suc k) (omega arith)) news s

@@ -22,3 +22,4 @@ pub mod NumberedNodes
 pub mod NodeTypes
 pub mod PosedModels
 pub mod MetNeeds
+pub mod PosedParts

@@ -13,6 +13,7 @@ ghost use Rattle.mls_infer.specs.Joining.{AreRows, part_labels, row_field};
 ghost use Rattle.mls_term.specs.declared.term.Part.{Part};
 ghost use Rattle.mls_automaton.specs.Models.{IsClosed};
 ghost use Rattle.mls_emit.specs.MetNeeds.{AreNeeds, HasMet};
+ghost use Rattle.mls_emit.specs.PosedParts.{AddsBinder, ArePosable, HavePosed, IsBegun, IsPartList};
 ghost use Rattle.mls_emit.specs.Posings.{AddsNode, CanPose, known_in};
 ghost use Rattle.mls_emit.specs.Posings.{Adds, NoEdge, OneEdge, AreFieldsOf, number_at, root_in, binder_in, size};
 ghost use Rattle.mls_emit.specs.Posings.{literal_added, fun_added, apply_added, project_added, choice_added, fix_added};
@@ -28,7 +29,7 @@ use mls_base::list::List;
 use mls_base::memory::Memory;
 use mls_biunify::goal::Goal;
 use mls_book::name::Name;
-use mls_term::term::{Part, TermForm};
+use mls_term::term::{Part, TermForm, TermNode};
 use std::alloc::Global;
 use std::collections::BTreeMap;
 
@@ -143,6 +144,51 @@ impl Posing {
         ensures { result ≡ binder_in self.now binder }
     {
         number_at(&self.binders, binder)
+    }
+
+    // Adds a state for a binder.
+    fn push_binder_state(&mut self, binder: usize) -> Result<(), Memory>
+        ensures { OnOk result (AddsBinder self.old self.new binder) }
+    {
+        let state = self.automaton.state(Polarity::Negative, Head::empty())?;
+        self.binders.insert(binder, state.0)?;
+        Ok(())
+    }
+
+    // A constraint with a state for each of these binders.
+    fn begun(alloc: Global, binders: &[usize]) -> Result<Posing, Memory>
+        ensures { IfOk result (IsBegun binders.now) }
+    {
+        let mut posing = Posing {
+            automaton: Automaton::new(alloc),
+            goals: Goals::new(alloc),
+            roots: BTreeMap::new(alloc),
+            binders: BTreeMap::new(alloc),
+            needs: Needs::new(alloc),
+        };
+        for binder in binders {
+            posing.push_binder_state(*binder)?;
+        }
+        Ok(posing)
+    }
+
+    // Poses these nodes one after another.
+    fn pose_nodes(
+        &mut self,
+        alloc: Global,
+        nodes: &[TermNode],
+        part: &[usize],
+        known: &KnownTypes,
+    ) -> Result<(), Memory>
+        requires list { IsPartList nodes.now part.now }
+        requires begun { (binders : List ℕ) × IsBegun binders self.old
+            × ArePosable binders nodes.now part.now known.now.globals known.now.lets }
+        ensures { OnOk result (HavePosed nodes.now known.now.globals known.now.lets self.old self.new part.now) }
+    {
+        for node in part {
+            self.pose_node(alloc, *node, &nodes[*node].form, known)?;
+        }
+        Ok(())
     }
 
     // Adds a goal.

@@ -1,0 +1,199 @@
+-- The nodes of a part are posed one after another.
+--     can_pose            each may be posed
+--     pose_none, pose_next
+use Rattle.std.proofs.Common.{◌≡◌, ◌≢◌, ◌⊎◌, inl, inr, ℕ, zero, suc, ◌<◌, Bool, true, false, List, [], ◌∷◌, ◌++◌, map, length, take, get_or, Contains, refl, sym, ap, ◌∙◌, subst, arith, Option, Some, None, IsSome}
+use Rattle.std.specs.Prelude.{cond, option_map}
+use Rattle.std.specs.List.{AllPairs}
+use Rattle.std.proofs.lemmas.List.{get_or_default}
+use Rattle.std.proofs.lemmas.Option.{slice_get-get_or}
+use Rattle.std.specs.BTreeMap.{BTreeMap, get, Updates}
+use Rattle.std.specs.Ordering.{nat_cmp, is_eq}
+use Rattle.std.proofs.lemmas.List.Elements.{Contains-append_left, Contains-push, Contains-push_cases}
+use Rattle.mls_book.specs.Predicates.{Predicate}
+use Rattle.mls_automaton.specs.declared.automaton.Polarity.TheVariants.{Negative}
+use Rattle.mls_automaton.specs.declared.scheme.EnvEntry.{EnvEntry}
+use Rattle.mls_automaton.specs.declared.scheme.Scheme.{Scheme}
+use Rattle.mls_automaton.specs.Automata.{IsState}
+use Rattle.mls_biunify.specs.Relations.{IsGoal}
+use Rattle.mls_term.specs.declared.term.Part.{Part}
+use Rattle.mls_term.specs.declared.term.TermForm.{TermForm}
+use Rattle.mls_term.specs.declared.term.TermForm.TheVariants as form
+use Rattle.mls_term.specs.declared.term.TermNode.{TermNode}
+use Rattle.mls_term.specs.Derivations.{Known}
+use Rattle.mls_typing.proofs.Contexts.{same_key}
+use Rattle.mls_typing.specs.Typed.{IsType}
+use Rattle.mls_deriv.specs.Steps.{form_at}
+use Rattle.mls_emit.specs.declared.pose.Posing.{Posing}
+use Rattle.mls_emit.specs.NodeTypes.{IsNodeTyped}
+use Rattle.mls_emit.specs.PosedCopies.{Extends, HasBinder, HasBinderOf, IsGood, IsNew, IsUsePosed}
+use Rattle.mls_emit.specs.PosedModels.{AreOver, HasModel}
+use Rattle.mls_emit.specs.PosedNodes.{HasPartsIn, IsNodePosed}
+use Rattle.mls_emit.specs.PosedParts.{ArePosable, HasKnownType, HavePosed, IsBegun, IsKnownType, IsPosable}
+use Rattle.mls_emit.specs.Posings.{Added, Adds, AddsNode, CanPose, HasKnown, IsKnownTo, binder_in, known_in, or_zero, root_in}
+use Rattle.mls_emit.proofs.BegunPosings.{begun_good}
+use Rattle.mls_emit.proofs.GoodPosings.{node_good}
+use Rattle.mls_emit.proofs.PosedByNode.{node_extends, node_posed, node_root}
+use Rattle.mls_emit.proofs.PosedKept.{extends_all, extends_self, posed_kept}
+use Rattle.mls_emit.proofs.PosedModels.{node_model}
+
+some_is : {X : Type 0} {x y : X} → Some x ≡ Some y → x ≡ y
+some_is e = cc
+
+-- what holds of each part of a node
+parts_more : (P Q : ℕ → Type 0) → ((j : ℕ) → P j → Q j) → (f : TermForm) → HasPartsIn P f → HasPartsIn Q f
+parts_more P Q more (form.Bound x) it = tt
+parts_more P Q more (form.Inner k) it = tt
+parts_more P Q more (form.Global g) it = tt
+parts_more P Q more (form.Number value) it = tt
+parts_more P Q more (form.Truth value) it = tt
+parts_more P Q more (form.Fun x j) it = more j it
+parts_more P Q more (form.Apply j k) it = (more j it.0, more k it.1)
+parts_more P Q more (form.Make parts) it = λ part there. more part.child (it part there)
+parts_more P Q more (form.Project j label) it = more j it
+parts_more P Q more (form.If j k l) it = (more j it.0, more k it.1, more l it.2)
+parts_more P Q more (form.Let k j l) it = more l it
+parts_more P Q more (form.Rec x j) it = more j it
+
+-- a node may be posed behind others
+module _ (binders : List ℕ) (globals lets : BTreeMap ℕ Scheme) (begun p : Posing) (it : IsBegun binders begun) (extends : Extends begun p) (good : IsGood p) where
+  binder_there : (x : ℕ) → Contains binders x → HasBinder p x
+  binder_there x there = subst (λ bs. IsSome (get nat_cmp bs x)) (sym extends.binders) (it.there x there)
+
+  binder_state : (x : ℕ) → Contains binders x → IsState p.automaton Negative (binder_in p x)
+  binder_state x there = go (get nat_cmp p.binders x) refl (binder_there x there)
+    where
+      go : (o : Option ℕ) → get nat_cmp p.binders x ≡ o → IsSome o → IsState p.automaton Negative (binder_in p x)
+      go None e wrong = absurd (cc)
+      go (Some s) e some = subst (IsState p.automaton Negative) (sym (ap or_zero e)) (good.binders x s e)
+
+  known_type : (o : Option Scheme) → HasKnownType binders o → HasKnown p o
+  known_type None has = absurd has
+  known_type (Some s) has = record {
+    closed = has.closed;
+    root = has.root;
+    states = has.states;
+    around = λ entry there. binder_state entry.binder (has.around entry there);
+    there = λ entry there. binder_there entry.binder (has.around entry there);
+    found = has.found;
+  }
+
+  pub can_pose : (f : TermForm) → IsPosable binders globals lets f → CanPose globals lets p f
+  can_pose (form.Bound x) can = binder_state x can
+  can_pose (form.Inner k) can = known_type (known_in lets k) can
+  can_pose (form.Global g) can = known_type (known_in globals g) can
+  can_pose (form.Number value) can = tt
+  can_pose (form.Truth value) can = tt
+  can_pose (form.Fun x j) can = tt
+  can_pose (form.Apply j k) can = tt
+  can_pose (form.Make parts) can = can
+  can_pose (form.Project j label) can = tt
+  can_pose (form.If j k l) can = tt
+  can_pose (form.Let k j l) can = known_type (known_in lets k) can
+  can_pose (form.Rec x j) can = tt
+
+  pub has_binder : (f : TermForm) → IsPosable binders globals lets f → HasBinderOf p f
+  has_binder (form.Bound x) can = binder_there x can
+  has_binder (form.Inner k) can = tt
+  has_binder (form.Global g) can = tt
+  has_binder (form.Number value) can = tt
+  has_binder (form.Truth value) can = tt
+  has_binder (form.Fun x j) can = binder_there x can
+  has_binder (form.Apply j k) can = tt
+  has_binder (form.Make parts) can = tt
+  has_binder (form.Project j label) can = tt
+  has_binder (form.If j k l) can = tt
+  has_binder (form.Let k j l) can = tt
+  has_binder (form.Rec x j) can = binder_there x can
+
+module _ (nodes : List TermNode) (globals lets : BTreeMap ℕ Scheme) (begun : Posing) where
+  abbrev no_nodes : List ℕ
+  no_nodes = []
+
+  pub pose_none : (binders : List ℕ) → IsBegun binders begun → HavePosed nodes globals lets begun begun no_nodes
+  pose_none binders it = record {
+    extends = extends_self begun;
+    good = begun_good binders begun it;
+    rooted = λ i there. let low : there.0 < 0 = there.1 in absurd (omega arith);
+    only = λ i some. let none : get nat_cmp begun.roots i ≡ None = it.no_root i in absurd (cc);
+    parts = λ i f there. let low : there.0 < 0 = there.1 in absurd (omega arith);
+    posed = λ i f there. let low : there.0 < 0 = there.1 in absurd (omega arith);
+    models = λ known over type binder types typed m. m;
+  }
+
+  module _ (p q : Posing) (done : List ℕ) (i : ℕ) (f : TermForm) (it : HavePosed nodes globals lets begun p done) (adds : AddsNode (known_in globals) (known_in lets) p q i f)
+      (form_is : form_at nodes i ≡ Some f) (other : Contains done i → ⊥) (behind : HasPartsIn (Contains done) f) (binder : HasBinderOf p f) (can : CanPose globals lets p f) where
+    is_new : IsNew p i
+    is_new some = other (it.only i some)
+
+    rooted_parts : HasPartsIn (λ k. IsSome (get nat_cmp p.roots k)) f
+    rooted_parts = parts_more (Contains done) (λ k. IsSome (get nat_cmp p.roots k)) it.rooted f behind
+
+    abbrev Posed : Posing → ℕ → TermForm → Type 0
+    Posed r j g = IsNodePosed r.automaton (IsGoal r.goals) (root_in r) (binder_in r) (IsUsePosed (known_in globals) (known_in lets) r) j g
+
+    more : Extends p q
+    more = node_extends (known_in globals) (known_in lets) p q i is_new f adds
+
+    updated : (root : ℕ) × Updates nat_cmp p.roots q.roots i (Some root)
+    updated = node_root (known_in globals) (known_in lets) p q i is_new f adds
+
+    kept_root : (j : ℕ) → IsSome (get nat_cmp p.roots j) → IsSome (get nat_cmp q.roots j)
+    kept_root j some = go (get nat_cmp p.roots j) refl some
+      where
+        go : (o : Option ℕ) → get nat_cmp p.roots j ≡ o → IsSome o → IsSome (get nat_cmp q.roots j)
+        go None e wrong = absurd (cc)
+        go (Some s) e some = subst IsSome (sym (more.roots j s e)) refl
+
+    parts_now : (j : ℕ) (g : TermForm) → Contains done j ⊎ (i ≡ j) → form_at nodes j ≡ Some g → HasPartsIn (λ k. IsSome (get nat_cmp q.roots k)) g
+    parts_now j g (inl old) e = parts_more (λ k. IsSome (get nat_cmp p.roots k)) (λ k. IsSome (get nat_cmp q.roots k)) kept_root g (it.parts j g old e)
+    parts_now j g (inr new) e =
+        let same : f ≡ g = some_is (sym form_is ∙ (ap (form_at nodes) new ∙ e)) in
+        subst (HasPartsIn (λ k. IsSome (get nat_cmp q.roots k))) same (parts_more (λ k. IsSome (get nat_cmp p.roots k)) (λ k. IsSome (get nat_cmp q.roots k)) kept_root f rooted_parts)
+
+    rooted_now : (j : ℕ) → Contains done j ⊎ (i ≡ j) → IsSome (get nat_cmp q.roots j)
+    rooted_now j (inl old) = kept_root j (it.rooted j old)
+    rooted_now j (inr new) = subst (λ k. IsSome (get nat_cmp q.roots k)) new (subst IsSome (sym updated.1.1) refl)
+
+    only_now : (j : ℕ) (b : Bool) → is_eq (nat_cmp i j) ≡ b → get nat_cmp q.roots j ≡ cond b (Some updated.0) (get nat_cmp p.roots j) → IsSome (get nat_cmp q.roots j) → Contains (done ++ i ∷ []) j
+    only_now j true same is some = subst (Contains (done ++ i ∷ [])) (same_key i j same) (Contains-push done i)
+    only_now j false apart is some = Contains-append_left done (i ∷ []) j (it.only j (subst IsSome is some))
+
+    posed_now : (j : ℕ) (g : TermForm) → Contains done j ⊎ (i ≡ j) → form_at nodes j ≡ Some g → Posed q j g
+    posed_now j g (inl old) e =
+        posed_kept p q more it.good (known_in globals) (known_in lets) j (it.rooted j old) g (it.parts j g old e) (it.posed j g old e)
+    posed_now j g (inr new) e =
+        subst (λ k. Posed q k g) new
+        (let same : f ≡ g = some_is (sym form_is ∙ (ap (form_at nodes) new ∙ e)) in
+        subst (Posed q i) same (node_posed (known_in globals) (known_in lets) p q i is_new f adds rooted_parts))
+
+    pub pose_next : HavePosed nodes globals lets begun q (done ++ i ∷ [])
+    pose_next = record {
+      extends = extends_all begun p q it.extends more;
+      good = node_good p q i it.good globals lets f adds rooted_parts binder can;
+      rooted = λ j there. rooted_now j (Contains-push_cases done i j there);
+      only = λ j some. only_now j (is_eq (nat_cmp i j)) refl (updated.1.0 j) some;
+      parts = λ j g there e. parts_now j g (Contains-push_cases done i j there) e;
+      posed = λ j g there e. posed_now j g (Contains-push_cases done i j there) e;
+      models = λ known over type bind types typed m.
+          node_model p it.good type bind
+          (it.models known over type bind types (λ j g there e. typed j g (Contains-append_left done (i ∷ []) j there) e) m)
+          q i types known globals lets over f adds rooted_parts binder can (typed i f (Contains-push done i) form_is);
+    }
+
+-- the form of a node that is there
+pub form_there : (nodes : List TermNode) (i : ℕ) (d : TermNode) → i < length nodes → form_at nodes i ≡ Some (get_or nodes i d).form
+form_there nodes i d low = ap (option_map (λ (node : TermNode). node.form)) (slice_get-get_or nodes i d low)
+
+-- of a list without doubles no element stands among those before it
+take_low : (xs : List ℕ) (k m d : ℕ) → m < length (take k xs) → (m < k) × (get_or (take k xs) m d ≡ get_or xs m d)
+take_low xs zero m d low = absurd (omega arith)
+take_low [] (suc k) m d low = absurd (omega arith)
+take_low (x ∷ xs) (suc k) zero d low = (omega arith, refl)
+take_low (x ∷ xs) (suc k) (suc m) d low = let later = take_low xs k m d (omega arith) in ((let at : m < k = later.0 in omega arith), later.1)
+
+pub not_before : (xs : List ℕ) (k d : ℕ) → AllPairs (λ i j. i ≢ j) xs → k < length xs → Contains (take k xs) (get_or xs k d) → ⊥
+not_before xs k d once low (m, m_low, is) =
+    let at = take_low xs k m (get_or xs k d) m_low in
+    let before : m < k = at.0 in
+    let one : get_or xs m (get_or xs k d) ≡ get_or xs k (get_or xs k d) = sym at.1 ∙ (is ∙ get_or_default xs k d (get_or xs k d) low) in
+    once m k (get_or xs k d) before low one
