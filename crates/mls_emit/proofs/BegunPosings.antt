@@ -127,6 +127,7 @@ module _ (binders : List ℕ) (p : Posing) (it : IsBegun binders p) where
     no_head = λ x s e. no_head s;
     needs = λ need there. absurd (no_need need there);
     labels = λ need there. absurd (no_need need there);
+    around = λ need there. absurd (no_need need there);
   }
 
   pub begun_model : (type binder : ℕ → Predicate) → ((x : ℕ) → Contains binders x → IsType (binder x)) → HasModel p type binder

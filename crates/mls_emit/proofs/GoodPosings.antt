@@ -66,7 +66,7 @@ module _ (p q : Posing) (i : ℕ) (new : Added) (IsEdge : ℕ → ℕ → Type 0
   pub adds_good : ((k : ℕ) → HasGood (get_or new.states k past))
       → ((n s : ℕ) → IsEdge n s → IsState q.automaton Negative n × IsState q.automaton Positive s)
       → ((g : Goal) → Contains new.goals g → IsGoalOf q.automaton g) → IsState q.automaton Positive new.root
-      → ((need : Need) → Contains new.needs need → HasStatesIn (IsState q.automaton) Negative need.head × HasRisingLabels need.head.fields) → IsGood q
+      → ((need : Need) → Contains new.needs need → HasStatesIn (IsState q.automaton) Negative need.head × HasRisingLabels need.head.fields × HasBinder p need.binder) → IsGood q
   adds_good heads edges goals root needs = record {
     closed = record {
       heads = λ s. (state_good s (below_or_more s (size p))).0;
@@ -82,6 +82,9 @@ module _ (p q : Posing) (i : ℕ) (new : Added) (IsEdge : ℕ → ℕ → Type 0
         ap (λ (x : State). x.head) (same_state s (good.binders x s before).in_range) ∙ good.no_head x s before;
     needs = λ need there. (need_good need (Contains-append_cases p.needs new.needs need (subst (λ (ns : List Need). Contains ns need) it.needs there))).0;
     labels = λ need there. (need_good need (Contains-append_cases p.needs new.needs need (subst (λ (ns : List Need). Contains ns need) it.needs there))).1;
+    around = λ need there.
+        subst (λ bs. IsSome (get nat_cmp bs need.binder)) (sym it.binders)
+        (need_good need (Contains-append_cases p.needs new.needs need (subst (λ (ns : List Need). Contains ns need) it.needs there))).2;
   }
     where
       same_state : (s : ℕ) → s < size p → state_at q.automaton s ≡ state_at p.automaton s
@@ -112,8 +115,8 @@ module _ (p q : Posing) (i : ℕ) (new : Added) (IsEdge : ℕ → ℕ → Type 0
       root_good k s e true is = let same : new.root ≡ s = cc in subst (IsState q.automaton Positive) same root
       root_good k s e false is = old_state Positive s (good.roots k s (sym is ∙ e))
 
-      need_good : (need : Need) → Contains p.needs need ⊎ Contains new.needs need → HasStatesIn (IsState q.automaton) Negative need.head × HasRisingLabels need.head.fields
-      need_good need (inl old) = (states_more (IsState p.automaton) (IsState q.automaton) old_state Negative need.head (good.needs need old), good.labels need old)
+      need_good : (need : Need) → Contains p.needs need ⊎ Contains new.needs need → HasStatesIn (IsState q.automaton) Negative need.head × HasRisingLabels need.head.fields × HasBinder p need.binder
+      need_good need (inl old) = (states_more (IsState p.automaton) (IsState q.automaton) old_state Negative need.head (good.needs need old), good.labels need old, good.around need old)
       need_good need (inr there) = needs need there
 
 -- a known type that is there
@@ -254,10 +257,11 @@ module _ (p q : Posing) (i : ℕ) (good : IsGood p) where
           subst (λ (r : Polarity). HasStatesIn (IsState q.automaton) r (copied_need (size p) s entry).head × HasRisingLabels (copied_need (size p) s entry).head.fields) is_negative
           (subst (λ (x : State). HasStatesIn (IsState q.automaton) x.polarity x.head × HasRisingLabels x.head.fields) at (copied entry.state.0))
 
-      needed : (need : Need) → Contains (map (copied_need (size p) s) s.env) need → HasStatesIn (IsState q.automaton) Negative need.head × HasRisingLabels need.head.fields
+      needed : (need : Need) → Contains (map (copied_need (size p) s) s.env) need → HasStatesIn (IsState q.automaton) Negative need.head × HasRisingLabels need.head.fields × HasBinder p need.binder
       needed need there =
           let found = Contains-map_back (copied_need (size p) s) s.env need there in
-          subst (λ (d : Need). HasStatesIn (IsState q.automaton) Negative d.head × HasRisingLabels d.head.fields) found.2 (need_of found.0 found.1)
+          let good_need = need_of found.0 found.1 in
+          subst (λ (d : Need). HasStatesIn (IsState q.automaton) Negative d.head × HasRisingLabels d.head.fields × HasBinder p d.binder) found.2 (good_need.0, good_need.1, known.there found.0 found.1)
 
   pub node_good : (globals lets : BTreeMap ℕ Scheme) (f : TermForm) → AddsNode (known_in globals) (known_in lets) p q i f → HasPartsIn HasRoot f → HasBinderOf p f → CanPose globals lets p f → IsGood q
   node_good globals lets (form.Bound x) it parts binder can =

@@ -63,3 +63,4 @@ pub mod PosedModels
 pub mod MetNeeds
 pub mod BegunPosings
 pub mod PosedParts
+pub mod MetCopies

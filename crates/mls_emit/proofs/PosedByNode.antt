@@ -26,7 +26,7 @@ use Rattle.mls_term.specs.declared.term.TermForm.TheVariants as form
 use Rattle.mls_typing.proofs.Contexts.{same_key}
 use Rattle.mls_emit.specs.declared.pose.Need.{Need}
 use Rattle.mls_emit.specs.declared.pose.Posing.{Posing}
-use Rattle.mls_emit.specs.PosedCopies.{Extends, IsCopyAt, IsNew, IsUsePosed}
+use Rattle.mls_emit.specs.PosedCopies.{Extends, IsCopyAt, IsGood, IsNew, IsUsePosed}
 use Rattle.mls_emit.specs.PosedNodes.{HasPartsIn, IsNodePosed}
 use Rattle.mls_emit.specs.Posings.{Added, Adds, AddsNode, IsCopiedEdge, OneEdge, binder_in, copied_need, copy_added, goal, number_at, or_zero, root_in, size}
 
@@ -80,12 +80,13 @@ module _ (p q : Posing) (i : ℕ) (new : Added) (IsEdge : ℕ → ℕ → Type 0
   has_goal g there = subst (λ (gs : List Goal). Contains gs g) (sym it.goals) (Contains-append_right p.goals new.goals g there)
 
 -- the copy that a name or a let adds
-copy_there : (p q : Posing) (i : ℕ) (s : Scheme) (root : ℕ) → Adds p q i (copy_added (size p) s root) (IsCopiedEdge (size p) (binder_in p) s s.env) → IsCopyAt q s (size p)
-copy_there p q i s root it = record {
+copy_there : (p q : Posing) (i : ℕ) (s : Scheme) (root : ℕ) → IsGood p → Adds p q i (copy_added (size p) s root) (IsCopiedEdge (size p) (binder_in p) s s.env) → IsCopyAt q s (size p)
+copy_there p q i s root good it = record {
   inside =
       let all : length q.automaton.states ≡ length p.automaton.states + length (map (renamed_state (λ j. size p + j)) s.automaton.states) = ap length it.states ∙ length-append p.automaton.states (map (renamed_state (λ j. size p + j)) s.automaton.states) in
       let same : length (map (renamed_state (λ j. size p + j)) s.automaton.states) ≡ length s.automaton.states = length-map s.automaton.states (renamed_state (λ j. size p + j)) in
       omega arith;
+  behind = λ x m e. (good.binders x m (ap (λ bs. get nat_cmp bs x) (sym it.binders) ∙ e)).in_range;
   states = λ k low.
       new_state p q i (copy_added (size p) s root) (IsCopiedEdge (size p) (binder_in p) s s.env) it k
       ∙ get_or-map (renamed_state (λ j. size p + j)) s.automaton.states k past;
@@ -98,7 +99,7 @@ copy_there p q i s root it = record {
       (Contains-append_right p.needs (map (copied_need (size p) s) s.env) (copied_need (size p) s entry) (Contains-map (copied_need (size p) s) s.env entry there));
 }
 
-module _ (known_global known_let : ℕ → Option Scheme) (p q : Posing) (i : ℕ) (is_new : IsNew p i) where
+module _ (known_global known_let : ℕ → Option Scheme) (p q : Posing) (i : ℕ) (good : IsGood p) (is_new : IsNew p i) where
   abbrev HasRoot : ℕ → Type 0
   HasRoot k = IsSome (get nat_cmp p.roots k)
 
@@ -131,8 +132,8 @@ module _ (known_global known_let : ℕ → Option Scheme) (p q : Posing) (i : �
   pub node_posed : (f : TermForm) → AddsNode known_global known_let p q i f → HasPartsIn HasRoot f → Posed f
   node_posed (form.Bound x) it parts =
       subst (λ n. HasFlow q.automaton n (root_in q i)) (sym (same_binder p q i _ _ it x)) (into_root _ (binder_in p x) it refl)
-  node_posed (form.Inner k) it parts = (it.0, size p, it.1, copy_there p q i it.0 _ it.2, root_is p q i _ _ it.2)
-  node_posed (form.Global g) it parts = (it.0, size p, it.1, copy_there p q i it.0 _ it.2, root_is p q i _ _ it.2)
+  node_posed (form.Inner k) it parts = (it.0, size p, it.1, copy_there p q i it.0 _ good it.2, root_is p q i _ _ it.2)
+  node_posed (form.Global g) it parts = (it.0, size p, it.1, copy_there p q i it.0 _ good it.2, root_is p q i _ _ it.2)
   node_posed (form.Number value) it parts =
       let at = root_state _ _ it refl in
       (ap (λ (s : State). s.polarity) at, ap (λ (s : State). s.head.integer) at)
@@ -187,7 +188,7 @@ module _ (known_global known_let : ℕ → Option Scheme) (p q : Posing) (i : �
   )
   node_posed (form.Let k j l) it parts = (
     root_is p q i _ _ it.2 ∙ sym (same_root p q i _ _ it.2 is_new l parts),
-    (it.0, size p, it.1, copy_there p q i it.0 _ it.2),
+    (it.0, size p, it.1, copy_there p q i it.0 _ good it.2),
   )
   node_posed (form.Rec x j) it parts = (
     root_is p q i _ _ it ∙ sym (same_root p q i _ _ it is_new j parts),

@@ -79,6 +79,7 @@ module _ (p q : Posing) (it : Extends p q) where
   kept_copy : (s : Scheme) (n : ℕ) → IsCopyAt p s n → IsCopyAt q s n
   kept_copy s n copy = record {
     inside = let more : size p ≤ size q = it.more in let low : n + length s.automaton.states ≤ size p = copy.inside in omega arith;
+    behind = λ x m e. copy.behind x m (ap (λ bs. get nat_cmp bs x) (sym it.binders) ∙ e);
     states = λ k low. it.states (n + k) (let all : n + length s.automaton.states ≤ size p = copy.inside in omega arith) ∙ copy.states k low;
     flows = λ k l edge. it.flows (n + k) (n + l) (copy.flows k l edge);
     bound = λ entry l there edge. subst (λ m. HasFlow q.automaton m (n + l)) (sym (kept_binder entry.binder)) (it.flows (binder_in p entry.binder) (n + l) (copy.bound entry l there edge));

@@ -132,10 +132,10 @@ module _ (nodes : List TermNode) (globals lets : BTreeMap ℕ Scheme) (begun : P
     Posed r j g = IsNodePosed r.automaton (IsGoal r.goals) (root_in r) (binder_in r) (IsUsePosed (known_in globals) (known_in lets) r) j g
 
     more : Extends p q
-    more = node_extends (known_in globals) (known_in lets) p q i is_new f adds
+    more = node_extends (known_in globals) (known_in lets) p q i it.good is_new f adds
 
     updated : (root : ℕ) × Updates nat_cmp p.roots q.roots i (Some root)
-    updated = node_root (known_in globals) (known_in lets) p q i is_new f adds
+    updated = node_root (known_in globals) (known_in lets) p q i it.good is_new f adds
 
     kept_root : (j : ℕ) → IsSome (get nat_cmp p.roots j) → IsSome (get nat_cmp q.roots j)
     kept_root j some = go (get nat_cmp p.roots j) refl some
@@ -164,7 +164,7 @@ module _ (nodes : List TermNode) (globals lets : BTreeMap ℕ Scheme) (begun : P
     posed_now j g (inr new) e =
         subst (λ k. Posed q k g) new
         (let same : f ≡ g = some_is (sym form_is ∙ (ap (form_at nodes) new ∙ e)) in
-        subst (Posed q i) same (node_posed (known_in globals) (known_in lets) p q i is_new f adds rooted_parts))
+        subst (Posed q i) same (node_posed (known_in globals) (known_in lets) p q i it.good is_new f adds rooted_parts))
 
     pub pose_next : HavePosed nodes globals lets begun q (done ++ i ∷ [])
     pose_next = record {

@@ -23,3 +23,4 @@ pub mod NodeTypes
 pub mod PosedModels
 pub mod MetNeeds
 pub mod PosedParts
+pub mod MetCopies

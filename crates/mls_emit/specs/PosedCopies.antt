@@ -17,7 +17,8 @@ use Rattle.mls_emit.specs.declared.pose.Posing.{Posing}
 use Rattle.mls_emit.specs.Posings.{binder_in, copied_need, root_in, size}
 
 -- All that heads and edges name is there, with the polarity of its place; goals go from positive to negative states;
--- roots are positive; binders have negative states without a head; and what is needed names states that are there.
+-- roots are positive; binders have negative states without a head; and what is needed of them names states that are
+-- there.
 pub record IsGood (p : Posing) : Type 0 where
   pub closed : IsClosed p.automaton
   pub goals : (g : Goal) → Contains p.goals g → IsGoalOf p.automaton g
@@ -26,6 +27,7 @@ pub record IsGood (p : Posing) : Type 0 where
   pub no_head : (x s : ℕ) → get nat_cmp p.binders x ≡ Some s → head_at p.automaton s ≡ empty_head
   pub needs : (need : Need) → Contains p.needs need → HasStatesIn (IsState p.automaton) Negative need.head
   pub labels : (need : Need) → Contains p.needs need → HasRisingLabels need.head.fields
+  pub around : (need : Need) → Contains p.needs need → IsSome (get nat_cmp p.binders need.binder)
 
 -- the node has no root yet
 abbrev pub IsNew : Posing → ℕ → Type 0
@@ -41,10 +43,11 @@ pub record Extends (p q : Posing) : Type 0 where
   pub binders : q.binders ≡ p.binders
   pub needs : (need : Need) → Contains p.needs need → Contains q.needs need
 
--- The states of the known type stand from n on, with their heads and edges; the edges of its binders go from those
--- around, which need their heads.
+-- The states of the known type stand from n on, behind those of binders, with their heads and edges; the edges of its
+-- binders go from those around, which need their heads.
 pub record IsCopyAt (q : Posing) (s : Scheme) (n : ℕ) : Type 0 where
   pub inside : n + length s.automaton.states ≤ size q
+  pub behind : (x m : ℕ) → get nat_cmp q.binders x ≡ Some m → m < n
   pub states : (k : ℕ) → k < length s.automaton.states
       → state_at q.automaton (n + k) ≡ renamed_state (λ j. n + j) (state_at s.automaton k)
   pub flows : (k l : ℕ) → HasFlow s.automaton k l → HasFlow q.automaton (n + k) (n + l)

@@ -21,6 +21,7 @@ use Rattle.mls_typing.specs.Typed.{IsType}
 use Rattle.mls_deriv.specs.Steps.{form_at}
 use Rattle.mls_emit.specs.declared.pose.Posing.{Posing}
 use Rattle.mls_emit.specs.NodeTypes.{IsNodeTyped}
+use Rattle.mls_emit.specs.MetCopies.{AreSeparate}
 use Rattle.mls_emit.specs.PosedCopies.{Extends, IsGood, IsUsePosed}
 use Rattle.mls_emit.specs.PosedModels.{AreOver, HasModel}
 use Rattle.mls_emit.specs.PosedNodes.{HasPartsIn, IsNodePosed}
@@ -45,13 +46,15 @@ pub record IsBegun (binders : List ℕ) (p : Posing) : Type 0 where
   pub back : (x s : ℕ) → get nat_cmp p.binders x ≡ Some s
       → (s < length binders) × ((d : ℕ) → get_or binders s d ≡ x)
 
--- a type that is known of a name, whose binders are among these
+-- A type that is known of a name, whose binders are among these. No two of them have one state, and no head names the
+-- state of a binder.
 pub record IsKnownType (binders : List ℕ) (known : Scheme) : Type 0 where
   pub closed : IsClosed known.automaton
   pub root : IsState known.automaton Positive known.root.0
   pub states : (entry : EnvEntry) → Contains known.env entry → IsState known.automaton Negative entry.state.0
   pub around : (entry : EnvEntry) → Contains known.env entry → Contains binders entry.binder
   pub found : (entry : EnvEntry) → Contains known.env entry → state_of known.env entry.binder ≡ Some entry.state.0
+  pub separate : AreSeparate known
 
 abbrev pub HasKnownType : List ℕ → Option Scheme → Type 0
 HasKnownType binders None = ⊥
