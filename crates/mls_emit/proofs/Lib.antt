@@ -64,3 +64,4 @@ pub mod MetNeeds
 pub mod BegunPosings
 pub mod PosedParts
 pub mod MetCopies
+pub mod PartPosed

@@ -59,7 +59,7 @@ module _ (binders : List ℕ) (globals lets : BTreeMap ℕ Scheme) (begun p : Po
   binder_there : (x : ℕ) → Contains binders x → HasBinder p x
   binder_there x there = subst (λ bs. IsSome (get nat_cmp bs x)) (sym extends.binders) (it.there x there)
 
-  binder_state : (x : ℕ) → Contains binders x → IsState p.automaton Negative (binder_in p x)
+  pub binder_state : (x : ℕ) → Contains binders x → IsState p.automaton Negative (binder_in p x)
   binder_state x there = go (get nat_cmp p.binders x) refl (binder_there x there)
     where
       go : (o : Option ℕ) → get nat_cmp p.binders x ≡ o → IsSome o → IsState p.automaton Negative (binder_in p x)

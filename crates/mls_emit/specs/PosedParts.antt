@@ -10,7 +10,8 @@ use Rattle.mls_automaton.specs.declared.scheme.Scheme.{Scheme}
 use Rattle.mls_automaton.specs.Automata.{empty_head, with_state, IsState}
 use Rattle.mls_automaton.specs.Models.{IsClosed}
 use Rattle.mls_automaton.specs.Schemes.{state_of}
-use Rattle.mls_biunify.specs.Relations.{IsGoal}
+use Rattle.mls_biunify.specs.declared.goal.Goal.{Goal}
+use Rattle.mls_biunify.specs.Relations.{IsGoal, IsGoalOf}
 use Rattle.mls_term.specs.declared.term.Part.{Part}
 use Rattle.mls_term.specs.declared.term.TermForm.{TermForm}
 use Rattle.mls_term.specs.declared.term.TermForm.TheVariants as form
@@ -21,7 +22,7 @@ use Rattle.mls_typing.specs.Typed.{IsType}
 use Rattle.mls_deriv.specs.Steps.{form_at}
 use Rattle.mls_emit.specs.declared.pose.Posing.{Posing}
 use Rattle.mls_emit.specs.NodeTypes.{IsNodeTyped}
-use Rattle.mls_emit.specs.MetCopies.{AreSeparate}
+use Rattle.mls_emit.specs.MetCopies.{AreSeparate, IsUseMet}
 use Rattle.mls_emit.specs.PosedCopies.{Extends, IsGood, IsUsePosed}
 use Rattle.mls_emit.specs.PosedModels.{AreOver, HasModel}
 use Rattle.mls_emit.specs.PosedNodes.{HasPartsIn, IsNodePosed}
@@ -101,3 +102,20 @@ pub record HavePosed (nodes : List TermNode) (globals lets : BTreeMap ℕ Scheme
 abbrev pub ArePosable : List ℕ → List TermNode → List ℕ → (globals lets : BTreeMap ℕ Scheme) → Type 0
 ArePosable binders nodes part globals lets = (i : ℕ) (f : TermForm) → Contains part i → form_at nodes i ≡ Some f
     → IsPosable binders globals lets f
+
+-- The constraint of a part: it is closed, its goals go from positive to negative states, each node of the part is posed
+-- with copies of the types of its names, and wherever the types of nodes and binders are as the nodes ask, it has a
+-- model that gives them.
+pub record IsPartPosed (nodes : List TermNode) (globals lets : BTreeMap ℕ Scheme) (binders part : List ℕ) (p : Posing) :
+    Type 0 where
+  pub closed : IsClosed p.automaton
+  pub goals : (g : Goal) → Contains p.goals g → IsGoalOf p.automaton g
+  pub roots : (i : ℕ) → Contains part i → IsState p.automaton Positive (root_in p i)
+  pub around : (x : ℕ) → Contains binders x → IsState p.automaton Negative (binder_in p x)
+  pub posed : (i : ℕ) (f : TermForm) → Contains part i → form_at nodes i ≡ Some f
+      → IsNodePosed p.automaton (IsGoal p.goals) (root_in p) (binder_in p)
+      (IsUseMet (known_in globals) (known_in lets) p.automaton (root_in p) (binder_in p)) i f
+  pub models : (known : Known) → AreOver known globals lets → (type binder : ℕ → Predicate)
+      → ((i : ℕ) → IsType (type i)) → ((x : ℕ) → Contains binders x → IsType (binder x))
+      → ((i : ℕ) (f : TermForm) → Contains part i → form_at nodes i ≡ Some f → IsNodeTyped known type binder i f)
+      → HasModel p type binder

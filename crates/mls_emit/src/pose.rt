@@ -13,7 +13,7 @@ ghost use Rattle.mls_infer.specs.Joining.{AreRows, part_labels, row_field};
 ghost use Rattle.mls_term.specs.declared.term.Part.{Part};
 ghost use Rattle.mls_automaton.specs.Models.{IsClosed};
 ghost use Rattle.mls_emit.specs.MetNeeds.{AreNeeds, HasMet};
-ghost use Rattle.mls_emit.specs.PosedParts.{AddsBinder, ArePosable, HavePosed, IsBegun, IsPartList};
+ghost use Rattle.mls_emit.specs.PosedParts.{AddsBinder, ArePosable, HavePosed, IsBegun, IsPartList, IsPartPosed};
 ghost use Rattle.mls_emit.specs.Posings.{AddsNode, CanPose, known_in};
 ghost use Rattle.mls_emit.specs.Posings.{Adds, NoEdge, OneEdge, AreFieldsOf, number_at, root_in, binder_in, size};
 ghost use Rattle.mls_emit.specs.Posings.{literal_added, fun_added, apply_added, project_added, choice_added, fix_added};
@@ -488,4 +488,27 @@ pub fn meet_needs(
         automaton.set_head(state, head);
     }
     Ok(())
+}
+
+/// The constraint of a part of a term: of these nodes, each behind its parts, over the binders around the part and those
+/// that it binds. The names have these known types.
+///
+/// # Errors
+///
+/// `Memory` where memory is wanting.
+pub fn pose_part(
+    alloc: Global,
+    nodes: &[TermNode],
+    part: &[usize],
+    binders: &[usize],
+    known: &KnownTypes,
+) -> Result<Posing, Memory>
+    requires list { IsPartList nodes.now part.now }
+    requires posable { ArePosable binders.now nodes.now part.now known.now.globals known.now.lets }
+    ensures { IfOk result (IsPartPosed nodes.now known.now.globals known.now.lets binders.now part.now) }
+{
+    let mut posing = Posing::begun(alloc, binders)?;
+    posing.pose_nodes(alloc, nodes, part, known)?;
+    meet_needs(alloc, &mut posing.automaton, &posing.binders, posing.needs.as_slice())?;
+    Ok(posing)
 }
