@@ -43,3 +43,10 @@ pub mod ReadLayouts
 pub mod TreesMade
 pub mod Filled
 pub mod LongerLayouts
+pub mod CombinedParts
+pub mod TypeLayers
+pub mod TopHeads
+pub mod TypeLayouts
+pub mod SingleSets
+pub mod PrintedTypes
+pub mod PrintedLayouts
