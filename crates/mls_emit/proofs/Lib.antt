@@ -50,3 +50,4 @@ pub mod TypeLayouts
 pub mod SingleSets
 pub mod PrintedTypes
 pub mod PrintedLayouts
+pub mod WorkedReading
