@@ -2,6 +2,7 @@
 --     type_layout      the layout
 --     places_low       all places are in the book
 --     at_front         a book stands at the front of a longer one
+--     own_place        there the place of a top is its own number
 use Rattle.std.proofs.Common.{◌≡◌, ◌⊎◌, inl, inr, ℕ, suc, ◌+◌, ◌<◌, ◌≤◌, Bool, true, false, List, [], ◌∷◌, ◌++◌, map, length, Contains, refl, sym, ap, ◌∙◌, subst, arith, length-append, Option, Some, None}
 use Rattle.std.specs.Prelude.{IsTrue, cond, filter, option_map}
 use Rattle.std.proofs.Math.ListN.{get_or-append}
@@ -209,3 +210,8 @@ at_front nodes more = record {
       let same : 0 + i ≡ i = omega arith in
       ap (node_at (nodes ++ more)) same ∙ (get_or-append nodes more node.Bot i low ∙ sym (raised_none (node_at nodes i)));
 }
+
+pub own_place : (is_top : ℕ → Bool) (none : Polarity → ℕ) (b : Automaton) (s : ℕ) → IsTrue (is_top s) → read_place 0 is_top none b s ≡ s
+own_place is_top none b s top =
+    let same : 0 + s ≡ s = omega arith in
+    ap (λ t. cond t (0 + s) (none (polarity_at b s))) top ∙ same

@@ -1,5 +1,5 @@
--- Layers of a book with one function and one record at most, as those of a printed type are, and the places of the states
--- of the automaton that is read from it.
+-- Layers of a book with one function and one record at most, as those of a printed type are, and the places of the
+-- states of the automaton that is read from it.
 use Rattle.std.specs.Prelude.{◌≡◌, ℕ, ◌+◌, ◌<◌, ◌^◌, Bool, true, false, IsTrue, if◌then◌else◌, List, [], length}
 use Rattle.std.specs.Prelude.{All, Contains, Option, Some, None}
 use Rattle.mls_book.specs.declared.book.Node.{Node}
@@ -55,7 +55,7 @@ AreNoneNodes book none = (p : Polarity) → (none p < length book) × (node_at b
 abbrev pub read_place : ℕ → (is_top : ℕ → Bool) → (none : Polarity → ℕ) → Automaton → ℕ → ℕ
 read_place n is_top none b s = if is_top s then n + s else none (polarity_at b s)
 
--- the numbers of each set that a head names rise
+-- the numbers of each set that a head names rise: of those of its function, and of those of its record
 abbrev pub HasRisingArms : Option Arms → Type 0
 HasRisingArms None = Unit {0}
 HasRisingArms (Some arms) = Rises arms.domain × Rises arms.codomain
