@@ -65,3 +65,11 @@ pub mod BegunPosings
 pub mod PosedParts
 pub mod MetCopies
 pub mod PartPosed
+pub mod CombinedParts
+pub mod TypeLayers
+pub mod TopHeads
+pub mod TypeLayouts
+pub mod SingleSets
+pub mod PrintedTypes
+pub mod PrintedLayouts
+pub mod WorkedReading

@@ -29,14 +29,14 @@ use Rattle.mls_emit.specs.Uses.{Shows, IsNameLayout}
 use Rattle.mls_emit.proofs.WorkedParts.{contains_one, set_tree}
 
 -- an atom that gives a head, and one that is a variable
-abbrev is_part : Node → Bool
+abbrev pub is_part : Node → Bool
 is_part node.Bool = true
 is_part node.Int = true
 is_part (node.Arrow j k) = true
 is_part (node.Rcd fields) = true
 is_part _ = false
 
-abbrev is_variable : Node → Bool
+abbrev pub is_variable : Node → Bool
 is_variable (node.Var x) = true
 is_variable _ = false
 
@@ -133,10 +133,10 @@ module _ (book : List Node) (n : ℕ) (nodes : List Node) (from : HasFrom book n
   abbrev pub raised_place : ℕ → ℕ
   raised_place s = n + s
 
-  abbrev part_test : ℕ → Bool
+  abbrev pub part_test : ℕ → Bool
   part_test j = is_part (node_at nodes j)
 
-  abbrev variable_test : ℕ → Bool
+  abbrev pub variable_test : ℕ → Bool
   variable_test j = is_variable (node_at nodes j)
 
   abbrev pub top_parts : ℕ → List ℕ
@@ -146,15 +146,15 @@ module _ (book : List Node) (n : ℕ) (nodes : List Node) (from : HasFrom book n
   top_variables s = map raised_place (filter variable_test (atoms nodes s))
 
   -- an atom of a top, at its node
-  record IsAtomAt (test : ℕ → Bool) (s i : ℕ) : Type 0 where
-    atom : ℕ
-    there : Contains (atoms nodes s) atom
-    place : n + atom ≡ i
-    passes : test atom ≡ true
-    in_range : atom < length nodes
-    polarity : sign atom ≡ sign s
+  pub record IsAtomAt (test : ℕ → Bool) (s i : ℕ) : Type 0 where
+    pub atom : ℕ
+    pub there : Contains (atoms nodes s) atom
+    pub place : n + atom ≡ i
+    pub passes : test atom ≡ true
+    pub in_range : atom < length nodes
+    pub polarity : sign atom ≡ sign s
 
-  atom_at : (test : ℕ → Bool) (s i : ℕ) → IsTop s → Contains (map raised_place (filter test (atoms nodes s))) i → IsAtomAt test s i
+  pub atom_at : (test : ℕ → Bool) (s i : ℕ) → IsTop s → Contains (map raised_place (filter test (atoms nodes s))) i → IsAtomAt test s i
   atom_at test s i top it =
       let back = Contains-map_back raised_place (filter test (atoms nodes s)) i it in
       let there = Contains-filtered test (atoms nodes s) back.0 back.1 in
@@ -205,7 +205,7 @@ module _ (book : List Node) (n : ℕ) (nodes : List Node) (from : HasFrom book n
   atom_kind p j (node.Join k l) e passed = absurd (cc)
   atom_kind p j (node.Meet k l) e passed = absurd (cc)
 
-  a_variable : (j : ℕ) (x : Node) → node_at book (n + j) ≡ raised n x → is_variable x ≡ true → (v : ℕ) × (node_at book (n + j) ≡ node.Var v)
+  pub a_variable : (j : ℕ) (x : Node) → node_at book (n + j) ≡ raised n x → is_variable x ≡ true → (v : ℕ) × (node_at book (n + j) ≡ node.Var v)
   a_variable j (node.Var x) e passed = (x, e)
   a_variable j node.Bot e passed = absurd (cc)
   a_variable j node.Top e passed = absurd (cc)
@@ -340,7 +340,7 @@ module _ (book : List Node) (n : ℕ) (nodes : List Node) (from : HasFrom book n
     there_at : (test : ℕ → Bool) (k : ℕ) → IsAtomAt test s k → HasMember book (sign s) k (n + s)
     there_at test k it = subst (λ z. HasMember book (sign s) z (n + s)) it.place (each_atom (sign s) (suc s) s (omega arith) (tops.low s top) refl it.atom it.there)
 
-    top_tree : IsTree book (sign s) Leaf (raised_place s)
+    pub top_tree : IsTree book (sign s) Leaf (raised_place s)
     top_tree = record {
       only = only (sign s) (suc s) s (omega arith) (tops.low s top) refl (λ j there. there);
       each = λ k leaf. elim leaf [ inl it ↦ there_at part_test k (atom_at part_test s k top it) | inr it ↦ there_at variable_test k (atom_at variable_test s k top it) ];

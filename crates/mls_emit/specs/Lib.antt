@@ -24,3 +24,4 @@ pub mod PosedModels
 pub mod MetNeeds
 pub mod PosedParts
 pub mod MetCopies
+pub mod OneEach

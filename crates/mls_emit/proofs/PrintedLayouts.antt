@@ -1,0 +1,39 @@
+-- The nodes of a printed type are a layout of the automaton that is read from it, which is deterministic.
+--     read_is_laid_out, read_is_deterministic      of all books whose layers have one function and one record at most
+--     printed_tops       the layers of a printed type are such
+--     printed_layout     so its nodes are a layout, in each book that has them
+use Rattle.std.proofs.Common.{◌≡◌, ℕ, ◌^◌, ◌<◌, List, [], length}
+use Rattle.mls_book.specs.declared.book.Node.{Node}
+use Rattle.mls_automaton.specs.declared.automaton.Polarity.{Polarity}
+use Rattle.mls_automaton.specs.Automata.{Automaton}
+use Rattle.mls_automaton.specs.declared.scheme.Scheme.{Scheme}
+use Rattle.mls_automaton.specs.Schemes.{IsScheme}
+use Rattle.mls_typetext.specs.declared.scheme.ReadScheme.{ReadScheme}
+use Rattle.mls_typetext.specs.Texts.{IsTypeText}
+use Rattle.mls_print.specs.Printed.{IsPrinted, HasNamedFields}
+use Rattle.mls_deriv.specs.Steps.{HasFrom}
+use Rattle.mls_emit.specs.Layouts.{IsTypeLayout}
+use Rattle.mls_emit.specs.OneEach.{HaveOneEach, AreNoneNodes, read_place, IsReadFrom, ReadIsLaidOut, ReadIsDeterministic}
+use Rattle.mls_emit.proofs.PrintedTypes.{printed_has_one}
+use Rattle.mls_emit.proofs.SingleSets.{single_heads}
+use Rattle.mls_emit.proofs.TypeLayouts.{type_layout, places_low}
+
+pub read_is_laid_out : ReadIsLaidOut
+read_is_laid_out nodes root b it one book n from none are_none = (
+  type_layout book n nodes from it.closed it.sign it.polarised root it.is_top it.tops b it.automaton one none are_none,
+  places_low book n nodes from it.closed it.sign it.polarised root it.is_top it.tops b it.automaton one none are_none,
+)
+
+pub read_is_deterministic : ReadIsDeterministic
+read_is_deterministic nodes root b it one labels sets = single_heads nodes it.sign it.is_top b it.automaton one labels sets
+
+-- all tops are nodes of the book
+pub printed_tops : (s : Scheme) (text : List ℕ) (read : ReadScheme) → IsScheme s → HasNamedFields s.automaton → s.env ≡ [] → IsPrinted s text → length text < 2 ^ 64 → IsTypeText text read
+    → (b : Automaton) (it : IsReadFrom read.book read.root.0 b) → HaveOneEach read.book it.is_top
+printed_tops s text read is labelled no_env printed short is_text b it i top = printed_has_one s text read is labelled no_env printed short is_text i (it.tops.low i top)
+
+pub printed_layout : (s : Scheme) (text : List ℕ) (read : ReadScheme) → IsScheme s → HasNamedFields s.automaton → s.env ≡ [] → IsPrinted s text → length text < 2 ^ 64 → IsTypeText text read
+    → (b : Automaton) (it : IsReadFrom read.book read.root.0 b) (book : List Node) (n : ℕ) → HasFrom book n read.book → (none : Polarity → ℕ) → AreNoneNodes book none
+    → IsTypeLayout book b (read_place n it.is_top none b) × ((i : ℕ) → read_place n it.is_top none b i < length book)
+printed_layout s text read is labelled no_env printed short is_text b it =
+    read_is_laid_out read.book read.root.0 b it (printed_tops s text read is labelled no_env printed short is_text b it)
