@@ -43,3 +43,11 @@ pub mod ReadLayouts
 pub mod TreesMade
 pub mod Filled
 pub mod LongerLayouts
+pub mod DistinctLists
+pub mod NumberedNodes
+pub mod PlacedParts
+pub mod HeldTypes
+pub mod KeptTypes
+pub mod FoundTypes
+pub mod NodeTypes
+pub mod WorkedTypes

@@ -15,3 +15,5 @@ pub mod Scopes
 pub mod Posed
 pub mod PosedUses
 pub mod Parts
+pub mod NumberedNodes
+pub mod NodeTypes

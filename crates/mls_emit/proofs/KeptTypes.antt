@@ -1,0 +1,152 @@
+-- Families of types that are changed on the nodes of a part and on its binders alone, and what is known in a part.
+--     with_other, with_is_type        one type set
+--     AgreeOn, with_agree             the same types of the binders around
+--     allows_on                       what a scheme allows depends on the binders that it needs
+--     AreKept, kept_all, kept_less, kept_then, kept_binder
+--     known_more, known_let           what is known under one more binder, and behind a let
+use Rattle.std.proofs.Common.{◌≡◌, ◌⊎◌, inl, inr, ℕ, suc, ◌+◌, ◌<◌, ◌≤◌, Bool, true, false, cond, List, [], ◌∷◌, ◌++◌, length, refl, sym, ap, ◌∙◌, subst, arith, slice_get, Some}
+use Rattle.std.specs.Prelude.{Option, None, option_map, find, Contains, bytes_eq, ◌↔◌, IsSome}
+use Rattle.std.specs.FinMap as env
+use Rattle.std.specs.FinMap.{get-insert}
+use Rattle.std.specs.Ordering.{nat_cmp, eq_by_cmp}
+use Rattle.std.proofs.lemmas.Cmp.{nat_cmp_total}
+use Rattle.std.proofs.lemmas.List.Elements.{Contains-append_left, Contains-append_right}
+use Rattle.std.proofs.lemmas.Slice.Eq.{bytes_eq-Decides}
+use Rattle.std.proofs.lemmas.Option.{slice_get_within}
+use Rattle.std.proofs.iter.runs.Lists.{nth_left, nth_right}
+use Rattle.mls_book.specs.declared.book.Field.{Field}
+use Rattle.mls_book.specs.declared.book.NodeId.{NodeId}
+use Rattle.mls_book.specs.declared.book.Node.{Node}
+use Rattle.mls_book.specs.Books.{field_at}
+use Rattle.mls_book.specs.Predicates.{Predicate, Implies, top, bool, int, arrow, rcd}
+use Rattle.mls_book.specs.Passes.{passes, passes_by, field_values}
+use Rattle.mls_book.specs.Schemes.{Scheme, IsScheme, Subsumes, binder_passes}
+use Rattle.mls_book.proofs.Constructors.{arrow-implies, rcd-implies, IsFieldwise}
+use Rattle.mls_book.proofs.Depths.{Implies-refl, Implies-trans, Implies-same, Implies-same_back}
+use Rattle.mls_term.specs.declared.term.Part.{Part}
+use Rattle.mls_term.specs.declared.term.TermNode.{TermNode}
+use Rattle.mls_term.specs.Terms.{TermTree, TermFields, bound, inner, global, number, truth, fun, apply, make, project, choice, local, fix, no_field, a_field, before, field_nodes, field_roots, postorder}
+use Rattle.mls_term.specs.Derivations.{Known, with_let, HaveLabels, labels_of}
+use Rattle.mls_term.specs.WellFormed.{IsScoped, AreScoped, binders_of, field_binders_of}
+use Rattle.mls_term.proofs.Metatheory.{AreSchemes-let, IsMoreGeneral-refl, IsMoreGeneral-let}
+use Rattle.mls_typing.specs.Typed.{Types, type_of, needs_of, IsType, with_binder, IsTyped, Allows, OfBound, OfFun, OfApply, one_field, OfProject, OfChoice, OfFix, AllOf, OfMake}
+use Rattle.mls_typing.proofs.Contexts.{same_key}
+use Rattle.mls_typing.proofs.Instances.{Allows-subsumes, IsTyped-derived, typed_under, instance_is_type}
+use Rattle.mls_typing.proofs.Lists.{Contains-here, Contains-later, Contains-cases, nothing_in}
+use Rattle.mls_typing.proofs.TypedForms.{same_self, with_binder-same, generated, rule_allows, typed_number, typed_truth, typed_bound}
+use Rattle.mls_typing.proofs.TypedParts.{typed_fun, typed_fix}
+use Rattle.mls_typing.proofs.TypedUses.{typed_apply, typed_project, typed_choice}
+use Rattle.mls_typing.proofs.TypedMake.{typed_make}
+use Rattle.mls_typing.proofs.TypedLet.{LetParts, let_parts, typed_more_general}
+use Rattle.mls_emit.specs.NodeTypes.{part_types, AreTyped, AreAllTyped, NeedsOnly, AllowsAll, LetsAllow, AllLetsAllow, IsKnownHere, HasNodeTypes, NodesHaveTypes}
+use Rattle.mls_emit.specs.NumberedNodes.{behind, IsPlaced}
+use Rattle.mls_emit.proofs.DistinctLists.{AreDistinct, distinct_left, distinct_right, distinct_both, distinct_rest, distinct_first}
+use Rattle.mls_emit.proofs.HeldTypes.{top_type, bool_type, int_type, arrow_type, record_type}
+use Rattle.mls_emit.proofs.NumberedNodes.{before-fun, before-fix, before-project, before-apply, before-local, before-choice, before-make, nodes-a_field}
+
+-- one type set
+pub with_other : (types : ℕ → Predicate) (x : ℕ) (f : Predicate) (y : ℕ) → (y ≡ x → ⊥) → with_binder types x f y ≡ types y
+with_other types x f y differs = at (eq_by_cmp nat_cmp y x) refl
+  where
+    at : (b : Bool) → eq_by_cmp nat_cmp y x ≡ b → cond b f (types y) ≡ types y
+    at true e = absurd (differs (same_key y x e))
+    at false e = refl
+
+pub with_is_type : (types : ℕ → Predicate) (x : ℕ) (f : Predicate) (y : ℕ) → IsType f → IsType (types y) → IsType (with_binder types x f y)
+with_is_type types x f y is others = at (eq_by_cmp nat_cmp y x)
+  where
+    at : (b : Bool) → IsType (cond b f (types y))
+    at true = is
+    at false = others
+
+-- the same for these binders
+abbrev pub AgreeOn : List ℕ → Types → Types → Type 0
+AgreeOn scope types others = (x : ℕ) → Contains scope x → types x ≡ others x
+
+pub with_agree : (scope : List ℕ) (x : ℕ) (f : Predicate) (types others : Types) → AgreeOn scope types others → AgreeOn (x ∷ scope) (with_binder types x f) (with_binder others x f)
+with_agree scope x f types others agree y inside = at (eq_by_cmp nat_cmp y x) refl (Contains-cases x scope y inside)
+  where
+    at : (b : Bool) → eq_by_cmp nat_cmp y x ≡ b → (x ≡ y) ⊎ Contains scope y → cond b f (types y) ≡ cond b f (others y)
+    at true e which = refl
+    at false e (inl same) = let own : eq_by_cmp nat_cmp y x ≡ true = (λ k. eq_by_cmp nat_cmp (sym same k) x) ∙ same_self x in absurd (cc)
+    at false e (inr there) = agree y there
+
+-- what a scheme allows depends on the binders that it needs alone
+pub allows_on : (scope : List ℕ) (s : Scheme) (types others : Types) (f g : Predicate) → NeedsOnly scope s → AgreeOn scope others types → (a : Allows s types f) → Implies (passes_by a.reading s.book s.root) g → Allows s others g
+allows_on scope s types others f g needs agree a below = record {
+  book = a.book;
+  closed = a.closed;
+  reading = a.reading;
+  held = a.held;
+  root = below;
+  env = λ x. at x (env.get s.env x) refl;
+}
+  where
+    at : (x : ℕ) (o : Option ℕ) → env.get s.env x ≡ o → Implies (others x) (binder_passes (passes_by a.reading s.book) (env.get s.env x))
+    at x None e = subst (λ o. Implies (others x) (binder_passes (passes_by a.reading s.book) o)) (sym e) (λ t h. refl)
+    at x (Some i) e = Implies-trans (others x) (types x) (binder_passes (passes_by a.reading s.book) (env.get s.env x)) (Implies-same (others x) (types x) (agree x (needs x i e))) (a.env x)
+
+-- Families of types are kept: on the nodes before n and on all binders but these.
+pub record AreKept (n : ℕ) (bs : List ℕ) (old : ℕ → Predicate) (olds : Types) (type : ℕ → Predicate) (binder : Types) : Type 0 where
+  pub nodes : (m : ℕ) → m < n → type m ≡ old m
+  pub binders : (x : ℕ) → (Contains bs x → ⊥) → binder x ≡ olds x
+  pub nodes_are : ((m : ℕ) → IsType (old m)) → (m : ℕ) → IsType (type m)
+  pub binders_are : (x : ℕ) → IsType (olds x) → IsType (binder x)
+
+pub kept_all : (n : ℕ) (bs : List ℕ) (old : ℕ → Predicate) (olds : Types) → AreKept n bs old olds old olds
+kept_all n bs old olds = record { nodes = λ m low. refl; binders = λ x out. refl; nodes_are = λ are. are; binders_are = λ x is. is }
+
+pub kept_less : (n m : ℕ) (bs cs : List ℕ) (old : ℕ → Predicate) (olds : Types) (type : ℕ → Predicate) (binder : Types) → n ≤ m → ((x : ℕ) → Contains bs x → Contains cs x)
+    → AreKept m bs old olds type binder → AreKept n cs old olds type binder
+kept_less n m bs cs old olds type binder le more kept = record {
+  nodes = λ k low. let low' : k < n = low in kept.nodes k (omega arith);
+  binders = λ x out. kept.binders x (λ inside. out (more x inside));
+  nodes_are = kept.nodes_are;
+  binders_are = kept.binders_are;
+}
+
+pub kept_then : (n m : ℕ) (bs cs : List ℕ) (old : ℕ → Predicate) (olds : Types) (type : ℕ → Predicate) (binder : Types) (next : ℕ → Predicate) (nexts : Types) → n ≤ m
+    → AreKept n bs old olds type binder → AreKept m cs type binder next nexts → AreKept n (bs ++ cs) old olds next nexts
+kept_then n m bs cs old olds type binder next nexts le one two = record {
+  nodes = λ k low. let low' : k < n = low in two.nodes k (omega arith) ∙ one.nodes k low;
+  binders = λ x out. two.binders x (λ inside. out (Contains-append_right bs cs x inside)) ∙ one.binders x (λ inside. out (Contains-append_left bs cs x inside));
+  nodes_are = λ are. two.nodes_are (one.nodes_are are);
+  binders_are = λ x is. two.binders_are x (one.binders_are x is);
+}
+
+-- one more binder, of this type
+pub kept_binder : (n : ℕ) (x : ℕ) (bs : List ℕ) (f : Predicate) → IsType f → (old : ℕ → Predicate) (olds : Types) (type : ℕ → Predicate) (binder : Types)
+    → AreKept n bs old (with_binder olds x f) type binder → AreKept n (x ∷ bs) old olds type binder
+kept_binder n x bs f is old olds type binder kept = record {
+  nodes = kept.nodes;
+  binders = λ y out. kept.binders y (λ inside. out (Contains-later x bs y inside)) ∙ with_other olds x f y (λ same. let P : ℕ → Type 0 = λ z. Contains (x ∷ bs) z in out (subst P (sym same) (Contains-here x bs)));
+  nodes_are = kept.nodes_are;
+  binders_are = λ y other. kept.binders_are y (with_is_type olds x f y is other);
+}
+
+-- what is known under one more binder, and behind a let
+pub known_more : (known : Known) (scope : List ℕ) (here : Known) (x : ℕ) → IsKnownHere known scope here → IsKnownHere known (x ∷ scope) here
+known_more known scope here x it = record {
+  schemes = it.schemes;
+  globals = it.globals;
+  lets = it.lets;
+  globals_need = λ g s e y i has. Contains-later x scope y (it.globals_need g s e y i has);
+  lets_need = λ k s e y i has. Contains-later x scope y (it.lets_need k s e y i has);
+}
+
+pub known_let : (known : Known) (scope : List ℕ) (here : Known) (k : ℕ) (s : Scheme) → env.get known.lets k ≡ Some s → IsScheme s → NeedsOnly scope s → IsKnownHere known scope here → IsKnownHere known scope (with_let here k s)
+known_let known scope here k s known_is is needs it = record {
+  schemes = AreSchemes-let here k s it.schemes is;
+  globals = it.globals;
+  lets = λ q u e. by_key q u (eq_by_cmp nat_cmp q k) refl (sym (get-insert nat_cmp_total here.lets k s q) ∙ e);
+  globals_need = it.globals_need;
+  lets_need = λ q u e. needs_by_key q u (eq_by_cmp nat_cmp q k) (sym (get-insert nat_cmp_total here.lets k s q) ∙ e);
+}
+  where
+    by_key : (q : ℕ) (u : Scheme) (b : Bool) → eq_by_cmp nat_cmp q k ≡ b → cond b (Some s) (env.get here.lets q) ≡ Some u → env.get known.lets q ≡ Some u
+    by_key q u true key e = ap (λ z. env.get known.lets z) (same_key q k key) ∙ (known_is ∙ e)
+    by_key q u false key e = it.lets q u e
+
+    needs_by_key : (q : ℕ) (u : Scheme) (b : Bool) → cond b (Some s) (env.get here.lets q) ≡ Some u → NeedsOnly scope u
+    needs_by_key q u true e = let same : s ≡ u = cc in let P : Scheme → Type 0 = λ u. NeedsOnly scope u in subst P same needs
+    needs_by_key q u false e = it.lets_need q u e

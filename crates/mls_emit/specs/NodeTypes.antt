@@ -1,0 +1,138 @@
+-- Types of all nodes and binders of a part of a term: what each form asks of the type of its node, by the types of its
+-- parts and of its binder. The first part of a let is a part of its own, and no node of the part around it.
+use Rattle.std.specs.Prelude.{◌≡◌, ◌≢◌, ℕ, ◌+◌, ◌<◌, List, [], ◌∷◌, ◌++◌, length, Contains, bytes_eq, find, slice_get}
+use Rattle.std.specs.Prelude.{option_map, Option, Some}
+use Rattle.std.specs.List.{AllPairs}
+use Rattle.std.specs.FinMap as env
+use Rattle.mls_book.specs.Predicates.{Predicate, Implies, top, bool, int, arrow, rcd}
+use Rattle.mls_book.specs.Schemes.{Scheme, IsScheme}
+use Rattle.mls_term.specs.declared.term.Part.{Part}
+use Rattle.mls_term.specs.declared.term.TermNode.{TermNode}
+use Rattle.mls_term.specs.declared.term.TermForm.TheVariants as form
+use Rattle.mls_term.specs.Terms.{TermTree, TermFields, bound, inner, global, number, truth, fun, apply, make, project}
+use Rattle.mls_term.specs.Terms.{choice, local, fix, no_field, a_field, before, postorder}
+use Rattle.mls_term.specs.Derivations.{Known, with_let}
+use Rattle.mls_term.specs.TypingLaws.{AreSchemes}
+use Rattle.mls_term.specs.WellFormed.{IsScoped, binders_of}
+use Rattle.mls_typing.specs.Typed.{Types, IsType, IsTyped, Allows, one_field}
+use Rattle.mls_deriv.specs.Steps.{form_at}
+use Rattle.mls_emit.specs.NumberedNodes.{IsPlaced}
+
+-- the type of the part at each label of a record
+abbrev pub part_types : (ℕ → Predicate) → List Part → List ℕ → Option Predicate
+part_types type parts label =
+    option_map (λ part. type part.child) (find (λ part. bytes_eq part.label label) parts)
+
+-- Node i is the root of this tree, and the nodes of the tree and its binders have types as the forms ask. A name has an
+-- instance of its scheme, and of each let the scheme of the first part has one at all. `known` has the schemes of all
+-- lets, also of those that are not in scope.
+module _ (nodes : List TermNode) (known : Known) (type : ℕ → Predicate) (binder : Types) where
+  abbrev mutual
+    pub AreTyped : ℕ → TermTree → Type 0
+    AreTyped i (bound at x) = (form_at nodes i ≡ Some (form.Bound x)) × Implies (binder x) (type i)
+    AreTyped i (inner at k) =
+        (form_at nodes i ≡ Some (form.Inner k))
+        × (s : Scheme) × (env.get known.lets k ≡ Some s) × Allows s binder (type i)
+    AreTyped i (global at g) =
+        (form_at nodes i ≡ Some (form.Global g))
+        × (s : Scheme) × (slice_get known.globals g ≡ Some s) × Allows s binder (type i)
+    AreTyped i (number at value) = (form_at nodes i ≡ Some (form.Number value)) × Implies int (type i)
+    AreTyped i (truth at value) = (form_at nodes i ≡ Some (form.Truth value)) × Implies bool (type i)
+    AreTyped i (fun at x e) =
+        (j : ℕ) × (form_at nodes i ≡ Some (form.Fun x j))
+        × Implies (arrow (binder x) (type j)) (type i)
+        × AreTyped j e
+    AreTyped i (apply at e f) =
+        (j k : ℕ) × (form_at nodes i ≡ Some (form.Apply j k))
+        × Implies (type j) (arrow (type k) (type i))
+        × AreTyped j e × AreTyped k f
+    AreTyped i (make at fields) =
+        (parts : List Part) × (form_at nodes i ≡ Some (form.Make parts))
+        × Implies (rcd (part_types type parts)) (type i)
+        × AreAllTyped parts fields
+    AreTyped i (project at e label) =
+        (j : ℕ) × (form_at nodes i ≡ Some (form.Project j label))
+        × Implies (type j) (rcd (one_field label (type i)))
+        × AreTyped j e
+    AreTyped i (choice at c e f) =
+        (j k l : ℕ) × (form_at nodes i ≡ Some (form.If j k l))
+        × Implies (type j) bool × Implies (type k) (type i) × Implies (type l) (type i)
+        × AreTyped j c × AreTyped k e × AreTyped l f
+    AreTyped i (local at k e f) =
+        (j l : ℕ) × (form_at nodes i ≡ Some (form.Let k j l))
+        × (type i ≡ type l)
+        × ((s : Scheme) × (env.get known.lets k ≡ Some s) × Allows s binder top)
+        × AreTyped l f
+    AreTyped i (fix at x e) =
+        (j : ℕ) × (form_at nodes i ≡ Some (form.Rec x j))
+        × (type i ≡ type j) × Implies (type j) (binder x)
+        × AreTyped j e
+
+    -- the parts of a record
+    pub AreAllTyped : List Part → TermFields → Type 0
+    AreAllTyped parts no_field = parts ≡ []
+    AreAllTyped parts (a_field label e rest) =
+        (j : ℕ) × (others : List Part) × (parts ≡ record { label = label; child = j } ∷ others)
+        × AreTyped j e × AreAllTyped others rest
+
+-- the scheme needs these binders alone
+abbrev pub NeedsOnly : List ℕ → Scheme → Type 0
+NeedsOnly scope s = (x i : ℕ) → env.get s.env x ≡ Some i → Contains scope x
+
+-- the scheme needs these binders alone, and allows every type that the expression has where these names are known
+pub record AllowsAll (scope : List ℕ) (here : Known) (t : TermTree) (s : Scheme) : Type 0 where
+  pub is : IsScheme s
+  pub needs : NeedsOnly scope s
+  pub all : (types : Types) (f : Predicate) → IsTyped here types t f → Allows s types f
+
+-- Each let of a part has a scheme that allows all types of its first part, where these binders are around the part and
+-- these names are known there.
+module _ (known : Known) where
+  abbrev mutual
+    pub LetsAllow : (scope : List ℕ) → (here : Known) → TermTree → Type 0
+    LetsAllow scope here (bound at x) = Unit {0}
+    LetsAllow scope here (inner at k) = Unit {0}
+    LetsAllow scope here (global at g) = Unit {0}
+    LetsAllow scope here (number at value) = Unit {0}
+    LetsAllow scope here (truth at value) = Unit {0}
+    LetsAllow scope here (fun at x e) = LetsAllow (x ∷ scope) here e
+    LetsAllow scope here (apply at e f) = LetsAllow scope here e × LetsAllow scope here f
+    LetsAllow scope here (make at fields) = AllLetsAllow scope here fields
+    LetsAllow scope here (project at e label) = LetsAllow scope here e
+    LetsAllow scope here (choice at c e f) =
+        LetsAllow scope here c × LetsAllow scope here e × LetsAllow scope here f
+    LetsAllow scope here (local at k e f) =
+        (s : Scheme) × (env.get known.lets k ≡ Some s) × AllowsAll scope here e s
+        × LetsAllow scope (with_let here k s) f
+    LetsAllow scope here (fix at x e) = LetsAllow (x ∷ scope) here e
+
+    pub AllLetsAllow : (scope : List ℕ) → (here : Known) → TermFields → Type 0
+    AllLetsAllow scope here no_field = Unit {0}
+    AllLetsAllow scope here (a_field label e rest) = LetsAllow scope here e × AllLetsAllow scope here rest
+
+-- what is known in one place: the names there, by schemes that need these binders alone
+pub record IsKnownHere (known : Known) (scope : List ℕ) (here : Known) : Type 0 where
+  pub schemes : AreSchemes here
+  pub globals : here.globals ≡ known.globals
+  pub lets : (k : ℕ) (s : Scheme) → env.get here.lets k ≡ Some s → env.get known.lets k ≡ Some s
+  pub globals_need : (g : ℕ) (s : Scheme) → slice_get here.globals g ≡ Some s → NeedsOnly scope s
+  pub lets_need : (k : ℕ) (s : Scheme) → env.get here.lets k ≡ Some s → NeedsOnly scope s
+
+-- Types of all nodes and binders, with this type of the binders around and the root below this type.
+pub record HasNodeTypes (nodes : List TermNode) (known : Known) (types : Types) (n : ℕ) (t : TermTree) (f : Predicate)
+    : Type 0 where
+  pub type : ℕ → Predicate
+  pub binder : Types
+  pub typed : AreTyped nodes known type binder (n + before t) t
+  pub root : Implies (type (n + before t)) f
+  pub around : (x : ℕ) → (Contains (binders_of t) x → ⊥) → binder x ≡ types x
+  pub types_are : (i : ℕ) → IsType (type i)
+  pub binders_are : (x : ℕ) → IsType (types x) → IsType (binder x)
+
+-- where a part has a type, its nodes and binders have types
+abbrev pub NodesHaveTypes : Type 0
+NodesHaveTypes =
+    (nodes : List TermNode) (known : Known) (scope : List ℕ) (here : Known) (n : ℕ) (t : TermTree)
+    → IsPlaced nodes scope n t → IsKnownHere known scope here → LetsAllow known scope here t
+    → (types : Types) (f : Predicate) → IsTyped here types t f
+    → HasNodeTypes nodes known types n t f
