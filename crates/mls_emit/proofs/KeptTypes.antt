@@ -1,11 +1,16 @@
 -- Families of types that are changed on the nodes of a part and on its binders alone, and what is known in a part.
 --     with_other, with_is_type        one type set
 --     AgreeOn, with_agree             the same types of the binders around
+--     reset                           the type `top` for some binders
 --     allows_on                       what a scheme allows depends on the binders that it needs
 --     AreKept, kept_all, kept_less, kept_then, kept_binder
 --     known_more, known_let           what is known under one more binder, and behind a let
 use Rattle.std.proofs.Common.{◌≡◌, ◌⊎◌, inl, inr, ℕ, suc, ◌+◌, ◌<◌, ◌≤◌, Bool, true, false, cond, List, [], ◌∷◌, ◌++◌, length, refl, sym, ap, ◌∙◌, subst, arith, slice_get, Some}
 use Rattle.std.specs.Prelude.{Option, None, option_map, find, Contains, bytes_eq, ◌↔◌, IsSome}
+use Rattle.std.specs.Prelude.{◌==◌}
+use Rattle.std.specs.List.{list_any}
+use Rattle.std.proofs.lemmas.Bool.{eqb-true, eq-eqb}
+use Rattle.mls_automaton.proofs.Lists.{any_found, found_any}
 use Rattle.std.specs.FinMap as env
 use Rattle.std.specs.FinMap.{get-insert}
 use Rattle.std.specs.Ordering.{nat_cmp, eq_by_cmp}
@@ -70,6 +75,24 @@ with_agree scope x f types others agree y inside = at (eq_by_cmp nat_cmp y x) re
     at true e which = refl
     at false e (inl same) = let own : eq_by_cmp nat_cmp y x ≡ true = (λ k. eq_by_cmp nat_cmp (sym same k) x) ∙ same_self x in absurd (cc)
     at false e (inr there) = agree y there
+
+-- the type `top` for these binders
+abbrev pub reset : List ℕ → Types → Types
+reset bs types x = cond (list_any (λ y. y == x) bs) top (types x)
+
+pub reset_inside : (bs : List ℕ) (types : Types) (x : ℕ) → Contains bs x → IsType (reset bs types x)
+reset_inside bs types x inside =
+    subst (λ b. IsType (cond b top (types x))) (sym (found_any (λ y. y == x) bs x inside (eq-eqb x x refl))) top_type
+
+pub reset_outside : (bs : List ℕ) (types : Types) (x : ℕ) → (Contains bs x → ⊥) → reset bs types x ≡ types x
+reset_outside bs types x out = at (list_any (λ y. y == x) bs) refl
+  where
+    at : (b : Bool) → list_any (λ y. y == x) bs ≡ b → cond b top (types x) ≡ types x
+    at true e =
+        let it = any_found (λ y. y == x) bs e in
+        let P : ℕ → Type 0 = λ z. Contains bs z in
+        absurd (out (subst P (eqb-true it.0 x it.2) it.1))
+    at false e = refl
 
 -- what a scheme allows depends on the binders that it needs alone
 pub allows_on : (scope : List ℕ) (s : Scheme) (types others : Types) (f g : Predicate) → NeedsOnly scope s → AgreeOn scope others types → (a : Allows s types f) → Implies (passes_by a.reading s.book s.root) g → Allows s others g

@@ -1,8 +1,9 @@
--- Worked types of nodes: of `fun x -> x`, and of `let k = fun x -> x in k`, where the let's scheme is the best one of its first part.
+-- Worked types of nodes: of `fun x -> x`, and of `let k = fun x -> x in k`.
 --     identity_types       each type of `fun x -> x` is above a function from a type to itself
---     let_types            so is each type of the let
+--     let_types            and the let, whose name has the best scheme of its first part
 use Rattle.std.proofs.Common.{◌≡◌, ◌≢◌, ℕ, zero, suc, ◌+◌, ◌<◌, List, [], ◌∷◌, refl, sym, ap, ◌∙◌, subst, arith, slice_get, Some, length}
-use Rattle.std.specs.Prelude.{Contains, All}
+use Rattle.std.specs.Prelude.{Contains, None}
+use Rattle.mls_typing.proofs.Lists.{Contains-here, nothing_in}
 use Rattle.std.specs.FinMap as env
 use Rattle.std.specs.FinMap.{get-empty, get-insert}
 use Rattle.std.specs.Ordering.{nat_cmp}
@@ -40,7 +41,7 @@ abbrev nothing : Known
 nothing = record { globals = []; lets = env.empty }
 
 no_lets : (k : ℕ) (s : Scheme) → env.get nothing.lets k ≡ Some s → ⊥
-no_lets k s e = let absent : env.get nothing.lets k ≡ _ = get-empty nat_cmp k in cc
+no_lets k s e = let absent : env.get nothing.lets k ≡ None = get-empty nat_cmp k in absurd (cc)
 
 known_nothing : (known : Known) → [] ≡ known.globals → IsKnownHere known [] nothing
 known_nothing known none = record {
@@ -56,11 +57,85 @@ identity_placed = record {
   numbers = numbered_whole (postorder 0 identity) identity refl;
   lets = [];
   globals = 0;
-  scoped = ?;
-  once = ?;
-  apart = ?;
+  scoped = Contains-here 0 [];
+  once = λ i j d before low same. absurd (omega arith);
+  apart = λ x around inside. nothing_in x around;
 }
 
 -- each type of `fun x -> x` is above a function from a type to itself
 pub identity_types : (types : Types) (f : Predicate) → IsTyped nothing types identity f → (g : Predicate) × IsType g × Implies (arrow g g) f
-identity_types types f h = ?
+identity_types types f h =
+    let it : HasNodeTypes (postorder 0 identity) nothing types 0 identity f =
+    nodes_have_types (postorder 0 identity) nothing [] nothing 0 identity identity_placed (known_nothing nothing refl) tt types f h in
+    let g : Predicate = it.binder 0 in
+    let i : ℕ = 0 + before identity in
+    let j : ℕ = it.typed.0 in (
+      g,
+      it.binders_are 0 (Contains-here 0 []),
+      Implies-trans (arrow g g) (it.type i) f
+          (Implies-trans (arrow g g) (arrow g (it.type j)) (it.type i) (arrow-implies g g g (it.type j) (Implies-refl g) it.typed.3.1) it.typed.2)
+          it.root,
+    )
+
+-- a -> a
+abbrev best_book : List Node
+best_book = node.Var 0 ∷ node.Arrow (record { 0 = 0 }) (record { 0 = 0 }) ∷ []
+
+best_closed : IsClosedBook best_book
+best_closed = closed_from best_book at
+  where
+    at : (i : ℕ) → i < 2 → IsGood 2 (0 + i) (node_at best_book i)
+    at zero low = record { ordered = tt; below = tt }
+    at (suc zero) low = record { ordered = tt; below = (omega arith, omega arith) }
+    at (suc (suc i)) low = absurd (omega arith)
+
+abbrev best : Scheme
+best = record { book = best_book; env = env.empty; root = 1 }
+
+-- it allows each type of `fun x -> x`
+best_allows : AllowsAll [] nothing identity best
+best_allows = record {
+  is = is_scheme-empty best_book best_closed 1 (omega arith);
+  needs = λ x i e. let absent : env.get (env.empty {X = ℕ} {R = nat_cmp}) x ≡ None = get-empty nat_cmp x in absurd (cc);
+  all = λ types f h.
+      let it = identity_types types f h in
+      record {
+        book = it.1.0;
+        closed = it.1.1;
+        reading = λ x. it.0;
+        held = λ x. it.1.2;
+        root =
+            Implies-trans (passes_by (λ x. it.0) best_book 1) (arrow it.0 it.0) f
+            (Implies-same (passes_by (λ x. it.0) best_book 1) (arrow it.0 it.0)
+            (value-arrow (λ x. it.0) best_book best_closed.book 1 (record { 0 = 0 }) (record { 0 = 0 }) refl
+            ∙ (let at : passes_by (λ x. it.0) best_book 0 ≡ it.0 = value-var (λ x. it.0) best_book best_closed.book 0 0 refl in λ k. arrow (at k) (at k))))
+            it.2;
+        env = λ x. subst (λ o. Implies (types x) (binder_passes (passes_by (λ x. it.0) best_book) o)) (sym (get-empty nat_cmp x)) (λ t e. refl);
+      };
+}
+
+-- let k = fun x -> x in k
+abbrev the_let : TermTree
+the_let = local 0 0 identity (inner 9 0)
+
+-- its name has the best scheme
+abbrev known : Known
+known = record { globals = []; lets = env.insert env.empty 0 best }
+
+known_best : env.get known.lets 0 ≡ Some best
+known_best = get-insert nat_cmp_total env.empty 0 best 0
+
+let_placed : IsPlaced (postorder 0 the_let) [] 0 the_let
+let_placed = record {
+  numbers = numbered_whole (postorder 0 the_let) the_let refl;
+  lets = [];
+  globals = 0;
+  scoped = (Contains-here 0 [], Contains-here 0 []);
+  once = λ i j d before low same. absurd (omega arith);
+  apart = λ x around inside. nothing_in x around;
+}
+
+-- wherever the let has a type, so has each of its nodes, and the name has an instance of the best scheme
+pub let_types : (types : Types) (f : Predicate) → IsTyped nothing types the_let f → HasNodeTypes (postorder 0 the_let) known types 0 the_let f
+let_types types f h =
+    nodes_have_types (postorder 0 the_let) known [] nothing 0 the_let let_placed (known_nothing known refl) (best, known_best, best_allows, tt) types f h

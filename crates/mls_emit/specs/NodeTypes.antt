@@ -118,7 +118,7 @@ pub record IsKnownHere (known : Known) (scope : List ℕ) (here : Known) : Type 
   pub globals_need : (g : ℕ) (s : Scheme) → slice_get here.globals g ≡ Some s → NeedsOnly scope s
   pub lets_need : (k : ℕ) (s : Scheme) → env.get here.lets k ≡ Some s → NeedsOnly scope s
 
--- Types of all nodes and binders, with this type of the binders around and the root below this type.
+-- Types of all nodes and binders, with these types of the binders around, and the root below this type.
 pub record HasNodeTypes (nodes : List TermNode) (known : Known) (types : Types) (n : ℕ) (t : TermTree) (f : Predicate)
     : Type 0 where
   pub type : ℕ → Predicate
@@ -127,7 +127,7 @@ pub record HasNodeTypes (nodes : List TermNode) (known : Known) (types : Types) 
   pub root : Implies (type (n + before t)) f
   pub around : (x : ℕ) → (Contains (binders_of t) x → ⊥) → binder x ≡ types x
   pub types_are : (i : ℕ) → IsType (type i)
-  pub binders_are : (x : ℕ) → IsType (types x) → IsType (binder x)
+  pub binders_are : (x : ℕ) → Contains (binders_of t) x → IsType (binder x)
 
 -- where a part has a type, its nodes and binders have types
 abbrev pub NodesHaveTypes : Type 0
