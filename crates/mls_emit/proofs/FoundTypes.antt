@@ -145,9 +145,7 @@ module _ (nodes : List TermNode) (known : Known) where
         leaf scope n (inner at k) f (passes_by a.reading s.book s.root) old olds (instance_is_type s is types f a s.root is.root) a.root
         (λ T B same same_B. (
           placed.numbers,
-          s,
-          known_here.lets k s known_is,
-          name_typed s is (known_here.lets_need k s known_is) a (T (n + before (inner at k))) B same same_B,
+          (s, known_here.lets k s known_is, name_typed s is (known_here.lets_need k s known_is) a (T (n + before (inner at k))) B same same_B),
         ))
 
     pub global_found : (at g : ℕ) → IsPlaced nodes scope n (global at g) → IsTyped here types (global at g) f → IsFound scope n (global at g) f old olds
@@ -159,9 +157,7 @@ module _ (nodes : List TermNode) (known : Known) where
         leaf scope n (global at g) f (passes_by a.reading s.book s.root) old olds (instance_is_type s is types f a s.root is.root) a.root
         (λ T B same same_B. (
           placed.numbers,
-          s,
-          ap (λ ss. slice_get ss g) (sym known_here.globals) ∙ known_is,
-          name_typed s is (known_here.globals_need g s known_is) a (T (n + before (global at g))) B same same_B,
+          (s, ap (λ ss. slice_get ss g) (sym known_here.globals) ∙ known_is, name_typed s is (known_here.globals_need g s known_is) a (T (n + before (global at g))) B same same_B),
         ))
 
     pub number_found : (at value : ℕ) → IsPlaced nodes scope n (number at value) → IsTyped here types (number at value) f → IsFound scope n (number at value) f old olds
@@ -188,10 +184,12 @@ module _ (nodes : List TermNode) (known : Known) where
         let at_binder : B x ≡ g = same_B x (inr (Contains-here x (binders_of e))) ∙ (it.kept.binders x (distinct_first x (binders_of e) placed.once) ∙ with_binder-same olds x g) in
         let at_body : T j ≡ it.type j = same_T j (omega arith) in (
           j,
-          placed.numbers.0,
-          Implies-trans (arrow (B x) (T j)) (arrow g h) (T i)
-              (arrow-implies (B x) (T j) g h (Implies-same_back (B x) g at_binder) (Implies-trans (T j) (it.type j) h (Implies-same (T j) (it.type j) at_body) it.root))
-              (Implies-same_back (T i) (arrow g h) same),
+          (
+            placed.numbers.0,
+            Implies-trans (arrow (B x) (T j)) (arrow g h) (T i)
+                (arrow-implies (B x) (T j) g h (Implies-same_back (B x) g at_binder) (Implies-trans (T j) (it.type j) h (Implies-same (T j) (it.type j) at_body) it.root))
+                (Implies-same_back (T i) (arrow g h) same),
+          ),
           it.typed T B (λ m le. let le' : m ≤ j = le in same_T m (omega arith)) (λ y which. same_B y (under scope x (binders_of e) y which)),
         ))
 
@@ -207,9 +205,13 @@ module _ (nodes : List TermNode) (known : Known) where
         let at_binder : B x ≡ g = same_B x (inr (Contains-here x (binders_of e))) ∙ (it.kept.binders x (distinct_first x (binders_of e) placed.once) ∙ with_binder-same olds x g) in
         let at_body : T j ≡ it.type j = same_T j (omega arith) in (
           j,
-          placed.numbers.0,
-          same ∙ sym at_body,
-          Implies-trans (T j) (it.type j) (B x) (Implies-same (T j) (it.type j) at_body) (Implies-trans (it.type j) g (B x) it.root (Implies-same_back (B x) g at_binder)),
+          (
+            placed.numbers.0,
+            (
+              same ∙ sym at_body,
+              Implies-trans (T j) (it.type j) (B x) (Implies-same (T j) (it.type j) at_body) (Implies-trans (it.type j) g (B x) it.root (Implies-same_back (B x) g at_binder)),
+            ),
+          ),
           it.typed T B (λ m le. let le' : m ≤ j = le in same_T m (omega arith)) (λ y which. same_B y (under scope x (binders_of e) y which)),
         ))
 
@@ -223,8 +225,10 @@ module _ (nodes : List TermNode) (known : Known) where
         (λ T B same same_T same_B.
         let at_body : T j ≡ it.type j = same_T j (omega arith) in (
           j,
-          placed.numbers.0,
-          subst (λ g. Implies (T j) (rcd (one_field label g))) (sym same) (Implies-trans (T j) (it.type j) (rcd (one_field label g)) (Implies-same (T j) (it.type j) at_body) it.root),
+          (
+            placed.numbers.0,
+            subst (λ g. Implies (T j) (rcd (one_field label g))) (sym same) (Implies-trans (T j) (it.type j) (rcd (one_field label g)) (Implies-same (T j) (it.type j) at_body) it.root),
+          ),
           it.typed T B (λ m le. let le' : m ≤ j = le in same_T m (omega arith)) same_B,
         ))
 
@@ -242,10 +246,12 @@ module _ (nodes : List TermNode) (known : Known) where
         let at_argument : T k ≡ two.type k = same_T k (omega arith) in (
           j,
           k,
-          placed.numbers.0,
-          Implies-trans (T j) (one.type j) (arrow (T k) (T i)) (Implies-same (T j) (one.type j) (at_function j (omega arith)))
-              (Implies-trans (one.type j) (arrow g h) (arrow (T k) (T i)) one.root
-              (arrow-implies g h (T k) (T i) (Implies-trans (T k) (two.type k) g (Implies-same (T k) (two.type k) at_argument) two.root) (Implies-same_back (T i) h same))),
+          (
+            placed.numbers.0,
+            Implies-trans (T j) (one.type j) (arrow (T k) (T i)) (Implies-same (T j) (one.type j) (at_function j (omega arith)))
+                (Implies-trans (one.type j) (arrow g h) (arrow (T k) (T i)) one.root
+                (arrow-implies g h (T k) (T i) (Implies-trans (T k) (two.type k) g (Implies-same (T k) (two.type k) at_argument) two.root) (Implies-same_back (T i) h same))),
+          ),
           one.typed T B at_function
               (λ x which. same_B x (in_left scope (binders_of e) (binders_of e') x which) ∙ two.kept.binders x (not_right scope (binders_of e) (binders_of e') placed.once placed.apart x which)),
           two.typed T B (λ m le. let le' : m ≤ k = le in same_T m (omega arith)) (λ x which. same_B x (in_right scope (binders_of e) (binders_of e') x which)),
@@ -275,10 +281,14 @@ module _ (nodes : List TermNode) (known : Known) where
           j,
           k,
           l,
-          placed.numbers.0,
-          Implies-trans (T j) (one.type j) bool (Implies-same (T j) (one.type j) (at_condition j (omega arith))) one.root,
-          Implies-trans (T k) g (T i) (Implies-trans (T k) (two.type k) g (Implies-same (T k) (two.type k) (at_first k (omega arith))) two.root) (Implies-same_back (T i) g same),
-          Implies-trans (T l) g (T i) (Implies-trans (T l) (three.type l) g (Implies-same (T l) (three.type l) at_second) three.root) (Implies-same_back (T i) g same),
+          (
+            placed.numbers.0,
+            (
+              Implies-trans (T j) (one.type j) bool (Implies-same (T j) (one.type j) (at_condition j (omega arith))) one.root,
+              Implies-trans (T k) g (T i) (Implies-trans (T k) (two.type k) g (Implies-same (T k) (two.type k) (at_first k (omega arith))) two.root) (Implies-same_back (T i) g same),
+              Implies-trans (T l) g (T i) (Implies-trans (T l) (three.type l) g (Implies-same (T l) (three.type l) at_second) three.root) (Implies-same_back (T i) g same),
+            ),
+          ),
           one.typed T B at_condition
               (λ x which. before_second x (in_left scope (binders_of c) (binders_of e) x which) ∙ two.kept.binders x (not_right scope (binders_of c) (binders_of e) early apart x which)),
           two.typed T B at_first (λ x which. before_second x (in_right scope (binders_of c) (binders_of e) x which)),
@@ -296,9 +306,15 @@ module _ (nodes : List TermNode) (known : Known) where
         (λ T B same same_T same_B. (
           n + before e,
           l,
-          placed.numbers.0,
-          same ∙ sym (same_T l (omega arith)),
-          (s, known_is, allows_on scope s types B top top needs (λ x inside. same_B x (inl inside) ∙ (it.kept.binders x (λ inner. placed.apart x inside (Contains-append_right (binders_of e) (binders_of e') x inner)) ∙ agree x inside)) a (λ t e. refl)),
+          (
+            placed.numbers.0,
+            (
+              same ∙ sym (same_T l (omega arith)),
+              s,
+              known_is,
+              allows_on scope s types B top top needs (λ x inside. same_B x (inl inside) ∙ (it.kept.binders x (λ inner. placed.apart x inside (Contains-append_right (binders_of e) (binders_of e') x inner)) ∙ agree x inside)) a (λ t e. refl),
+            ),
+          ),
           it.typed T B (λ m le. let le' : m ≤ l = le in same_T m (omega arith)) (λ x which. same_B x (in_right scope (binders_of e) (binders_of e') x which)),
         ))
 
@@ -368,9 +384,11 @@ module _ (nodes : List TermNode) (known : Known) where
       (λ T B same same_T same_B.
       let at_parts : (m : ℕ) → m < n + field_nodes parts → T m ≡ it.type m = λ m low. let low' : m < n + field_nodes parts = low in same_T m (omega arith) in (
         field_roots n parts,
-        placed.numbers.0,
-        Implies-trans (rcd (part_types T (field_roots n parts))) (rcd fields) (T i)
-            (rcd-implies (part_types T (field_roots n parts)) fields (λ label g has. it.fit T at_parts label g (labelled label g has) has))
-            (Implies-same_back (T i) (rcd fields) same),
+        (
+          placed.numbers.0,
+          Implies-trans (rcd (part_types T (field_roots n parts))) (rcd fields) (T i)
+              (rcd-implies (part_types T (field_roots n parts)) fields (λ label g has. it.fit T at_parts label g (labelled label g has) has))
+              (Implies-same_back (T i) (rcd fields) same),
+        ),
         it.typed T B at_parts same_B,
       ))

@@ -49,5 +49,7 @@ pub mod PlacedParts
 pub mod HeldTypes
 pub mod KeptTypes
 pub mod FoundTypes
+pub mod EachTyped
 pub mod NodeTypes
 pub mod WorkedTypes
+pub mod TypedModels

@@ -41,6 +41,7 @@ use Rattle.mls_emit.proofs.HeldTypes.{top_type, bool_type, int_type, arrow_type,
 use Rattle.mls_emit.proofs.NumberedNodes.{before-fun, before-fix, before-project, before-apply, before-local, before-choice, before-make, nodes-a_field}
 use Rattle.mls_emit.proofs.KeptTypes.{with_other, with_is_type, AgreeOn, with_agree, reset, reset_inside, reset_outside, allows_on, AreKept, kept_all, kept_less, kept_then, kept_binder, known_more, known_let}
 use Rattle.mls_emit.proofs.PlacedParts.{AreApart, apart_left}
+use Rattle.mls_emit.proofs.EachTyped.{each_typed}
 use Rattle.mls_emit.proofs.FoundTypes.{IsFound, AreFound, bound_found, inner_found, global_found, number_found, truth_found, fun_found, fix_found, project_found, apply_found, choice_found, local_found, no_field_found, field_found, make_found, label_there}
 use Rattle.mls_emit.proofs.PlacedParts.{ArePlaced, placed_fun, placed_fix, placed_project, placed_function, placed_argument, placed_condition, placed_first_branch, placed_second_branch, placed_second, placed_fields, placed_field, placed_rest}
 
@@ -126,10 +127,12 @@ nodes_have_types nodes known scope here n t placed known_here allow types f h =
     let olds : Types = reset bs types in
     let it : IsFound nodes known scope n t f (λ m. top) olds =
     found nodes known t scope here n placed known_here allow types olds (λ x around. reset_outside bs types x (placed.apart x around)) f h (λ m. top) in
+    let typed : AreTyped nodes known it.type it.binder (n + before t) t = it.typed it.type it.binder (λ m le. refl) (λ x which. refl) in
     record {
       type = it.type;
       binder = it.binder;
-      typed = it.typed it.type it.binder (λ m le. refl) (λ x which. refl);
+      typed = typed;
+      each = each_typed nodes known it.type it.binder (n + before t) t typed;
       root = it.root;
       around = λ x out. it.kept.binders x out ∙ reset_outside bs types x out;
       types_are = it.kept.nodes_are (λ m. top_type);

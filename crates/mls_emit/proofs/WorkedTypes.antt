@@ -73,7 +73,7 @@ identity_types types f h =
       g,
       it.binders_are 0 (Contains-here 0 []),
       Implies-trans (arrow g g) (it.type i) f
-          (Implies-trans (arrow g g) (arrow g (it.type j)) (it.type i) (arrow-implies g g g (it.type j) (Implies-refl g) it.typed.3.1) it.typed.2)
+          (Implies-trans (arrow g g) (arrow g (it.type j)) (it.type i) (arrow-implies g g g (it.type j) (Implies-refl g) it.typed.2.1) it.typed.1.1)
           it.root,
     )
 

@@ -1,6 +1,6 @@
--- Types of all nodes and binders of a part of a term: what each form asks of the type of its node, by the types of its
--- parts and of its binder. The first part of a let is a part of its own, and no node of the part around it.
-use Rattle.std.specs.Prelude.{◌≡◌, ◌≢◌, ℕ, ◌+◌, ◌<◌, List, [], ◌∷◌, ◌++◌, length, Contains, bytes_eq, find, slice_get}
+-- Types of all nodes and binders of a part of a term. The first part of a let is a part of its own, and none of its
+-- nodes is a node of the part around it.
+use Rattle.std.specs.Prelude.{◌≡◌, ◌⊎◌, ℕ, ◌+◌, List, [], ◌∷◌, ◌++◌, length, Contains, bytes_eq, find, slice_get}
 use Rattle.std.specs.Prelude.{option_map, Option, Some}
 use Rattle.std.specs.List.{AllPairs}
 use Rattle.std.specs.FinMap as env
@@ -8,6 +8,7 @@ use Rattle.mls_book.specs.Predicates.{Predicate, Implies, top, bool, int, arrow,
 use Rattle.mls_book.specs.Schemes.{Scheme, IsScheme}
 use Rattle.mls_term.specs.declared.term.Part.{Part}
 use Rattle.mls_term.specs.declared.term.TermNode.{TermNode}
+use Rattle.mls_term.specs.declared.term.TermForm.{TermForm}
 use Rattle.mls_term.specs.declared.term.TermForm.TheVariants as form
 use Rattle.mls_term.specs.Terms.{TermTree, TermFields, bound, inner, global, number, truth, fun, apply, make, project}
 use Rattle.mls_term.specs.Terms.{choice, local, fix, no_field, a_field, before, postorder}
@@ -23,50 +24,46 @@ abbrev pub part_types : (ℕ → Predicate) → List Part → List ℕ → Optio
 part_types type parts label =
     option_map (λ part. type part.child) (find (λ part. bytes_eq part.label label) parts)
 
--- Node i is the root of this tree, and the nodes of the tree and its binders have types as the forms ask. A name has an
--- instance of its scheme, and of each let the scheme of the first part has one at all. `known` has the schemes of all
--- lets, also of those that are not in scope.
+-- What a node of each form asks of the types of its node, of its parts and of its binder. A name has an instance of its
+-- scheme, and of each let the scheme of the first part has one at all. `known` has the schemes of all lets, also of
+-- those that are not in scope.
+module _ (known : Known) (type : ℕ → Predicate) (binder : Types) where
+  abbrev pub IsNodeTyped : ℕ → TermForm → Type 0
+  IsNodeTyped i (form.Bound x) = Implies (binder x) (type i)
+  IsNodeTyped i (form.Inner k) = (s : Scheme) × (env.get known.lets k ≡ Some s) × Allows s binder (type i)
+  IsNodeTyped i (form.Global g) = (s : Scheme) × (slice_get known.globals g ≡ Some s) × Allows s binder (type i)
+  IsNodeTyped i (form.Number value) = Implies int (type i)
+  IsNodeTyped i (form.Truth value) = Implies bool (type i)
+  IsNodeTyped i (form.Fun x j) = Implies (arrow (binder x) (type j)) (type i)
+  IsNodeTyped i (form.Apply j k) = Implies (type j) (arrow (type k) (type i))
+  IsNodeTyped i (form.Make parts) = Implies (rcd (part_types type parts)) (type i)
+  IsNodeTyped i (form.Project j label) = Implies (type j) (rcd (one_field label (type i)))
+  IsNodeTyped i (form.If j k l) = Implies (type j) bool × Implies (type k) (type i) × Implies (type l) (type i)
+  IsNodeTyped i (form.Let k j l) =
+      (type i ≡ type l) × (s : Scheme) × (env.get known.lets k ≡ Some s) × Allows s binder top
+  IsNodeTyped i (form.Rec x j) = (type i ≡ type j) × Implies (type j) (binder x)
+
+-- Node i is the root of this tree, and each node of the tree has a type as its form asks.
 module _ (nodes : List TermNode) (known : Known) (type : ℕ → Predicate) (binder : Types) where
+  -- node i is of this form, and typed so
+  abbrev pub IsTypedAt : ℕ → TermForm → Type 0
+  IsTypedAt i f = (form_at nodes i ≡ Some f) × IsNodeTyped known type binder i f
+
   abbrev mutual
     pub AreTyped : ℕ → TermTree → Type 0
-    AreTyped i (bound at x) = (form_at nodes i ≡ Some (form.Bound x)) × Implies (binder x) (type i)
-    AreTyped i (inner at k) =
-        (form_at nodes i ≡ Some (form.Inner k))
-        × (s : Scheme) × (env.get known.lets k ≡ Some s) × Allows s binder (type i)
-    AreTyped i (global at g) =
-        (form_at nodes i ≡ Some (form.Global g))
-        × (s : Scheme) × (slice_get known.globals g ≡ Some s) × Allows s binder (type i)
-    AreTyped i (number at value) = (form_at nodes i ≡ Some (form.Number value)) × Implies int (type i)
-    AreTyped i (truth at value) = (form_at nodes i ≡ Some (form.Truth value)) × Implies bool (type i)
-    AreTyped i (fun at x e) =
-        (j : ℕ) × (form_at nodes i ≡ Some (form.Fun x j))
-        × Implies (arrow (binder x) (type j)) (type i)
-        × AreTyped j e
-    AreTyped i (apply at e f) =
-        (j k : ℕ) × (form_at nodes i ≡ Some (form.Apply j k))
-        × Implies (type j) (arrow (type k) (type i))
-        × AreTyped j e × AreTyped k f
-    AreTyped i (make at fields) =
-        (parts : List Part) × (form_at nodes i ≡ Some (form.Make parts))
-        × Implies (rcd (part_types type parts)) (type i)
-        × AreAllTyped parts fields
-    AreTyped i (project at e label) =
-        (j : ℕ) × (form_at nodes i ≡ Some (form.Project j label))
-        × Implies (type j) (rcd (one_field label (type i)))
-        × AreTyped j e
+    AreTyped i (bound at x) = IsTypedAt i (form.Bound x)
+    AreTyped i (inner at k) = IsTypedAt i (form.Inner k)
+    AreTyped i (global at g) = IsTypedAt i (form.Global g)
+    AreTyped i (number at value) = IsTypedAt i (form.Number value)
+    AreTyped i (truth at value) = IsTypedAt i (form.Truth value)
+    AreTyped i (fun at x e) = (j : ℕ) × IsTypedAt i (form.Fun x j) × AreTyped j e
+    AreTyped i (apply at e f) = (j k : ℕ) × IsTypedAt i (form.Apply j k) × AreTyped j e × AreTyped k f
+    AreTyped i (make at fields) = (parts : List Part) × IsTypedAt i (form.Make parts) × AreAllTyped parts fields
+    AreTyped i (project at e label) = (j : ℕ) × IsTypedAt i (form.Project j label) × AreTyped j e
     AreTyped i (choice at c e f) =
-        (j k l : ℕ) × (form_at nodes i ≡ Some (form.If j k l))
-        × Implies (type j) bool × Implies (type k) (type i) × Implies (type l) (type i)
-        × AreTyped j c × AreTyped k e × AreTyped l f
-    AreTyped i (local at k e f) =
-        (j l : ℕ) × (form_at nodes i ≡ Some (form.Let k j l))
-        × (type i ≡ type l)
-        × ((s : Scheme) × (env.get known.lets k ≡ Some s) × Allows s binder top)
-        × AreTyped l f
-    AreTyped i (fix at x e) =
-        (j : ℕ) × (form_at nodes i ≡ Some (form.Rec x j))
-        × (type i ≡ type j) × Implies (type j) (binder x)
-        × AreTyped j e
+        (j k l : ℕ) × IsTypedAt i (form.If j k l) × AreTyped j c × AreTyped k e × AreTyped l f
+    AreTyped i (local at k e f) = (j l : ℕ) × IsTypedAt i (form.Let k j l) × AreTyped l f
+    AreTyped i (fix at x e) = (j : ℕ) × IsTypedAt i (form.Rec x j) × AreTyped j e
 
     -- the parts of a record
     pub AreAllTyped : List Part → TermFields → Type 0
@@ -74,6 +71,23 @@ module _ (nodes : List TermNode) (known : Known) (type : ℕ → Predicate) (bin
     AreAllTyped parts (a_field label e rest) =
         (j : ℕ) × (others : List Part) × (parts ≡ record { label = label; child = j } ∷ others)
         × AreTyped j e × AreAllTyped others rest
+
+-- node j is a part of a node of this form; not the first part of a let
+abbrev pub IsPartOf : TermForm → ℕ → Type 0
+IsPartOf (form.Fun x i) j = j ≡ i
+IsPartOf (form.Apply i k) j = (j ≡ i) ⊎ (j ≡ k)
+IsPartOf (form.Make parts) j = (part : Part) × Contains parts part × (j ≡ part.child)
+IsPartOf (form.Project i label) j = j ≡ i
+IsPartOf (form.If i k l) j = (j ≡ i) ⊎ ((j ≡ k) ⊎ (j ≡ l))
+IsPartOf (form.Let k i l) j = j ≡ l
+IsPartOf (form.Rec x i) j = j ≡ i
+IsPartOf _ j = ⊥
+
+-- the nodes of the part whose root is the node `top`
+pub data IsNodeOf (nodes : List TermNode) (top : ℕ) : ℕ → Type 0 where
+  at_top : {j : ℕ} → j ≡ top → IsNodeOf nodes top j
+  in_part : {j : ℕ} (i : ℕ) (f : TermForm) → IsNodeOf nodes top i → form_at nodes i ≡ Some f → IsPartOf f j
+      → IsNodeOf nodes top j
 
 -- the scheme needs these binders alone
 abbrev pub NeedsOnly : List ℕ → Scheme → Type 0
@@ -124,6 +138,8 @@ pub record HasNodeTypes (nodes : List TermNode) (known : Known) (types : Types) 
   pub type : ℕ → Predicate
   pub binder : Types
   pub typed : AreTyped nodes known type binder (n + before t) t
+  pub each : (i : ℕ) (f : TermForm) → IsNodeOf nodes (n + before t) i → form_at nodes i ≡ Some f
+      → IsNodeTyped known type binder i f
   pub root : Implies (type (n + before t)) f
   pub around : (x : ℕ) → (Contains (binders_of t) x → ⊥) → binder x ≡ types x
   pub types_are : (i : ℕ) → IsType (type i)
