@@ -37,12 +37,12 @@ use Rattle.mls_typing.proofs.TypedParts.{typed_fun, typed_fix}
 use Rattle.mls_typing.proofs.TypedUses.{typed_apply, typed_project, typed_choice}
 use Rattle.mls_typing.proofs.TypedMake.{typed_make}
 use Rattle.mls_typing.proofs.TypedLet.{LetParts, let_parts, typed_more_general}
-use Rattle.mls_emit.specs.NodeTypes.{part_types, AreTyped, AreAllTyped, NeedsOnly, AllowsAll, LetsAllow, AllLetsAllow, IsKnownHere, HasNodeTypes, NodesHaveTypes}
+use Rattle.mls_emit.specs.NodeTypes.{part_types, AreTyped, AreAllTyped, HasInstance, NeedsOnly, AllowsAll, LetsAllow, AllLetsAllow, IsKnownHere, HasNodeTypes, NodesHaveTypes}
 use Rattle.mls_emit.specs.NumberedNodes.{behind, IsPlaced}
 use Rattle.mls_emit.proofs.DistinctLists.{AreDistinct, distinct_left, distinct_right, distinct_both, distinct_rest, distinct_first}
 use Rattle.mls_emit.proofs.HeldTypes.{top_type, bool_type, int_type, arrow_type, record_type}
 use Rattle.mls_emit.proofs.NumberedNodes.{before-fun, before-fix, before-project, before-apply, before-local, before-choice, before-make, nodes-a_field}
-use Rattle.mls_emit.proofs.KeptTypes.{with_other, with_is_type, AgreeOn, with_agree, allows_on, AreKept, kept_all, kept_less, kept_then, kept_binder, known_more, known_let}
+use Rattle.mls_emit.proofs.KeptTypes.{with_other, with_is_type, AgreeOn, with_agree, instance_on, allows_on, AreKept, kept_all, kept_less, kept_then, kept_binder, known_more, known_let}
 use Rattle.mls_emit.proofs.PlacedParts.{AreApart, apart_left}
 
 -- the binders around and in a tree
@@ -132,9 +132,8 @@ module _ (nodes : List TermNode) (known : Known) where
         ))
 
     -- a name whose scheme needs the binders around alone
-    name_typed : (s : Scheme) → IsScheme s → NeedsOnly scope s → (a : Allows s types f) → (g : Predicate) (B : Types) → g ≡ passes_by a.reading s.book s.root → AgreeOn scope B olds → Allows s B g
-    name_typed s is needs a g B same same_B =
-        allows_on scope s types B f g needs (λ x inside. same_B x inside ∙ agree x inside) a (Implies-same_back g (passes_by a.reading s.book s.root) same)
+    name_typed : (s : Scheme) → NeedsOnly scope s → (a : Allows s types f) → (g : Predicate) (B : Types) → g ≡ passes_by a.reading s.book s.root → AgreeOn scope B olds → HasInstance s B g
+    name_typed s needs a g B same same_B = instance_on scope s types B f g needs (λ x inside. same_B x inside ∙ agree x inside) a (sym same)
 
     pub inner_found : (at k : ℕ) → IsPlaced nodes scope n (inner at k) → IsTyped here types (inner at k) f → IsFound scope n (inner at k) f old olds
     inner_found at k placed h =
@@ -145,7 +144,7 @@ module _ (nodes : List TermNode) (known : Known) where
         leaf scope n (inner at k) f (passes_by a.reading s.book s.root) old olds (instance_is_type s is types f a s.root is.root) a.root
         (λ T B same same_B. (
           placed.numbers,
-          (s, known_here.lets k s known_is, name_typed s is (known_here.lets_need k s known_is) a (T (n + before (inner at k))) B same same_B),
+          (s, known_here.lets k s known_is, name_typed s (known_here.lets_need k s known_is) a (T (n + before (inner at k))) B same same_B),
         ))
 
     pub global_found : (at g : ℕ) → IsPlaced nodes scope n (global at g) → IsTyped here types (global at g) f → IsFound scope n (global at g) f old olds
@@ -157,7 +156,7 @@ module _ (nodes : List TermNode) (known : Known) where
         leaf scope n (global at g) f (passes_by a.reading s.book s.root) old olds (instance_is_type s is types f a s.root is.root) a.root
         (λ T B same same_B. (
           placed.numbers,
-          (s, ap (λ ss. slice_get ss g) (sym known_here.globals) ∙ known_is, name_typed s is (known_here.globals_need g s known_is) a (T (n + before (global at g))) B same same_B),
+          (s, ap (λ ss. slice_get ss g) (sym known_here.globals) ∙ known_is, name_typed s (known_here.globals_need g s known_is) a (T (n + before (global at g))) B same same_B),
         ))
 
     pub number_found : (at value : ℕ) → IsPlaced nodes scope n (number at value) → IsTyped here types (number at value) f → IsFound scope n (number at value) f old olds
@@ -312,7 +311,7 @@ module _ (nodes : List TermNode) (known : Known) where
               same ∙ sym (same_T l (omega arith)),
               s,
               known_is,
-              allows_on scope s types B top top needs (λ x inside. same_B x (inl inside) ∙ (it.kept.binders x (λ inner. placed.apart x inside (Contains-append_right (binders_of e) (binders_of e') x inner)) ∙ agree x inside)) a (λ t e. refl),
+              allows_on scope s types B top needs (λ x inside. same_B x (inl inside) ∙ (it.kept.binders x (λ inner. placed.apart x inside (Contains-append_right (binders_of e) (binders_of e') x inner)) ∙ agree x inside)) a,
             ),
           ),
           it.typed T B (λ m le. let le' : m ≤ l = le in same_T m (omega arith)) (λ x which. same_B x (in_right scope (binders_of e) (binders_of e') x which)),

@@ -2,7 +2,7 @@
 --     with_other, with_is_type        one type set
 --     AgreeOn, with_agree             the same types of the binders around
 --     reset                           the type `top` for some binders
---     allows_on                       what a scheme allows depends on the binders that it needs
+--     instance_on, allows_on          what a scheme allows depends on the binders that it needs
 --     AreKept, kept_all, kept_less, kept_then, kept_binder
 --     known_more, known_let           what is known under one more binder, and behind a let
 use Rattle.std.proofs.Common.{◌≡◌, ◌⊎◌, inl, inr, ℕ, suc, ◌+◌, ◌<◌, ◌≤◌, Bool, true, false, cond, List, [], ◌∷◌, ◌++◌, length, refl, sym, ap, ◌∙◌, subst, arith, slice_get, Some}
@@ -36,14 +36,14 @@ use Rattle.mls_term.specs.WellFormed.{IsScoped, AreScoped, binders_of, field_bin
 use Rattle.mls_term.proofs.Metatheory.{AreSchemes-let, IsMoreGeneral-refl, IsMoreGeneral-let}
 use Rattle.mls_typing.specs.Typed.{Types, type_of, needs_of, IsType, with_binder, IsTyped, Allows, OfBound, OfFun, OfApply, one_field, OfProject, OfChoice, OfFix, AllOf, OfMake}
 use Rattle.mls_typing.proofs.Contexts.{same_key}
-use Rattle.mls_typing.proofs.Instances.{Allows-subsumes, IsTyped-derived, typed_under, instance_is_type}
+use Rattle.mls_typing.proofs.Instances.{Allows-subsumes, Allows-more, IsTyped-derived, typed_under, instance_is_type}
 use Rattle.mls_typing.proofs.Lists.{Contains-here, Contains-later, Contains-cases, nothing_in}
 use Rattle.mls_typing.proofs.TypedForms.{same_self, with_binder-same, generated, rule_allows, typed_number, typed_truth, typed_bound}
 use Rattle.mls_typing.proofs.TypedParts.{typed_fun, typed_fix}
 use Rattle.mls_typing.proofs.TypedUses.{typed_apply, typed_project, typed_choice}
 use Rattle.mls_typing.proofs.TypedMake.{typed_make}
 use Rattle.mls_typing.proofs.TypedLet.{LetParts, let_parts, typed_more_general}
-use Rattle.mls_emit.specs.NodeTypes.{part_types, AreTyped, AreAllTyped, NeedsOnly, AllowsAll, LetsAllow, AllLetsAllow, IsKnownHere, HasNodeTypes, NodesHaveTypes}
+use Rattle.mls_emit.specs.NodeTypes.{part_types, AreTyped, AreAllTyped, HasInstance, NeedsOnly, AllowsAll, LetsAllow, AllLetsAllow, IsKnownHere, HasNodeTypes, NodesHaveTypes}
 use Rattle.mls_emit.specs.NumberedNodes.{behind, IsPlaced}
 use Rattle.mls_emit.proofs.DistinctLists.{AreDistinct, distinct_left, distinct_right, distinct_both, distinct_rest, distinct_first}
 use Rattle.mls_emit.proofs.HeldTypes.{top_type, bool_type, int_type, arrow_type, record_type}
@@ -94,20 +94,29 @@ reset_outside bs types x out = at (list_any (λ y. y == x) bs) refl
         absurd (out (subst P (eqb-true it.0 x it.2) it.1))
     at false e = refl
 
--- what a scheme allows depends on the binders that it needs alone
-pub allows_on : (scope : List ℕ) (s : Scheme) (types others : Types) (f g : Predicate) → NeedsOnly scope s → AgreeOn scope others types → (a : Allows s types f) → Implies (passes_by a.reading s.book s.root) g → Allows s others g
-allows_on scope s types others f g needs agree a below = record {
-  book = a.book;
-  closed = a.closed;
-  reading = a.reading;
-  held = a.held;
-  root = below;
-  env = λ x. at x (env.get s.env x) refl;
-}
+-- an instance of a scheme depends on the binders that it needs alone
+pub instance_on : (scope : List ℕ) (s : Scheme) (types others : Types) (f g : Predicate) → NeedsOnly scope s → AgreeOn scope others types → (a : Allows s types f) → passes_by a.reading s.book s.root ≡ g → HasInstance s others g
+instance_on scope s types others f g needs agree a same = (
+  record {
+    book = a.book;
+    closed = a.closed;
+    reading = a.reading;
+    held = a.held;
+    root = Implies-same (passes_by a.reading s.book s.root) g same;
+    env = λ x. at x (env.get s.env x) refl;
+  },
+  same,
+)
   where
     at : (x : ℕ) (o : Option ℕ) → env.get s.env x ≡ o → Implies (others x) (binder_passes (passes_by a.reading s.book) (env.get s.env x))
     at x None e = subst (λ o. Implies (others x) (binder_passes (passes_by a.reading s.book) o)) (sym e) (λ t h. refl)
     at x (Some i) e = Implies-trans (others x) (types x) (binder_passes (passes_by a.reading s.book) (env.get s.env x)) (Implies-same (others x) (types x) (agree x (needs x i e))) (a.env x)
+
+-- and so does what it allows
+pub allows_on : (scope : List ℕ) (s : Scheme) (types others : Types) (f : Predicate) → NeedsOnly scope s → AgreeOn scope others types → Allows s types f → Allows s others f
+allows_on scope s types others f needs agree a =
+    let g : Predicate = passes_by a.reading s.book s.root in
+    Allows-more s others others g f (λ x. Implies-refl (others x)) a.root (instance_on scope s types others f g needs agree a refl).0
 
 -- Families of types are kept: on the nodes before n and on all binders but these.
 pub record AreKept (n : ℕ) (bs : List ℕ) (old : ℕ → Predicate) (olds : Types) (type : ℕ → Predicate) (binder : Types) : Type 0 where

@@ -5,6 +5,7 @@ use Rattle.std.specs.Prelude.{option_map, Option, Some}
 use Rattle.std.specs.List.{AllPairs}
 use Rattle.std.specs.FinMap as env
 use Rattle.mls_book.specs.Predicates.{Predicate, Implies, top, bool, int, arrow, rcd}
+use Rattle.mls_book.specs.Passes.{passes_by}
 use Rattle.mls_book.specs.Schemes.{Scheme, IsScheme}
 use Rattle.mls_term.specs.declared.term.Part.{Part}
 use Rattle.mls_term.specs.declared.term.TermNode.{TermNode}
@@ -24,14 +25,19 @@ abbrev pub part_types : (ℕ → Predicate) → List Part → List ℕ → Optio
 part_types type parts label =
     option_map (λ part. type part.child) (find (λ part. bytes_eq part.label label) parts)
 
+-- the scheme has just this type, where its variables are read so, and the binders have these types
+abbrev pub HasInstance : Scheme → Types → Predicate → Type 0
+HasInstance s types f = (a : Allows s types f) × (passes_by a.reading s.book s.root ≡ f)
+
 -- What a node of each form asks of the types of its node, of its parts and of its binder. A name has an instance of its
 -- scheme, and of each let the scheme of the first part has one at all. `known` has the schemes of all lets, also of
 -- those that are not in scope.
 module _ (known : Known) (type : ℕ → Predicate) (binder : Types) where
   abbrev pub IsNodeTyped : ℕ → TermForm → Type 0
   IsNodeTyped i (form.Bound x) = Implies (binder x) (type i)
-  IsNodeTyped i (form.Inner k) = (s : Scheme) × (env.get known.lets k ≡ Some s) × Allows s binder (type i)
-  IsNodeTyped i (form.Global g) = (s : Scheme) × (slice_get known.globals g ≡ Some s) × Allows s binder (type i)
+  IsNodeTyped i (form.Inner k) = (s : Scheme) × (env.get known.lets k ≡ Some s) × HasInstance s binder (type i)
+  IsNodeTyped i (form.Global g) =
+      (s : Scheme) × (slice_get known.globals g ≡ Some s) × HasInstance s binder (type i)
   IsNodeTyped i (form.Number value) = Implies int (type i)
   IsNodeTyped i (form.Truth value) = Implies bool (type i)
   IsNodeTyped i (form.Fun x j) = Implies (arrow (binder x) (type j)) (type i)
