@@ -1,7 +1,7 @@
 -- Lists of numbers, each of which stands once.
 --     distinct_left, distinct_right, distinct_both     of two lists one behind the other
 --     distinct_rest, distinct_first                    of an element and the rest
-use Rattle.std.proofs.Common.{◌≡◌, ◌≢◌, ℕ, suc, ◌+◌, ◌<◌, List, ◌∷◌, ◌++◌, length, get_or, sym, ◌∙◌, arith, length-append, Contains}
+use Rattle.std.proofs.Common.{◌≡◌, ◌≢◌, ℕ, suc, ◌+◌, ◌<◌, List, ◌∷◌, ◌++◌, length, sym, ◌∙◌, arith, length-append, Contains}
 use Rattle.std.specs.List.{AllPairs}
 use Rattle.std.proofs.lemmas.List.{get_or_append_left, get_or-append-add}
 

@@ -1,6 +1,6 @@
 -- Where a tree is typed, so is each node of its part.
 --     each_typed
-use Rattle.std.proofs.Common.{◌≡◌, ◌⊎◌, inl, inr, ℕ, List, [], ◌∷◌, refl, sym, ◌∙◌, subst, Some}
+use Rattle.std.proofs.Common.{◌≡◌, inl, inr, ℕ, List, sym, ◌∙◌, subst, Some}
 use Rattle.std.specs.Prelude.{Contains}
 use Rattle.mls_book.specs.Predicates.{Predicate}
 use Rattle.mls_term.specs.declared.term.Part.{Part}

@@ -3,46 +3,35 @@
 --     bound_found, inner_found, global_found, number_found, truth_found
 --     fun_found, fix_found, project_found, apply_found, choice_found, local_found
 --     no_field_found, field_found, make_found, label_there
-use Rattle.std.proofs.Common.{◌≡◌, ◌⊎◌, inl, inr, ℕ, suc, ◌+◌, ◌<◌, ◌≤◌, Bool, true, false, cond, List, [], ◌∷◌, ◌++◌, length, refl, sym, ap, ◌∙◌, subst, arith, slice_get, Some}
-use Rattle.std.specs.Prelude.{Option, None, option_map, find, Contains, bytes_eq, ◌↔◌, IsSome}
+use Rattle.std.proofs.Common.{◌≡◌, ◌⊎◌, inl, inr, ℕ, suc, ◌+◌, ◌<◌, ◌≤◌, Bool, true, false, cond, List, [], ◌∷◌, ◌++◌, refl, sym, ap, ◌∙◌, subst, arith, slice_get, Some}
+use Rattle.std.specs.Prelude.{Option, None, option_map, find, Contains, bytes_eq, IsSome}
 use Rattle.std.specs.FinMap as env
-use Rattle.std.specs.FinMap.{get-insert}
-use Rattle.std.specs.Ordering.{nat_cmp, eq_by_cmp}
-use Rattle.std.proofs.lemmas.Cmp.{nat_cmp_total}
 use Rattle.std.proofs.lemmas.List.Elements.{Contains-append_left, Contains-append_right}
 use Rattle.std.proofs.lemmas.Slice.Eq.{bytes_eq-Decides}
-use Rattle.std.proofs.lemmas.Option.{slice_get_within}
-use Rattle.std.proofs.iter.runs.Lists.{nth_left, nth_right}
 use Rattle.mls_book.specs.declared.book.Field.{Field}
 use Rattle.mls_book.specs.declared.book.NodeId.{NodeId}
 use Rattle.mls_book.specs.declared.book.Node.{Node}
 use Rattle.mls_book.specs.Books.{field_at}
 use Rattle.mls_book.specs.Predicates.{Predicate, Implies, top, bool, int, arrow, rcd}
 use Rattle.mls_book.specs.Passes.{passes, passes_by, field_values}
-use Rattle.mls_book.specs.Schemes.{Scheme, IsScheme, Subsumes, binder_passes}
-use Rattle.mls_book.proofs.Constructors.{arrow-implies, rcd-implies, IsFieldwise}
-use Rattle.mls_book.proofs.Depths.{Implies-refl, Implies-trans, Implies-same, Implies-same_back}
+use Rattle.mls_book.specs.Schemes.{Scheme, IsScheme}
+use Rattle.mls_book.proofs.Constructors.{arrow-implies, rcd-implies}
+use Rattle.mls_book.proofs.Depths.{Implies-trans, Implies-same, Implies-same_back}
 use Rattle.mls_term.specs.declared.term.Part.{Part}
 use Rattle.mls_term.specs.declared.term.TermNode.{TermNode}
-use Rattle.mls_term.specs.Terms.{TermTree, TermFields, bound, inner, global, number, truth, fun, apply, make, project, choice, local, fix, no_field, a_field, before, field_nodes, field_roots, postorder}
-use Rattle.mls_term.specs.Derivations.{Known, with_let, HaveLabels, labels_of}
-use Rattle.mls_term.specs.WellFormed.{IsScoped, AreScoped, binders_of, field_binders_of}
-use Rattle.mls_term.proofs.Metatheory.{AreSchemes-let, IsMoreGeneral-refl, IsMoreGeneral-let}
-use Rattle.mls_typing.specs.Typed.{Types, type_of, needs_of, IsType, with_binder, IsTyped, Allows, OfBound, OfFun, OfApply, one_field, OfProject, OfChoice, OfFix, AllOf, OfMake}
-use Rattle.mls_typing.proofs.Contexts.{same_key}
-use Rattle.mls_typing.proofs.Instances.{Allows-subsumes, IsTyped-derived, typed_under, instance_is_type}
+use Rattle.mls_term.specs.Terms.{TermTree, TermFields, bound, inner, global, number, truth, fun, apply, make, project, choice, local, fix, no_field, a_field, before, field_nodes, field_roots}
+use Rattle.mls_term.specs.Derivations.{Known, HaveLabels, labels_of}
+use Rattle.mls_term.specs.WellFormed.{binders_of, field_binders_of}
+use Rattle.mls_typing.specs.Typed.{Types, IsType, with_binder, IsTyped, Allows, OfBound, one_field}
+use Rattle.mls_typing.proofs.Instances.{instance_is_type}
 use Rattle.mls_typing.proofs.Lists.{Contains-here, Contains-later, Contains-cases, nothing_in}
-use Rattle.mls_typing.proofs.TypedForms.{same_self, with_binder-same, generated, rule_allows, typed_number, typed_truth, typed_bound}
-use Rattle.mls_typing.proofs.TypedParts.{typed_fun, typed_fix}
-use Rattle.mls_typing.proofs.TypedUses.{typed_apply, typed_project, typed_choice}
-use Rattle.mls_typing.proofs.TypedMake.{typed_make}
-use Rattle.mls_typing.proofs.TypedLet.{LetParts, let_parts, typed_more_general}
-use Rattle.mls_emit.specs.NodeTypes.{part_types, AreTyped, AreAllTyped, HasInstance, NeedsOnly, AllowsAll, LetsAllow, AllLetsAllow, IsKnownHere, HasNodeTypes, NodesHaveTypes}
+use Rattle.mls_typing.proofs.TypedForms.{with_binder-same, generated, rule_allows, typed_number, typed_truth, typed_bound}
+use Rattle.mls_emit.specs.NodeTypes.{part_types, AreTyped, AreAllTyped, HasInstance, NeedsOnly, IsKnownHere}
 use Rattle.mls_emit.specs.NumberedNodes.{behind, IsPlaced}
-use Rattle.mls_emit.proofs.DistinctLists.{AreDistinct, distinct_left, distinct_right, distinct_both, distinct_rest, distinct_first}
-use Rattle.mls_emit.proofs.HeldTypes.{top_type, bool_type, int_type, arrow_type, record_type}
+use Rattle.mls_emit.proofs.DistinctLists.{AreDistinct, distinct_left, distinct_both, distinct_first}
+use Rattle.mls_emit.proofs.HeldTypes.{bool_type, int_type, arrow_type}
 use Rattle.mls_emit.proofs.NumberedNodes.{before-fun, before-fix, before-project, before-apply, before-local, before-choice, before-make, nodes-a_field}
-use Rattle.mls_emit.proofs.KeptTypes.{with_other, with_is_type, AgreeOn, with_agree, instance_on, allows_on, AreKept, kept_all, kept_less, kept_then, kept_binder, known_more, known_let}
+use Rattle.mls_emit.proofs.KeptTypes.{with_other, with_is_type, AgreeOn, instance_on, allows_on, AreKept, kept_all, kept_less, kept_then, kept_binder}
 use Rattle.mls_emit.proofs.PlacedParts.{AreApart, apart_left}
 
 -- the binders around and in a tree
@@ -91,7 +80,7 @@ module _ (nodes : List TermNode) (known : Known) where
   rooted : (scope : List ℕ) (n : ℕ) (t : TermTree) (f g : Predicate) (old : ℕ → Predicate) (olds : Types) (type : ℕ → Predicate) (binder : Types)
       → (((m : ℕ) → IsType (old m)) → IsType g) → Implies g f → AreKept n (binders_of t) old olds type binder
       → ((T : ℕ → Predicate) (B : Types) → T (n + before t) ≡ g → ((m : ℕ) → m < n + before t → T m ≡ type m) → ((x : ℕ) → Near scope (binders_of t) x → B x ≡ binder x)
-          → AreTyped nodes known T B (n + before t) t)
+      → AreTyped nodes known T B (n + before t) t)
       → IsFound scope n t f old olds
   rooted scope n t f g old olds type binder is below kept typed =
       let i : ℕ = n + before t in

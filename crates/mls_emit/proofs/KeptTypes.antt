@@ -5,8 +5,8 @@
 --     instance_on, allows_on          what a scheme allows depends on the binders that it needs
 --     AreKept, kept_all, kept_less, kept_then, kept_binder
 --     known_more, known_let           what is known under one more binder, and behind a let
-use Rattle.std.proofs.Common.{◌≡◌, ◌⊎◌, inl, inr, ℕ, suc, ◌+◌, ◌<◌, ◌≤◌, Bool, true, false, cond, List, [], ◌∷◌, ◌++◌, length, refl, sym, ap, ◌∙◌, subst, arith, slice_get, Some}
-use Rattle.std.specs.Prelude.{Option, None, option_map, find, Contains, bytes_eq, ◌↔◌, IsSome}
+use Rattle.std.proofs.Common.{◌≡◌, ◌⊎◌, inl, inr, ℕ, ◌<◌, ◌≤◌, Bool, true, false, cond, List, ◌∷◌, ◌++◌, refl, sym, ap, ◌∙◌, subst, arith, Some}
+use Rattle.std.specs.Prelude.{Option, None, Contains}
 use Rattle.std.specs.Prelude.{◌==◌}
 use Rattle.std.specs.List.{list_any}
 use Rattle.std.proofs.lemmas.Bool.{eqb-true, eq-eqb}
@@ -16,38 +16,19 @@ use Rattle.std.specs.FinMap.{get-insert}
 use Rattle.std.specs.Ordering.{nat_cmp, eq_by_cmp}
 use Rattle.std.proofs.lemmas.Cmp.{nat_cmp_total}
 use Rattle.std.proofs.lemmas.List.Elements.{Contains-append_left, Contains-append_right}
-use Rattle.std.proofs.lemmas.Slice.Eq.{bytes_eq-Decides}
-use Rattle.std.proofs.lemmas.Option.{slice_get_within}
-use Rattle.std.proofs.iter.runs.Lists.{nth_left, nth_right}
-use Rattle.mls_book.specs.declared.book.Field.{Field}
-use Rattle.mls_book.specs.declared.book.NodeId.{NodeId}
-use Rattle.mls_book.specs.declared.book.Node.{Node}
-use Rattle.mls_book.specs.Books.{field_at}
-use Rattle.mls_book.specs.Predicates.{Predicate, Implies, top, bool, int, arrow, rcd}
-use Rattle.mls_book.specs.Passes.{passes, passes_by, field_values}
-use Rattle.mls_book.specs.Schemes.{Scheme, IsScheme, Subsumes, binder_passes}
-use Rattle.mls_book.proofs.Constructors.{arrow-implies, rcd-implies, IsFieldwise}
-use Rattle.mls_book.proofs.Depths.{Implies-refl, Implies-trans, Implies-same, Implies-same_back}
-use Rattle.mls_term.specs.declared.term.Part.{Part}
-use Rattle.mls_term.specs.declared.term.TermNode.{TermNode}
-use Rattle.mls_term.specs.Terms.{TermTree, TermFields, bound, inner, global, number, truth, fun, apply, make, project, choice, local, fix, no_field, a_field, before, field_nodes, field_roots, postorder}
-use Rattle.mls_term.specs.Derivations.{Known, with_let, HaveLabels, labels_of}
-use Rattle.mls_term.specs.WellFormed.{IsScoped, AreScoped, binders_of, field_binders_of}
-use Rattle.mls_term.proofs.Metatheory.{AreSchemes-let, IsMoreGeneral-refl, IsMoreGeneral-let}
-use Rattle.mls_typing.specs.Typed.{Types, type_of, needs_of, IsType, with_binder, IsTyped, Allows, OfBound, OfFun, OfApply, one_field, OfProject, OfChoice, OfFix, AllOf, OfMake}
+use Rattle.mls_book.specs.Predicates.{Predicate, Implies, top}
+use Rattle.mls_book.specs.Passes.{passes_by}
+use Rattle.mls_book.specs.Schemes.{Scheme, IsScheme, binder_passes}
+use Rattle.mls_book.proofs.Depths.{Implies-refl, Implies-trans, Implies-same}
+use Rattle.mls_term.specs.Derivations.{Known, with_let}
+use Rattle.mls_term.proofs.Metatheory.{AreSchemes-let}
+use Rattle.mls_typing.specs.Typed.{Types, IsType, with_binder, Allows}
 use Rattle.mls_typing.proofs.Contexts.{same_key}
-use Rattle.mls_typing.proofs.Instances.{Allows-subsumes, Allows-more, IsTyped-derived, typed_under, instance_is_type}
-use Rattle.mls_typing.proofs.Lists.{Contains-here, Contains-later, Contains-cases, nothing_in}
-use Rattle.mls_typing.proofs.TypedForms.{same_self, with_binder-same, generated, rule_allows, typed_number, typed_truth, typed_bound}
-use Rattle.mls_typing.proofs.TypedParts.{typed_fun, typed_fix}
-use Rattle.mls_typing.proofs.TypedUses.{typed_apply, typed_project, typed_choice}
-use Rattle.mls_typing.proofs.TypedMake.{typed_make}
-use Rattle.mls_typing.proofs.TypedLet.{LetParts, let_parts, typed_more_general}
-use Rattle.mls_emit.specs.NodeTypes.{part_types, AreTyped, AreAllTyped, HasInstance, NeedsOnly, AllowsAll, LetsAllow, AllLetsAllow, IsKnownHere, HasNodeTypes, NodesHaveTypes}
-use Rattle.mls_emit.specs.NumberedNodes.{behind, IsPlaced}
-use Rattle.mls_emit.proofs.DistinctLists.{AreDistinct, distinct_left, distinct_right, distinct_both, distinct_rest, distinct_first}
-use Rattle.mls_emit.proofs.HeldTypes.{top_type, bool_type, int_type, arrow_type, record_type}
-use Rattle.mls_emit.proofs.NumberedNodes.{before-fun, before-fix, before-project, before-apply, before-local, before-choice, before-make, nodes-a_field}
+use Rattle.mls_typing.proofs.Instances.{Allows-more}
+use Rattle.mls_typing.proofs.Lists.{Contains-here, Contains-later, Contains-cases}
+use Rattle.mls_typing.proofs.TypedForms.{same_self}
+use Rattle.mls_emit.specs.NodeTypes.{HasInstance, NeedsOnly, IsKnownHere}
+use Rattle.mls_emit.proofs.HeldTypes.{top_type}
 
 -- one type set
 pub with_other : (types : ℕ → Predicate) (x : ℕ) (f : Predicate) (y : ℕ) → (y ≡ x → ⊥) → with_binder types x f y ≡ types y

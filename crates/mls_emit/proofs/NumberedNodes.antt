@@ -2,12 +2,11 @@
 --     before-fun, .., nodes-a_field      how many nodes come before the root, form by form
 --     numbered                           where the postorder of a tree stands, its nodes are numbered
 --     numbered_whole                     so are those of a whole term
-use Rattle.std.proofs.Common.{◌≡◌, ℕ, suc, ◌+◌, List, [], ◌∷◌, ◌++◌, length, refl, sym, ap, ◌∙◌, subst, arith, slice_get, length-append, append_assoc, Some}
+use Rattle.std.proofs.Common.{◌≡◌, ℕ, suc, ◌+◌, List, [], ◌∷◌, ◌++◌, length, refl, ap, ◌∙◌, subst, arith, slice_get, append_assoc, Some}
 use Rattle.std.specs.Prelude.{option_map}
 use Rattle.std.proofs.lemmas.Option.{slice_get_within}
 use Rattle.std.proofs.iter.runs.Lists.{nth_left, nth_right}
 use Rattle.mls_term.specs.declared.term.TermNode.{TermNode}
-use Rattle.mls_term.specs.declared.term.TermForm.TheVariants as form
 use Rattle.mls_term.specs.Terms.{TermTree, TermFields, bound, inner, global, number, truth, fun, apply, make, project, choice, local, fix, no_field, a_field, before, field_nodes, field_roots, postorder, field_postorder}
 use Rattle.mls_typing.proofs.PartNodes.{length-postorder, length-field_postorder}
 use Rattle.mls_deriv.specs.Steps.{form_at}
@@ -88,14 +87,14 @@ module _ (nodes : List TermNode) where
     numbered (fix at x e) n h = (stands (behind n e) (behind n e) _ refl (tree_right n e _ h), numbered e n (tree_left n e _ h))
     numbered (project at e label) n h = (stands (behind n e) (behind n e) _ refl (tree_right n e _ h), numbered e n (tree_left n e _ h))
     numbered (apply at e f) n h = (
-        stands (behind (behind n e) f) (n + (suc (before e) + suc (before f))) _ (omega arith) (tree_right (behind n e) f _ (tree_right n e _ (front n e f _ h))),
-        numbered e n (tree_left n e _ (front n e f _ h)),
-        numbered f (behind n e) (tree_left (behind n e) f _ (tree_right n e _ (front n e f _ h))),
+      stands (behind (behind n e) f) (n + (suc (before e) + suc (before f))) _ (omega arith) (tree_right (behind n e) f _ (tree_right n e _ (front n e f _ h))),
+      numbered e n (tree_left n e _ (front n e f _ h)),
+      numbered f (behind n e) (tree_left (behind n e) f _ (tree_right n e _ (front n e f _ h))),
     )
     numbered (local at k e f) n h = (
-        stands (behind (behind n e) f) (n + (suc (before e) + suc (before f))) _ (omega arith) (tree_right (behind n e) f _ (tree_right n e _ (front n e f _ h))),
-        numbered e n (tree_left n e _ (front n e f _ h)),
-        numbered f (behind n e) (tree_left (behind n e) f _ (tree_right n e _ (front n e f _ h))),
+      stands (behind (behind n e) f) (n + (suc (before e) + suc (before f))) _ (omega arith) (tree_right (behind n e) f _ (tree_right n e _ (front n e f _ h))),
+      numbered e n (tree_left n e _ (front n e f _ h)),
+      numbered f (behind n e) (tree_left (behind n e) f _ (tree_right n e _ (front n e f _ h))),
     )
     numbered (choice at c e f) n h =
         let m : ℕ = behind n c in
@@ -108,8 +107,8 @@ module _ (nodes : List TermNode) where
           numbered f l (tree_left l f _ (tree_right m e _ rest)),
         )
     numbered (make at fields) n h = (
-        stands (n + field_nodes fields) (n + field_nodes fields) _ refl (stand_right n (n + field_nodes fields) (field_postorder n fields) _ (ap (λ k. n + k) (length-field_postorder fields n)) h),
-        all_numbered fields n (stand_left n (field_postorder n fields) _ h),
+      stands (n + field_nodes fields) (n + field_nodes fields) _ refl (stand_right n (n + field_nodes fields) (field_postorder n fields) _ (ap (λ k. n + k) (length-field_postorder fields n)) h),
+      all_numbered fields n (stand_left n (field_postorder n fields) _ h),
     )
 
     pub all_numbered : (fields : TermFields) (n : ℕ) → StandFrom n (field_postorder n fields) → AreNumbered nodes n fields

@@ -6,7 +6,7 @@
 --     placed_condition, placed_first_branch, placed_second_branch
 --     placed_first, placed_second                 the two parts of a let
 --     placed_fields, placed_field, placed_rest    the parts of a record
-use Rattle.std.proofs.Common.{◌≡◌, ◌⊎◌, inl, inr, ℕ, List, [], ◌∷◌, ◌++◌, subst, sym}
+use Rattle.std.proofs.Common.{inl, inr, ℕ, List, [], ◌∷◌, ◌++◌, subst, sym}
 use Rattle.std.specs.Prelude.{Contains}
 use Rattle.std.proofs.lemmas.List.Elements.{Contains-append_left, Contains-append_right}
 use Rattle.mls_term.specs.declared.term.TermNode.{TermNode}

@@ -1,7 +1,7 @@
 -- Models of automata whose states are types.
 --     has_model          a family of types is a model over one book
 --     copied_model       where a scheme allows a type, the automaton of its book has a model that gives it
-use Rattle.std.proofs.Common.{◌≡◌, ◌⊎◌, inl, inr, ℕ, ◌<◌, List, length, refl, sym, subst}
+use Rattle.std.proofs.Common.{◌≡◌, ◌⊎◌, inl, inr, ℕ, ◌<◌, length, refl, sym, subst}
 use Rattle.mls_book.specs.Predicates.{Predicate, Implies, top}
 use Rattle.mls_book.specs.Passes.{passes_by}
 use Rattle.mls_book.specs.Schemes as book

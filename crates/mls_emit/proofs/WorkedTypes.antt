@@ -1,8 +1,8 @@
 -- Worked types of nodes: of `fun x -> x`, and of `let k = fun x -> x in k`.
 --     identity_types       each type of `fun x -> x` is above a function from a type to itself
 --     let_types            and the let, whose name has the best scheme of its first part
-use Rattle.std.proofs.Common.{◌≡◌, ◌≢◌, ℕ, zero, suc, ◌+◌, ◌<◌, List, [], ◌∷◌, refl, sym, ap, ◌∙◌, subst, arith, slice_get, Some, length}
-use Rattle.std.specs.Prelude.{Contains, None}
+use Rattle.std.proofs.Common.{◌≡◌, ℕ, zero, suc, ◌+◌, ◌<◌, List, [], ◌∷◌, refl, sym, ◌∙◌, subst, arith, Some}
+use Rattle.std.specs.Prelude.{None}
 use Rattle.mls_typing.proofs.Lists.{Contains-here, nothing_in}
 use Rattle.std.specs.FinMap as env
 use Rattle.std.specs.FinMap.{get-empty, get-insert}
@@ -11,22 +11,17 @@ use Rattle.std.proofs.lemmas.Cmp.{nat_cmp_total}
 use Rattle.mls_book.specs.declared.book.Node.{Node}
 use Rattle.mls_book.specs.declared.book.Node.TheVariants as node
 use Rattle.mls_book.specs.Books.{node_at, IsClosedBook}
-use Rattle.mls_book.specs.Predicates.{Predicate, Implies, arrow, var}
-use Rattle.mls_book.specs.Passes.{passes, passes_by}
-use Rattle.mls_book.specs.Schemes.{Scheme, IsScheme, binder_passes}
+use Rattle.mls_book.specs.Predicates.{Predicate, Implies, arrow}
+use Rattle.mls_book.specs.Passes.{passes_by}
+use Rattle.mls_book.specs.Schemes.{Scheme, binder_passes}
 use Rattle.mls_book.proofs.Constructors.{arrow-implies}
-use Rattle.mls_book.proofs.Depths.{Implies-refl, Implies-trans, Implies-same, Implies-same_back}
+use Rattle.mls_book.proofs.Depths.{Implies-refl, Implies-trans, Implies-same}
 use Rattle.mls_book.proofs.LongerBooks.{IsGood, closed_from}
 use Rattle.mls_book.proofs.Table.{value-var, value-arrow}
-use Rattle.mls_term.specs.declared.term.TermNode.{TermNode}
-use Rattle.mls_term.specs.declared.term.TermForm.TheVariants as form
 use Rattle.mls_term.specs.Terms.{TermTree, bound, inner, fun, local, before, postorder}
 use Rattle.mls_term.specs.Derivations.{Known}
-use Rattle.mls_term.specs.WellFormed.{IsScoped, binders_of}
 use Rattle.mls_term.proofs.Environments.{is_scheme-empty}
-use Rattle.mls_typing.specs.Typed.{Types, IsTyped, Allows, IsType}
-use Rattle.mls_typing.proofs.TypedForms.{typed_bound, with_binder-same}
-use Rattle.mls_typing.proofs.TypedParts.{typed_fun}
+use Rattle.mls_typing.specs.Typed.{Types, IsTyped, IsType}
 use Rattle.mls_emit.specs.NodeTypes.{AllowsAll, IsKnownHere, HasNodeTypes}
 use Rattle.mls_emit.specs.NumberedNodes.{IsPlaced}
 use Rattle.mls_emit.proofs.NumberedNodes.{numbered_whole}

@@ -1,8 +1,7 @@
 -- Types of all nodes and binders of a part of a term. The first part of a let is a part of its own, and none of its
 -- nodes is a node of the part around it.
-use Rattle.std.specs.Prelude.{◌≡◌, ◌⊎◌, ℕ, ◌+◌, List, [], ◌∷◌, ◌++◌, length, Contains, bytes_eq, find, slice_get}
+use Rattle.std.specs.Prelude.{◌≡◌, ◌⊎◌, ℕ, ◌+◌, List, [], ◌∷◌, Contains, bytes_eq, find, slice_get}
 use Rattle.std.specs.Prelude.{option_map, Option, Some}
-use Rattle.std.specs.List.{AllPairs}
 use Rattle.std.specs.FinMap as env
 use Rattle.mls_book.specs.Predicates.{Predicate, Implies, top, bool, int, arrow, rcd}
 use Rattle.mls_book.specs.Passes.{passes_by}
@@ -12,10 +11,10 @@ use Rattle.mls_term.specs.declared.term.TermNode.{TermNode}
 use Rattle.mls_term.specs.declared.term.TermForm.{TermForm}
 use Rattle.mls_term.specs.declared.term.TermForm.TheVariants as form
 use Rattle.mls_term.specs.Terms.{TermTree, TermFields, bound, inner, global, number, truth, fun, apply, make, project}
-use Rattle.mls_term.specs.Terms.{choice, local, fix, no_field, a_field, before, postorder}
+use Rattle.mls_term.specs.Terms.{choice, local, fix, no_field, a_field, before}
 use Rattle.mls_term.specs.Derivations.{Known, with_let}
 use Rattle.mls_term.specs.TypingLaws.{AreSchemes}
-use Rattle.mls_term.specs.WellFormed.{IsScoped, binders_of}
+use Rattle.mls_term.specs.WellFormed.{binders_of}
 use Rattle.mls_typing.specs.Typed.{Types, IsType, IsTyped, Allows, one_field}
 use Rattle.mls_deriv.specs.Steps.{form_at}
 use Rattle.mls_emit.specs.NumberedNodes.{IsPlaced}

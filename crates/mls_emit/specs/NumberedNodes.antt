@@ -36,7 +36,7 @@ module _ (nodes : List TermNode) where
         HasRoot n (project at e label) (form.Project (n + before e) label) × IsNumbered n e
     IsNumbered n (choice at c e f) =
         HasRoot n (choice at c e f)
-            (form.If (n + before c) (behind n c + before e) (behind (behind n c) e + before f))
+        (form.If (n + before c) (behind n c + before e) (behind (behind n c) e + before f))
         × IsNumbered n c × IsNumbered (behind n c) e × IsNumbered (behind (behind n c) e) f
     IsNumbered n (local at k e f) =
         HasRoot n (local at k e f) (form.Let k (n + before e) (behind n e + before f))
