@@ -48,6 +48,7 @@ pub mod NumberedNodes
 pub mod PlacedParts
 pub mod HeldTypes
 pub mod KeptTypes
+pub mod KnownHere
 pub mod FoundTypes
 pub mod EachTyped
 pub mod NodeTypes

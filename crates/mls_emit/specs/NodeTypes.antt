@@ -24,7 +24,7 @@ abbrev pub part_types : (ℕ → Predicate) → List Part → List ℕ → Optio
 part_types type parts label =
     option_map (λ part. type part.child) (find (λ part. bytes_eq part.label label) parts)
 
--- the scheme has just this type, where its variables are read so, and the binders have these types
+-- an instance of the scheme has just this type, where the binders have these types
 abbrev pub HasInstance : Scheme → Types → Predicate → Type 0
 HasInstance s types f = (a : Allows s types f) × (passes_by a.reading s.book s.root ≡ f)
 
