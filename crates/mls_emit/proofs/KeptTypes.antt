@@ -4,29 +4,25 @@
 --     reset                           the type `top` for some binders
 --     instance_on, allows_on          what a scheme allows depends on the binders that it needs
 --     AreKept, kept_all, kept_less, kept_then, kept_binder
-use Rattle.std.proofs.Common.{◌≡◌, ◌⊎◌, inl, inr, ℕ, ◌<◌, ◌≤◌, Bool, true, false, cond, List, ◌∷◌, ◌++◌, refl, sym, ap, ◌∙◌, subst, arith, Some}
+use Rattle.std.proofs.Common.{◌≡◌, ◌⊎◌, inl, inr, ℕ, ◌<◌, ◌≤◌, Bool, true, false, cond, List, ◌∷◌, ◌++◌, refl, sym, ◌∙◌, subst, arith, Some}
 use Rattle.std.specs.Prelude.{Option, None, Contains}
 use Rattle.std.specs.Prelude.{◌==◌}
 use Rattle.std.specs.List.{list_any}
 use Rattle.std.proofs.lemmas.Bool.{eqb-true, eq-eqb}
 use Rattle.mls_automaton.proofs.Lists.{any_found, found_any}
 use Rattle.std.specs.FinMap as env
-use Rattle.std.specs.FinMap.{get-insert}
 use Rattle.std.specs.Ordering.{nat_cmp, eq_by_cmp}
-use Rattle.std.proofs.lemmas.Cmp.{nat_cmp_total}
 use Rattle.std.proofs.lemmas.List.Elements.{Contains-append_left, Contains-append_right}
 use Rattle.mls_book.specs.Predicates.{Predicate, Implies, top}
 use Rattle.mls_book.specs.Passes.{passes_by}
-use Rattle.mls_book.specs.Schemes.{Scheme, IsScheme, binder_passes}
+use Rattle.mls_book.specs.Schemes.{Scheme, binder_passes}
 use Rattle.mls_book.proofs.Depths.{Implies-refl, Implies-trans, Implies-same}
-use Rattle.mls_term.specs.Derivations.{Known, with_let}
-use Rattle.mls_term.proofs.Metatheory.{AreSchemes-let}
 use Rattle.mls_typing.specs.Typed.{Types, IsType, with_binder, Allows}
 use Rattle.mls_typing.proofs.Contexts.{same_key}
 use Rattle.mls_typing.proofs.Instances.{Allows-more}
 use Rattle.mls_typing.proofs.Lists.{Contains-here, Contains-later, Contains-cases}
 use Rattle.mls_typing.proofs.TypedForms.{same_self}
-use Rattle.mls_emit.specs.NodeTypes.{HasInstance, NeedsOnly, IsKnownHere}
+use Rattle.mls_emit.specs.NodeTypes.{HasInstance, NeedsOnly}
 use Rattle.mls_emit.proofs.HeldTypes.{top_type}
 
 -- one type set

@@ -76,7 +76,7 @@ allows_all_best scope here t s schemes it derives = best_by_types here t s schem
 -- Each let has a scheme that allows all types of its first part, if it has one once the lets inside the first part have.
 module _ (nodes : List TermNode) (known : Known)
     (step : (scope : List ℕ) (here : Known) (n at k : ℕ) (e f : TermTree) → IsPlaced nodes scope n (local at k e f) → IsKnownHere known scope here → LetsAllow known scope here e
-        → (s : Scheme) × (env.get known.lets k ≡ Some s) × AllowsAll scope here e s) where
+    → (s : Scheme) × (env.get known.lets k ≡ Some s) × AllowsAll scope here e s) where
   mutual
     pub lets_allow : (t : TermTree) (scope : List ℕ) (here : Known) (n : ℕ) → IsPlaced nodes scope n t → IsKnownHere known scope here → LetsAllow known scope here t
     lets_allow (bound at x) scope here n placed known_here = tt
