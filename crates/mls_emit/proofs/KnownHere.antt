@@ -1,6 +1,7 @@
 -- What is known in the parts of a term, and which schemes the lets have there.
 --     known_start, known_more, known_let     at the root, under one more binder, and behind a let
 --     best_allows_all, allows_all_best       a best scheme allows every type, and a derivable one that does is best
+--     allows_all_more                        so does one that subsumes such a scheme
 --     lets_allow                             where each first part has such a scheme once those inside it have, all have
 use Rattle.std.proofs.Common.{◌≡◌, ℕ, Bool, true, false, cond, List, [], ◌∷◌, refl, sym, ap, ◌∙◌, subst, Some, slice_get}
 use Rattle.std.specs.Prelude.{None}
@@ -8,7 +9,7 @@ use Rattle.std.specs.FinMap as env
 use Rattle.std.specs.FinMap.{get-empty, get-insert}
 use Rattle.std.specs.Ordering.{nat_cmp, eq_by_cmp}
 use Rattle.std.proofs.lemmas.Cmp.{nat_cmp_total}
-use Rattle.mls_book.specs.Schemes.{Scheme, IsScheme}
+use Rattle.mls_book.specs.Schemes.{Scheme, IsScheme, Subsumes}
 use Rattle.mls_term.specs.declared.term.TermNode.{TermNode}
 use Rattle.mls_term.specs.Terms.{TermTree, TermFields, bound, inner, global, number, truth, fun, apply, make, project, choice, local, fix, no_field, a_field}
 use Rattle.mls_term.specs.Derivations.{Known, with_let, Derives, IsBest}
@@ -16,7 +17,7 @@ use Rattle.mls_term.specs.TypingLaws.{AreSchemes}
 use Rattle.mls_term.proofs.Metatheory.{AreSchemes-let}
 use Rattle.mls_typing.specs.InferenceLaws.{at_start, AllSchemes}
 use Rattle.mls_typing.proofs.Contexts.{same_key}
-use Rattle.mls_typing.proofs.Instances.{best_allows, best_by_types, typed_under}
+use Rattle.mls_typing.proofs.Instances.{Allows-subsumed, best_allows, best_by_types, typed_under}
 use Rattle.mls_typing.proofs.Lists.{Contains-later}
 use Rattle.mls_emit.specs.NodeTypes.{NeedsOnly, AllowsAll, LetsAllow, AllLetsAllow, IsKnownHere}
 use Rattle.mls_emit.specs.NumberedNodes.{behind, IsPlaced}
@@ -72,6 +73,10 @@ best_allows_all scope here t s is needs best = record { is = is; needs = needs; 
 -- and a derivable scheme that does is best
 pub allows_all_best : (scope : List ℕ) (here : Known) (t : TermTree) (s : Scheme) → AreSchemes here → AllowsAll scope here t s → Derives here t s → IsBest here t s
 allows_all_best scope here t s schemes it derives = best_by_types here t s schemes it.is (λ types f. (it.all types f, λ a. typed_under s it.is types f a here t derives))
+
+-- what is as general allows as much
+pub allows_all_more : (scope : List ℕ) (here : Known) (t : TermTree) (s u : Scheme) → IsScheme u → NeedsOnly scope u → Subsumes u s → AllowsAll scope here t s → AllowsAll scope here t u
+allows_all_more scope here t s u is needs general it = record { is = is; needs = needs; all = λ types f h. Allows-subsumed s it.is types f (it.all types f h) u general }
 
 -- Each let has a scheme that allows all types of its first part, if it has one once the lets inside the first part have.
 module _ (nodes : List TermNode) (known : Known)

@@ -54,3 +54,4 @@ pub mod EachTyped
 pub mod NodeTypes
 pub mod WorkedTypes
 pub mod TypedModels
+pub mod ModelledConstraints
