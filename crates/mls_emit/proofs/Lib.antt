@@ -55,3 +55,5 @@ pub mod NodeTypes
 pub mod WorkedTypes
 pub mod TypedModels
 pub mod ModelledConstraints
+pub mod AddedStates
+pub mod PartFields
