@@ -12,7 +12,7 @@ use Rattle.mls_term.specs.Derivations.{Known}
 use Rattle.mls_typing.specs.Typed.{Types}
 use Rattle.mls_typing.proofs.Lists.{Contains-cases, nothing_in}
 use Rattle.mls_deriv.specs.Steps.{form_at}
-use Rattle.mls_emit.specs.NodeTypes.{IsNodeTyped, AreTyped, AreAllTyped, IsPartOf, IsNodeOf, at_top, in_part}
+use Rattle.mls_emit.specs.NodeTypes.{IsNodeTyped, AreTyped, AreAllTyped, IsOwnPart, IsNodeOf, at_top, in_part}
 
 module _ (nodes : List TermNode) (known : Known) (type : ℕ → Predicate) (binder : Types) where
   abbrev Typed : ℕ → TermTree → Type 0
@@ -52,11 +52,11 @@ module _ (nodes : List TermNode) (known : Known) (type : ℕ → Predicate) (bin
       ]
 
   -- a part of the node is one of its form
-  shaped : (j i : ℕ) (g f : TermForm) → form_at nodes i ≡ Some g → form_at nodes i ≡ Some f → IsPartOf f j → IsPartOf g j
-  shaped j i g f e e' part = subst (λ f. IsPartOf f j) (sym (one_form i g f e e')) part
+  shaped : (j i : ℕ) (g f : TermForm) → form_at nodes i ≡ Some g → form_at nodes i ≡ Some f → IsOwnPart f j → IsOwnPart g j
+  shaped j i g f e e' part = subst (λ f. IsOwnPart f j) (sym (one_form i g f e e')) part
 
   -- and so are its parts
-  part_typed : (t : TermTree) (i : ℕ) → Typed i t → (f : TermForm) → form_at nodes i ≡ Some f → (j : ℕ) → IsPartOf f j → HasTyped j
+  part_typed : (t : TermTree) (i : ℕ) → Typed i t → (f : TermForm) → form_at nodes i ≡ Some f → (j : ℕ) → IsOwnPart f j → HasTyped j
   part_typed (bound at x) i it f e j part = absurd (shaped j i (form.Bound x) f it.0 e part)
   part_typed (inner at k) i it f e j part = absurd (shaped j i (form.Inner k) f it.0 e part)
   part_typed (global at g) i it f e j part = absurd (shaped j i (form.Global g) f it.0 e part)

@@ -1,5 +1,6 @@
--- What is found for a tree, form by form, where types are found for its parts.
---     IsFound, AreFound
+-- Types that are found for the nodes and binders of a tree, form by form, over those that are found for its parts. They
+-- are changes of given families on the nodes and binders of the tree alone.
+--     IsFound, AreFound         of a tree, and of the parts of a record
 --     bound_found, inner_found, global_found, number_found, truth_found
 --     fun_found, fix_found, project_found, apply_found, choice_found, local_found
 --     no_field_found, field_found, make_found, label_there

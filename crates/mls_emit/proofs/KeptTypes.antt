@@ -1,33 +1,28 @@
--- Families of types that are changed on the nodes of a part and on its binders alone, and what is known in a part.
+-- Families of types that are changed on the nodes of a part and on its binders alone.
 --     with_other, with_is_type        one type set
 --     AgreeOn, with_agree             the same types of the binders around
 --     reset                           the type `top` for some binders
 --     instance_on, allows_on          what a scheme allows depends on the binders that it needs
 --     AreKept, kept_all, kept_less, kept_then, kept_binder
---     known_more, known_let           what is known under one more binder, and behind a let
-use Rattle.std.proofs.Common.{◌≡◌, ◌⊎◌, inl, inr, ℕ, ◌<◌, ◌≤◌, Bool, true, false, cond, List, ◌∷◌, ◌++◌, refl, sym, ap, ◌∙◌, subst, arith, Some}
+use Rattle.std.proofs.Common.{◌≡◌, ◌⊎◌, inl, inr, ℕ, ◌<◌, ◌≤◌, Bool, true, false, cond, List, ◌∷◌, ◌++◌, refl, sym, ◌∙◌, subst, arith, Some}
 use Rattle.std.specs.Prelude.{Option, None, Contains}
 use Rattle.std.specs.Prelude.{◌==◌}
 use Rattle.std.specs.List.{list_any}
 use Rattle.std.proofs.lemmas.Bool.{eqb-true, eq-eqb}
 use Rattle.mls_automaton.proofs.Lists.{any_found, found_any}
 use Rattle.std.specs.FinMap as env
-use Rattle.std.specs.FinMap.{get-insert}
 use Rattle.std.specs.Ordering.{nat_cmp, eq_by_cmp}
-use Rattle.std.proofs.lemmas.Cmp.{nat_cmp_total}
 use Rattle.std.proofs.lemmas.List.Elements.{Contains-append_left, Contains-append_right}
 use Rattle.mls_book.specs.Predicates.{Predicate, Implies, top}
 use Rattle.mls_book.specs.Passes.{passes_by}
-use Rattle.mls_book.specs.Schemes.{Scheme, IsScheme, binder_passes}
+use Rattle.mls_book.specs.Schemes.{Scheme, binder_passes}
 use Rattle.mls_book.proofs.Depths.{Implies-refl, Implies-trans, Implies-same}
-use Rattle.mls_term.specs.Derivations.{Known, with_let}
-use Rattle.mls_term.proofs.Metatheory.{AreSchemes-let}
 use Rattle.mls_typing.specs.Typed.{Types, IsType, with_binder, Allows}
 use Rattle.mls_typing.proofs.Contexts.{same_key}
 use Rattle.mls_typing.proofs.Instances.{Allows-more}
 use Rattle.mls_typing.proofs.Lists.{Contains-here, Contains-later, Contains-cases}
 use Rattle.mls_typing.proofs.TypedForms.{same_self}
-use Rattle.mls_emit.specs.NodeTypes.{HasInstance, NeedsOnly, IsKnownHere}
+use Rattle.mls_emit.specs.NodeTypes.{HasInstance, NeedsOnly}
 use Rattle.mls_emit.proofs.HeldTypes.{top_type}
 
 -- one type set
@@ -136,30 +131,3 @@ kept_binder n x bs f is old olds type binder kept = record {
   nodes_are = kept.nodes_are;
   binders_are = λ y other. kept.binders_are y (with_is_type olds x f y is other);
 }
-
--- what is known under one more binder, and behind a let
-pub known_more : (known : Known) (scope : List ℕ) (here : Known) (x : ℕ) → IsKnownHere known scope here → IsKnownHere known (x ∷ scope) here
-known_more known scope here x it = record {
-  schemes = it.schemes;
-  globals = it.globals;
-  lets = it.lets;
-  globals_need = λ g s e y i has. Contains-later x scope y (it.globals_need g s e y i has);
-  lets_need = λ k s e y i has. Contains-later x scope y (it.lets_need k s e y i has);
-}
-
-pub known_let : (known : Known) (scope : List ℕ) (here : Known) (k : ℕ) (s : Scheme) → env.get known.lets k ≡ Some s → IsScheme s → NeedsOnly scope s → IsKnownHere known scope here → IsKnownHere known scope (with_let here k s)
-known_let known scope here k s known_is is needs it = record {
-  schemes = AreSchemes-let here k s it.schemes is;
-  globals = it.globals;
-  lets = λ q u e. by_key q u (eq_by_cmp nat_cmp q k) refl (sym (get-insert nat_cmp_total here.lets k s q) ∙ e);
-  globals_need = it.globals_need;
-  lets_need = λ q u e. needs_by_key q u (eq_by_cmp nat_cmp q k) (sym (get-insert nat_cmp_total here.lets k s q) ∙ e);
-}
-  where
-    by_key : (q : ℕ) (u : Scheme) (b : Bool) → eq_by_cmp nat_cmp q k ≡ b → cond b (Some s) (env.get here.lets q) ≡ Some u → env.get known.lets q ≡ Some u
-    by_key q u true key e = ap (λ z. env.get known.lets z) (same_key q k key) ∙ (known_is ∙ e)
-    by_key q u false key e = it.lets q u e
-
-    needs_by_key : (q : ℕ) (u : Scheme) (b : Bool) → cond b (Some s) (env.get here.lets q) ≡ Some u → NeedsOnly scope u
-    needs_by_key q u true e = let same : s ≡ u = cc in let P : Scheme → Type 0 = λ u. NeedsOnly scope u in subst P same needs
-    needs_by_key q u false e = it.lets_need q u e

@@ -73,3 +73,8 @@ pub mod SingleSets
 pub mod PrintedTypes
 pub mod PrintedLayouts
 pub mod WorkedReading
+pub mod KnownHere
+pub mod WorkedTypes
+pub mod ModelledConstraints
+pub mod AddedStates
+pub mod PartFields

@@ -19,7 +19,8 @@ use Rattle.mls_typing.proofs.TypedLet.{LetParts, let_parts, typed_more_general}
 use Rattle.mls_emit.specs.NodeTypes.{AreTyped, AllowsAll, LetsAllow, AllLetsAllow, IsKnownHere, NodesHaveTypes}
 use Rattle.mls_emit.specs.NumberedNodes.{behind, IsPlaced}
 use Rattle.mls_emit.proofs.HeldTypes.{top_type, record_type}
-use Rattle.mls_emit.proofs.KeptTypes.{AgreeOn, with_agree, reset, reset_inside, reset_outside, AreKept, known_more, known_let}
+use Rattle.mls_emit.proofs.KnownHere.{known_more, known_let}
+use Rattle.mls_emit.proofs.KeptTypes.{AgreeOn, with_agree, reset, reset_inside, reset_outside, AreKept}
 use Rattle.mls_emit.proofs.PlacedParts.{AreApart}
 use Rattle.mls_emit.proofs.EachTyped.{each_typed}
 use Rattle.mls_emit.proofs.FoundTypes.{IsFound, AreFound, bound_found, inner_found, global_found, number_found, truth_found, fun_found, fix_found, project_found, apply_found, choice_found, local_found, no_field_found, field_found, make_found, label_there}

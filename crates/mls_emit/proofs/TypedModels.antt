@@ -1,22 +1,25 @@
 -- Models of automata whose states are types.
 --     has_model          a family of types is a model over one book
 --     copied_model       where a scheme allows a type, the automaton of its book has a model that gives it
-use Rattle.std.proofs.Common.{◌≡◌, ◌⊎◌, inl, inr, ℕ, ◌<◌, length, refl, sym, subst}
+--     model_allows       and back: what models give, the scheme allows
+use Rattle.std.specs.Prelude.{Option, None}
+use Rattle.std.proofs.Common.{◌≡◌, ◌⊎◌, inl, inr, ℕ, ◌<◌, length, refl, sym, ◌∙◌, subst, Some}
 use Rattle.mls_book.specs.Predicates.{Predicate, Implies, top}
 use Rattle.mls_book.specs.Passes.{passes_by}
 use Rattle.mls_book.specs.Schemes as book
 use Rattle.mls_book.specs.Schemes.{binder_passes}
+use Rattle.mls_book.proofs.Depths.{Implies-trans, Implies-same, Implies-same_back}
 use Rattle.mls_automaton.specs.declared.automaton.Flow.{Flow}
 use Rattle.mls_automaton.specs.declared.automaton.Polarity.TheVariants.{Negative}
 use Rattle.mls_automaton.specs.declared.scheme.Scheme.{Scheme}
-use Rattle.mls_automaton.specs.Automata.{IsState}
+use Rattle.mls_automaton.specs.Automata.{Automaton, IsState}
 use Rattle.mls_automaton.specs.Models.{IsModel}
-use Rattle.mls_automaton.specs.Schemes.{state_of, IsScheme, IsSchemeOf}
+use Rattle.mls_automaton.specs.Schemes.{state_of, IsScheme, IsSchemeOf, NoGoal}
 use Rattle.mls_automaton.specs.States.{state_passes}
 use Rattle.mls_automaton.proofs.BookValues.{root-value, binder-value}
-use Rattle.mls_automaton.proofs.Bounds.{passes-model}
-use Rattle.mls_automaton.proofs.HeldEverywhere.{decide_state}
-use Rattle.mls_automaton.proofs.Instances.{HasModel}
+use Rattle.mls_automaton.proofs.Bounds.{IsBetween, positive-below, negative-above, passes-model}
+use Rattle.mls_automaton.proofs.HeldEverywhere.{IsHeldEverywhere, held_everywhere, decide_state}
+use Rattle.mls_automaton.proofs.Instances.{HasModel, flow_of, read-variables}
 use Rattle.mls_automaton.proofs.StatesHeld.{states_held}
 use Rattle.mls_typing.specs.Typed.{Types, IsType, IsTypeOf, Allows}
 use Rattle.mls_emit.proofs.HeldTypes.{top_type, in_one_book}
@@ -65,3 +68,52 @@ copied_model s b is is_book types f a =
         env = λ x. subst (Implies (types x)) (binder-value s is b is_book a.reading x) (a.env x);
       },
     )
+
+-- what a model gives, the scheme allows
+module _ (s : Scheme) (b : book.Scheme) (is : IsScheme s) (is_book : IsSchemeOf s b) (types : Types) (f : Predicate) (it : HasModel s NoGoal f types) where
+  abbrev a : Automaton
+  a = s.automaton
+
+  -- each variable is read as the negative state of its edge
+  module _ (every : IsHeldEverywhere a Negative it.nodes it.value) where
+    abbrev reading : Flow → Predicate
+    reading e = every.total e.negative.0
+
+    between : IsBetween a it.value reading
+    between e there =
+        let same : every.total e.negative.0 ≡ it.value e.negative.0 = every.same e.negative.0 (is.automaton.negative e there) in (
+          Implies-same_back (every.total e.negative.0) (it.value e.negative.0) same,
+          Implies-trans (every.total e.negative.0) (it.value e.negative.0) (it.value e.positive.0) (Implies-same (every.total e.negative.0) (it.value e.negative.0) same) (it.model.flows e there),
+        )
+
+    abbrev flow_at : ℕ → Flow
+    flow_at = flow_of a is_book.variable is_book.book.distinct
+
+    abbrev v : ℕ → Predicate
+    v x = reading (flow_at x)
+
+    same_reading : state_passes (λ e. v (is_book.variable e)) a ≡ state_passes reading a
+    same_reading = λ k j. read-variables a is_book.variable is_book.book.distinct reading j k
+
+    above : (g : Predicate) (o : Option ℕ) → ((n : ℕ) → o ≡ Some n → IsState a Negative n) → Implies g (binder_passes it.value o) → Implies g (binder_passes (state_passes reading a) o)
+    above g None state h = λ t e. refl
+    above g (Some n) state h = Implies-trans g (it.value n) (state_passes reading a n) h (negative-above a is.automaton it.value it.model reading between n (state n refl).polarity)
+
+    allowed : Allows b types f
+    allowed = record {
+      book = every.book;
+      closed = every.extends.closed;
+      reading = v;
+      held = λ x. every.held (flow_at x).negative.0;
+      root =
+          Implies-trans (passes_by v b.book b.root) (it.value s.root.0) f
+          (subst (λ g. Implies g (it.value s.root.0)) (sym (root-value s is b is_book v ∙ (λ k. same_reading k s.root.0)))
+          (positive-below a is.automaton it.value it.model reading between s.root.0 is.root.polarity))
+          it.root;
+      env = λ x.
+          subst (Implies (types x)) (sym (binder-value s is b is_book v x ∙ (λ k. binder_passes (same_reading k) (state_of s.env x))))
+          (above (types x) (state_of s.env x) (is.env x) (it.env x));
+    }
+
+  pub model_allows : Allows b types f
+  model_allows = allowed (held_everywhere a Negative it.nodes it.closed it.value it.held)

@@ -24,7 +24,7 @@ abbrev pub part_types : (ℕ → Predicate) → List Part → List ℕ → Optio
 part_types type parts label =
     option_map (λ part. type part.child) (find (λ part. bytes_eq part.label label) parts)
 
--- the scheme has just this type, where its variables are read so, and the binders have these types
+-- an instance of the scheme has just this type, where the binders have these types
 abbrev pub HasInstance : Scheme → Types → Predicate → Type 0
 HasInstance s types f = (a : Allows s types f) × (passes_by a.reading s.book s.root ≡ f)
 
@@ -48,7 +48,7 @@ module _ (known : Known) (type : ℕ → Predicate) (binder : Types) where
       (type i ≡ type l) × (s : Scheme) × (env.get known.lets k ≡ Some s) × Allows s binder top
   IsNodeTyped i (form.Rec x j) = (type i ≡ type j) × Implies (type j) (binder x)
 
--- Node i is the root of this tree, and each node of the tree has a type as its form asks.
+-- Node i is the root of this tree, and each node of the tree that is of the same part has a type as its form asks.
 module _ (nodes : List TermNode) (known : Known) (type : ℕ → Predicate) (binder : Types) where
   -- node i is of this form, and typed so
   abbrev pub IsTypedAt : ℕ → TermForm → Type 0
@@ -77,21 +77,21 @@ module _ (nodes : List TermNode) (known : Known) (type : ℕ → Predicate) (bin
         (j : ℕ) × (others : List Part) × (parts ≡ record { label = label; child = j } ∷ others)
         × AreTyped j e × AreAllTyped others rest
 
--- node j is a part of a node of this form; not the first part of a let
-abbrev pub IsPartOf : TermForm → ℕ → Type 0
-IsPartOf (form.Fun x i) j = j ≡ i
-IsPartOf (form.Apply i k) j = (j ≡ i) ⊎ (j ≡ k)
-IsPartOf (form.Make parts) j = (part : Part) × Contains parts part × (j ≡ part.child)
-IsPartOf (form.Project i label) j = j ≡ i
-IsPartOf (form.If i k l) j = (j ≡ i) ⊎ ((j ≡ k) ⊎ (j ≡ l))
-IsPartOf (form.Let k i l) j = j ≡ l
-IsPartOf (form.Rec x i) j = j ≡ i
-IsPartOf _ j = ⊥
+-- node j is a part of a node of this form, and of the same part of the term: so not the first part of a let
+abbrev pub IsOwnPart : TermForm → ℕ → Type 0
+IsOwnPart (form.Fun x i) j = j ≡ i
+IsOwnPart (form.Apply i k) j = (j ≡ i) ⊎ (j ≡ k)
+IsOwnPart (form.Make parts) j = (part : Part) × Contains parts part × (j ≡ part.child)
+IsOwnPart (form.Project i label) j = j ≡ i
+IsOwnPart (form.If i k l) j = (j ≡ i) ⊎ ((j ≡ k) ⊎ (j ≡ l))
+IsOwnPart (form.Let k i l) j = j ≡ l
+IsOwnPart (form.Rec x i) j = j ≡ i
+IsOwnPart _ j = ⊥
 
 -- the nodes of the part whose root is the node `top`
 pub data IsNodeOf (nodes : List TermNode) (top : ℕ) : ℕ → Type 0 where
   at_top : {j : ℕ} → j ≡ top → IsNodeOf nodes top j
-  in_part : {j : ℕ} (i : ℕ) (f : TermForm) → IsNodeOf nodes top i → form_at nodes i ≡ Some f → IsPartOf f j
+  in_part : {j : ℕ} (i : ℕ) (f : TermForm) → IsNodeOf nodes top i → form_at nodes i ≡ Some f → IsOwnPart f j
       → IsNodeOf nodes top j
 
 -- the scheme needs these binders alone
@@ -129,7 +129,7 @@ module _ (known : Known) where
     AllLetsAllow scope here no_field = Unit {0}
     AllLetsAllow scope here (a_field label e rest) = LetsAllow scope here e × AllLetsAllow scope here rest
 
--- what is known in one place: the names there, by schemes that need these binders alone
+-- What is known in one place, under these binders: some of the names, by schemes that need these binders alone.
 pub record IsKnownHere (known : Known) (scope : List ℕ) (here : Known) : Type 0 where
   pub schemes : AreSchemes here
   pub globals : here.globals ≡ known.globals
@@ -150,7 +150,7 @@ pub record HasNodeTypes (nodes : List TermNode) (known : Known) (types : Types) 
   pub types_are : (i : ℕ) → IsType (type i)
   pub binders_are : (x : ℕ) → Contains (binders_of t) x → IsType (binder x)
 
--- where a part has a type, its nodes and binders have types
+-- where a part has a type, all its nodes and binders have types
 abbrev pub NodesHaveTypes : Type 0
 NodesHaveTypes =
     (nodes : List TermNode) (known : Known) (scope : List ℕ) (here : Known) (n : ℕ) (t : TermTree)
