@@ -15,3 +15,4 @@ pub mod Scopes
 pub mod Posed
 pub mod PosedUses
 pub mod Parts
+pub mod LaidOut

@@ -4,3 +4,6 @@ pub mod Needs
 pub mod Growth
 pub mod Rounds
 pub mod Filling
+pub mod Planned
+pub mod Sources
+pub mod Owned

@@ -1,0 +1,48 @@
+//! The nodes that are known before the trees of a part.
+ghost use Rattle.std.specs.Prelude.{◌≡◌, ℕ, ◌<◌, length, IfOk};
+ghost use Rattle.mls_emit.specs.LaidOut.{place_of};
+ghost use Rattle.mls_emit.specs.steps.Sources.{AreParted, ArePartners};
+
+use crate::layout::Places;
+use crate::layout::leaves::Leaves;
+use crate::layout::partners::partners_of;
+use crate::layout::parts::parts_of;
+use crate::tree::NodeIds;
+use mls_automaton::automaton::Automaton;
+use mls_base::list::List;
+use mls_base::memory::Memory;
+use mls_book::book::NodeId;
+use mls_subsume::verdict::StatePair;
+use std::alloc::Global;
+
+/// For each state the nodes of the parts of its head, and those of its partners in the type; and the node of nothing.
+#[derive(Drop)]
+pub(crate) struct Sources {
+    pub(crate) parts: List<NodeIds>,
+    pub(crate) partners: Vec<NodeIds>,
+    pub(crate) nothing: NodeId,
+}
+
+/// The known nodes, and the number behind them. Functions and records get the numbers from `start` on.
+pub(crate) fn sources_of(
+    alloc: Global,
+    a: &Automaton,
+    leaves: Leaves,
+    pairs: &[StatePair],
+    type_places: &Places,
+    start: usize,
+) -> Result<(Sources, usize), Memory>
+    ensures parts { IfOk result (λ known. AreParted a.now leaves start (length a.now.states) known.1 known.0.parts) }
+    ensures partners { IfOk result (λ known. ArePartners pairs.now (place_of type_places.now) (length a.now.states)
+        known.0.partners.items) }
+    ensures nothing { IfOk result (λ known. known.0.nothing ≡ leaves.nothing) }
+{
+    let parts = parts_of(alloc, a, leaves, start)?;
+    let partners = partners_of(alloc, a.len(), pairs, type_places)?;
+    let sources = Sources {
+        parts: parts.nodes,
+        partners,
+        nothing: leaves.nothing,
+    };
+    Ok((sources, parts.end))
+}
