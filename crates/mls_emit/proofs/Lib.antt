@@ -43,3 +43,9 @@ pub mod ReadLayouts
 pub mod TreesMade
 pub mod Filled
 pub mod LongerLayouts
+pub mod PlannedTrees
+pub mod Gathering
+pub mod Entering
+pub mod KnownNodes
+pub mod OwnNodes
+pub mod HeadParts

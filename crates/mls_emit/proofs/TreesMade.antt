@@ -1,5 +1,6 @@
 -- Trees that are made one node after another.
 --     two_low             the children of a join or a meet
+--     tree_same           a tree of the same members in other words
 --     tree_kept           a tree of a book is one in a longer book
 --     last_at             the last node
 --     book_pushed, two_ordered        a node more
@@ -8,7 +9,7 @@
 --     chain_next          a tree with one member more
 --     no_trees, trees_next, members_kept      trees that are made one after another
 use Rattle.std.proofs.Common.{◌≡◌, ◌⊎◌, inl, inr, ℕ, zero, suc, ◌+◌, ◌<◌, List, [], ◌∷◌, ◌++◌, length, refl, sym, ap, ◌∙◌, subst, arith, append-nil, append_assoc, length-append}
-use Rattle.std.specs.Prelude.{Contains, get_or}
+use Rattle.std.specs.Prelude.{◌↔◌, Contains, get_or}
 use Rattle.std.proofs.Math.ListN.{get_or-append}
 use Rattle.std.proofs.lemmas.List.{get_or_past}
 use Rattle.std.proofs.lemmas.List.Elements.{All-nil, All-append, Contains-append_left, Contains-push, Contains-push_cases}
@@ -33,6 +34,10 @@ more_only : (nodes : List Node) (p : Polarity) (M N : ℕ → Type 0) → ((i : 
 more_only nodes p M N within i (member it) = member (within i it)
 more_only nodes p M N within i (none e) = none e
 more_only nodes p M N within i (two l r e h k) = two l r e (more_only nodes p M N within l.0 h) (more_only nodes p M N within r.0 k)
+
+-- the same members in other words
+pub tree_same : (nodes : List Node) (p : Polarity) (M N : ℕ → Type 0) → ((j : ℕ) → M j ↔ N j) → (i : ℕ) → IsTree nodes p M i → IsTree nodes p N i
+tree_same nodes p M N same i tree = record { only = more_only nodes p M N (λ j. (same j).0) i tree.only; each = λ j it. tree.each j ((same j).1 it) }
 
 module _ (nodes more : List Node) (book : IsBook nodes) (p : Polarity) where
   same_node : (i : ℕ) (n : Node) → i < length nodes → node_at nodes i ≡ n → node_at (nodes ++ more) i ≡ n

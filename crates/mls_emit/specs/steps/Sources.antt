@@ -1,6 +1,6 @@
 -- The nodes that are known before the trees of a part: those of the parts of heads, and of the type.
 use Rattle.std.specs.Prelude.{◌≡◌, ◌↔◌, ◌⊎◌, ℕ, ◌<◌, ◌+◌, Bool, true, false, List, [], ◌∷◌, ◌++◌, length, get_or}
-use Rattle.std.specs.Prelude.{Contains, is_some}
+use Rattle.std.specs.Prelude.{Contains, is_some, zero, suc}
 use Rattle.mls_book.specs.declared.book.NodeId.{NodeId}
 use Rattle.mls_book.specs.declared.book.Node.{Node}
 use Rattle.mls_book.specs.declared.book.Node.TheVariants as node
@@ -77,11 +77,14 @@ IsEntering a IsRelated sources Positive n i = sources.nothing.0 ≡ i
 IsEntering a IsRelated sources Negative n i =
     IsNodeIn (partners_in sources n) i ⊎ ((p : ℕ) × IsRelated p n × IsOfState a sources p i)
 
--- what a state is the tree of, where each negative state has this value
+-- the values of the states with an edge to a positive state, and the value of a negative state
+abbrev pub IsValued : Automaton → (value : ℕ → ℕ) → Polarity → ℕ → ℕ → Type 0
+IsValued a value Positive s i = (n : ℕ) × HasFlow a n s × (value n ≡ i)
+IsValued a value Negative s i = value s ≡ i
+
+-- what a state is the tree of
 abbrev pub IsPlaced : Automaton → Sources → (value : ℕ → ℕ) → Polarity → ℕ → ℕ → Type 0
-IsPlaced a sources value Positive s i =
-    IsNodeIn (parts_in sources s) i ⊎ ((n : ℕ) × HasFlow a n s × (value n ≡ i))
-IsPlaced a sources value Negative s i = IsNodeIn (parts_in sources s) i ⊎ (value s ≡ i)
+IsPlaced a sources value p s i = IsNodeIn (parts_in sources s) i ⊎ IsValued a value p s i
 
 -- nodes of this kind are added to the list
 abbrev pub Gathers : (IsNew : ℕ → Type 0) → List NodeId → List NodeId → Type 0
@@ -92,8 +95,3 @@ pub record AreBelow (sources : Sources) (start : ℕ) : Type 0 where
   pub parts : (s i : ℕ) → IsNodeIn (parts_in sources s) i → i < start
   pub partners : (s i : ℕ) → IsNodeIn (partners_in sources s) i → i < start
   pub nothing : sources.nothing.0 < start
-
--- there are such for each state
-pub record AreOf (a : Automaton) (sources : Sources) : Type 0 where
-  pub parts : length sources.parts ≡ length a.states
-  pub partners : length sources.partners.items ≡ length a.states

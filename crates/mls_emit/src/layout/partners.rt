@@ -29,9 +29,10 @@ fn add(lists: &mut Vec<NodeIds>, s: usize, id: NodeId) -> Result<(), Memory>
     ensures added { OnOk result ((t i : ℕ) → t < length lists.old.items → IsNodeIn (get_or lists.new.items t []) i
         ↔ IsNodeIn (get_or lists.old.items t []) i ⊎ ((s ≡ t) × (id.0 ≡ i))) }
 {
-    if s < lists.len() {
-        lists[s].push(id)?;
+    if s >= lists.len() {
+        return Ok(());
     }
+    lists[s].push(id)?;
     Ok(())
 }
 

@@ -3,6 +3,7 @@ ghost use Rattle.std.specs.Prelude.{◌≡◌, ◌++◌, ◌+◌, length, is_som
 ghost use Rattle.mls_emit.specs.steps.Sources.{AreParted, count_if, head_parts, ids_if, own_count};
 
 use crate::layout::leaves::Leaves;
+use crate::layout::planned::after;
 use crate::tree::NodeIds;
 use mls_automaton::automaton::{Automaton, Head};
 use mls_automaton::state_set::StateId;
@@ -32,10 +33,9 @@ fn push_if(ids: &mut NodeIds, is_there: bool, id: NodeId) -> Result<(), Memory>
 fn behind(number: usize, is_there: bool) -> Result<usize, Memory>
     ensures { IfOk result (λ next. next ≡ number + count_if is_there) }
 {
-    if is_there {
-        number.checked_add(1).ok_or(Memory)
-    } else {
-        Ok(number)
+    match is_there {
+        true => after(number, 1),
+        false => Ok(number),
     }
 }
 

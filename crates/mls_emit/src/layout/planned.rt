@@ -30,6 +30,16 @@ impl Model for PlannedTrees {
     ghost invariant = { λ a. IsCounted a.start a.end a.trees };
 }
 
+/// The number that is so many higher. Where it does not fit, memory is wanting for so many nodes.
+pub(crate) fn after(number: usize, more: usize) -> Result<usize, Memory>
+    ensures { IfOk result (λ sum. sum ≡ number + more) }
+{
+    match number.checked_add(more) {
+        Some(sum) => Ok(sum),
+        None => Err(Memory),
+    }
+}
+
 // How many nodes the tree of these members adds.
 fn tree_size(members: &[NodeId]) -> usize
     ensures { result ≡ tree_size members.now }
@@ -77,7 +87,7 @@ impl PlannedTrees {
         ensures low { IfOk result (λ id. id.0 < end_of self.new) }
     {
         let size = tree_size(members.as_slice());
-        let end = self.end.checked_add(size).ok_or(Memory)?;
+        let end = after(self.end, size)?;
         let root = tree_root(self.end, end, members.as_slice());
         self.trees.push(PlannedTree { polarity, members })?;
         self.end = end;

@@ -1,7 +1,7 @@
 //! The nodes that are known before the trees of a part.
 ghost use Rattle.std.specs.Prelude.{◌≡◌, ℕ, ◌<◌, length, IfOk};
 ghost use Rattle.mls_emit.specs.LaidOut.{place_of};
-ghost use Rattle.mls_emit.specs.steps.Sources.{AreParted, ArePartners};
+ghost use Rattle.mls_emit.specs.steps.Sources.{AreParted, ArePartners, parts_in, partners_in};
 
 use crate::layout::Places;
 use crate::layout::leaves::Leaves;
@@ -21,6 +21,28 @@ pub(crate) struct Sources {
     pub(crate) parts: List<NodeIds>,
     pub(crate) partners: Vec<NodeIds>,
     pub(crate) nothing: NodeId,
+}
+
+impl Sources {
+    /// The nodes of the parts of the head of a state.
+    pub(crate) fn parts(&self, s: usize) -> &[NodeId]
+        ensures { result.now ≡ parts_in self.now s }
+    {
+        match self.parts.as_slice().get(s) {
+            Some(ids) => ids.as_slice(),
+            None => &[],
+        }
+    }
+
+    /// The nodes of the partners of a state.
+    pub(crate) fn partners(&self, s: usize) -> &[NodeId]
+        ensures { result.now ≡ partners_in self.now s }
+    {
+        match self.partners.get(s) {
+            Some(ids) => ids.as_slice(),
+            None => &[],
+        }
+    }
 }
 
 /// The known nodes, and the number behind them. Functions and records get the numbers from `start` on.

@@ -6,7 +6,7 @@ ghost use Rattle.mls_emit.specs.LaidOut.{place_of};
 ghost use Rattle.mls_emit.specs.Trees.{IsNodeIn};
 ghost use Rattle.mls_emit.specs.steps.Owned.{HaveTrees};
 ghost use Rattle.mls_emit.specs.steps.Planned.{Extends, end_of};
-ghost use Rattle.mls_emit.specs.steps.Sources.{AreBelow, AreOf, Gathers, IsPlaced};
+ghost use Rattle.mls_emit.specs.steps.Sources.{AreBelow, Gathers, IsPlaced, IsValued};
 
 use crate::layout::Places;
 use crate::layout::planned::PlannedTrees;
@@ -29,6 +29,22 @@ pub(crate) fn add_nodes(ids: &mut NodeIds, places: &Places, states: &[usize]) ->
     Ok(())
 }
 
+// Adds the values of the states with an edge to a positive state, or the value of a negative state.
+fn add_values(ids: &mut NodeIds, a: &Automaton, values: &Places, s: StateId) -> Result<(), Memory>
+    requires closed { IsClosed a.now }
+    requires state { s.0 < length a.now.states }
+    ensures { OnOk result (Gathers (IsValued a.now (place_of values.now) (polarity_at a.now s.0) s.0)
+        ids.old ids.new) }
+{
+    match a.polarity(s) {
+        Polarity::Positive => add_nodes(ids, values, a.partners(s).as_slice()),
+        Polarity::Negative => {
+            ids.push(values.node(s.0))?;
+            Ok(())
+        }
+    }
+}
+
 // What a state is the tree of.
 fn state_members(
     alloc: Global,
@@ -38,17 +54,13 @@ fn state_members(
     s: StateId,
 ) -> Result<NodeIds, Memory>
     requires closed { IsClosed a.now }
-    requires sources { AreOf a.now sources.now }
     requires state { s.0 < length a.now.states }
     ensures { IfOk result (λ ids. (i : ℕ) → IsNodeIn ids i
         ↔ IsPlaced a.now sources.now (place_of values.now) (polarity_at a.now s.0) s.0 i) }
 {
     let mut ids = NodeIds::new(alloc);
-    add_all(&mut ids, sources.parts.as_slice()[s.0].as_slice())?;
-    match a.polarity(s) {
-        Polarity::Positive => add_nodes(&mut ids, values, a.partners(s).as_slice())?,
-        Polarity::Negative => ids.push(values.node(s.0))?,
-    }
+    add_all(&mut ids, sources.parts(s.0))?;
+    add_values(&mut ids, a, values, s)?;
     Ok(ids)
 }
 
@@ -61,7 +73,6 @@ pub(crate) fn plan_states(
     values: &Places,
 ) -> Result<Places, Memory>
     requires closed { IsClosed a.now }
-    requires sources { AreOf a.now sources.now }
     requires low { AreBelow sources.now trees.old.start }
     requires values { (s : ℕ) → place_of values.now s < end_of trees.old }
     ensures extends { OnOk result (Extends trees.old trees.new) }

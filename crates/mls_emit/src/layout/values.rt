@@ -7,7 +7,7 @@ ghost use Rattle.mls_biunify.specs.Rooms.{Holds, HoldsStates};
 ghost use Rattle.mls_emit.specs.Trees.{IsNodeIn};
 ghost use Rattle.mls_emit.specs.steps.Owned.{HaveTrees};
 ghost use Rattle.mls_emit.specs.steps.Planned.{Extends};
-ghost use Rattle.mls_emit.specs.steps.Sources.{AreBelow, AreOf, Gathers, IsEntering, IsOfState, partners_in};
+ghost use Rattle.mls_emit.specs.steps.Sources.{AreBelow, Gathers, IsEntering, IsOfState, partners_in};
 
 use crate::layout::Places;
 use crate::layout::planned::PlannedTrees;
@@ -32,12 +32,11 @@ pub(crate) fn add_all(ids: &mut NodeIds, others: &[NodeId]) -> Result<(), Memory
 
 // Adds the nodes of the partners of these states.
 fn add_partners(ids: &mut NodeIds, sources: &Sources, states: &[usize]) -> Result<(), Memory>
-    requires { All (λ k. k < length sources.now.partners.items) states.now }
     ensures { OnOk result (Gathers (λ i. (k : ℕ) × Contains states.now k × IsNodeIn (partners_in sources.now k) i)
         ids.old ids.new) }
 {
     for k in states {
-        add_all(ids, sources.partners[*k].as_slice())?;
+        add_all(ids, sources.partners(*k))?;
     }
     Ok(())
 }
@@ -45,11 +44,10 @@ fn add_partners(ids: &mut NodeIds, sources: &Sources, states: &[usize]) -> Resul
 // Adds the nodes of the head of a positive state, and those of the partners of the states with an edge to it.
 fn add_state(ids: &mut NodeIds, a: &Automaton, sources: &Sources, p: usize) -> Result<(), Memory>
     requires closed { IsClosed a.now }
-    requires sources { AreOf a.now sources.now }
     requires state { IsState a.now Positive p }
     ensures { OnOk result (Gathers (IsOfState a.now sources.now p) ids.old ids.new) }
 {
-    add_all(ids, sources.parts.as_slice()[p].as_slice())?;
+    add_all(ids, sources.parts(p))?;
     add_partners(ids, sources, a.partners(StateId(p)).as_slice())?;
     Ok(())
 }
@@ -64,13 +62,12 @@ fn entering(
 ) -> Result<NodeIds, Memory>
     requires closed { IsClosed a.now }
     requires related { HoldsStates a.now found.now }
-    requires sources { AreOf a.now sources.now }
     requires state { n.0 < length a.now.states }
     ensures { IfOk result (λ ids. (i : ℕ) → IsNodeIn ids i
         ↔ IsEntering a.now (Holds found.now) sources.now Negative n.0 i) }
 {
     let mut ids = NodeIds::new(alloc);
-    add_all(&mut ids, sources.partners[n.0].as_slice())?;
+    add_all(&mut ids, sources.partners(n.0))?;
     for p in found.above(n) {
         add_state(&mut ids, a, sources, *p)?;
     }
@@ -96,7 +93,6 @@ fn value_members(
 ) -> Result<NodeIds, Memory>
     requires closed { IsClosed a.now }
     requires related { HoldsStates a.now found.now }
-    requires sources { AreOf a.now sources.now }
     requires state { s.0 < length a.now.states }
     ensures { IfOk result (λ ids. (i : ℕ) → IsNodeIn ids i
         ↔ IsEntering a.now (Holds found.now) sources.now (polarity_at a.now s.0) s.0 i) }
@@ -117,7 +113,6 @@ pub(crate) fn plan_values(
 ) -> Result<Places, Memory>
     requires closed { IsClosed a.now }
     requires related { HoldsStates a.now found.now }
-    requires sources { AreOf a.now sources.now }
     requires low { AreBelow sources.now trees.old.start }
     ensures extends { OnOk result (Extends trees.old trees.new) }
     ensures past { IfOk result (λ values. values.past ≡ sources.now.nothing) }

@@ -1,0 +1,34 @@
+use Rattle.std.proofs.Common.{ℕ}
+use Rattle.mls_automaton.specs.declared.automaton.Polarity.TheVariants.{Positive}
+use Rattle.mls_automaton.specs.Automata.{polarity_at}
+use Rattle.mls_biunify.specs.Rooms.{Holds}
+use Rattle.mls_emit.specs.steps.Planned.{end_of}
+use Rattle.mls_emit.specs.steps.Sources.{IsEntering}
+use Rattle.mls_emit.proofs.PlannedTrees.{extends_none, extends_one, extends_then, start_low, members_low, tree_made, trees_none, trees_next}
+use Rattle.mls_emit.proofs.Entering.{entering_low}
+use Rattle.mls_emit.proofs.layout.values.plan_values.Goals as goal
+
+pub loop-s-init : goal.loop-s-init
+loop-s-init c = record {
+  extends = extends_none c.args.trees.now;
+  trees = trees_none c.args.trees.now (λ s. Positive) (λ s. IsEntering c.args.a.now (Holds c.args.found.now) c.args.sources.now (polarity_at c.args.a.now s) s);
+}
+
+pub add-requires : goal.add-requires
+add-requires c =
+    members_low c.in_ok-members.members (IsEntering c.args.a.now (Holds c.args.found.now) c.args.sources.now (polarity_at c.args.a.now c.loop-s.s) c.loop-s.s) (end_of c.loop-s.trees) c.in_ok-members.ensures
+    (entering_low c.args.a.now c.args.sources.now c.args.trees.now.start (end_of c.loop-s.trees) c.requires.low (start_low c.args.trees.now c.loop-s.trees c.loop-s.invariant.extends)
+    (Holds c.args.found.now) (polarity_at c.args.a.now c.loop-s.s) c.loop-s.s)
+
+pub loop-s-preserved : goal.loop-s-preserved
+loop-s-preserved c =
+    let M = IsEntering c.args.a.now (Holds c.args.found.now) c.args.sources.now (polarity_at c.args.a.now c.loop-s.s) c.loop-s.s in
+    let longer = extends_one c.loop-s.trees c.add.new.self Positive c.in_ok-members.members c.in_ok-add.ensures.trees in
+    record {
+      extends = extends_then c.args.trees.now c.loop-s.trees c.add.new.self c.loop-s.invariant.extends longer;
+      trees =
+          trees_next c.loop-s.trees c.add.new.self (λ s. Positive) (λ s. IsEntering c.args.a.now (Holds c.args.found.now) c.args.sources.now (polarity_at c.args.a.now s) s) c.loop-s.s c.loop-s.nodes
+          c.push.new.self c.in_ok-add.field-0 c.loop-s.invariant.trees longer
+          (tree_made c.add.new.self Positive c.in_ok-members.members M c.in_ok-add.field-0.0 c.in_ok-add.ensures.root c.in_ok-add.ensures.low c.in_ok-members.ensures)
+          c.in_ok-push.ensures.ok;
+    }
