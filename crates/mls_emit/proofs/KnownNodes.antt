@@ -189,10 +189,10 @@ partners_next pairs type_place n k p id lists new low is of it size added = reco
     ]
 
 -- all of them stand before the trees
-pub sources_below : (a : Automaton) (leaves : Leaves) (start n end old : ℕ) (pairs : List StatePair) (type_place : ℕ → ℕ) (sources : Sources) → AreParted a leaves start n end sources.parts
+pub sources_below : (a : Automaton) (leaves : Leaves) (start n end : ℕ) (pairs : List StatePair) (type_place : ℕ → ℕ) (sources : Sources) → AreParted a leaves start n end sources.parts
     → ArePartners pairs type_place n sources.partners.items → sources.nothing ≡ leaves.nothing → leaves.boolean.0 < start → leaves.integer.0 < start → leaves.nothing.0 < start
     → ((s : ℕ) → type_place s < start) → AreBelow sources end
-sources_below a leaves start n end old pairs type_place sources parts partners none boolean integer nothing_low types = record {
+sources_below a leaves start n end pairs type_place sources parts partners none boolean integer nothing_low types = record {
   parts = λ s i it. part s i it (below_or_more s n);
   partners = λ s i it. partner s i it (below_or_more s n);
   nothing = let same : sources.nothing.0 ≡ leaves.nothing.0 = ap (λ (id : NodeId). id.0) none in omega (arith, same, nothing_low, longer);

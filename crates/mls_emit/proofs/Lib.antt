@@ -49,3 +49,4 @@ pub mod Entering
 pub mod KnownNodes
 pub mod OwnNodes
 pub mod HeadParts
+pub mod PartsLaidOut

@@ -178,8 +178,8 @@ low_next start end trees new p members root it at is low =
     omega (arith, first, below, all, same, at)
 
 -- one more of the states has its tree
-pub trees_none : (plan : Planned) (sign : ℕ → Polarity) (M : ℕ → ℕ → Type 0) → HaveTrees plan sign M 0 []
-trees_none plan sign M = record { size = refl; tree = λ s low d. absurd (omega (arith, low)) }
+pub trees_none : (plan : Planned) (sign : ℕ → Polarity) (M : ℕ → ℕ → Type 0) (nodes : List NodeId) → nodes ≡ [] → HaveTrees plan sign M 0 nodes
+trees_none plan sign M nodes is = record { size = ap length is; tree = λ s low d. absurd (omega (arith, low)) }
 
 pub trees_next : (old new : Planned) (sign : ℕ → Polarity) (M : ℕ → ℕ → Type 0) (n : ℕ) (nodes more : List NodeId) (id : NodeId) → HaveTrees old sign M n nodes → Extends old new → HasTree new (sign n) (M n) id.0
     → more ≡ nodes ++ id ∷ [] → HaveTrees new sign M (n + 1) more

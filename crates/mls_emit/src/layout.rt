@@ -78,8 +78,8 @@ pub fn lay_out(
 {
     let mut book = book;
     let leaves = push_leaves(&mut book)?;
-    let (sources, start) = sources_of(alloc, a, leaves, pairs, type_places, book.len())?;
-    let mut trees = PlannedTrees::new(alloc, start);
+    let sources = sources_of(alloc, a, leaves, pairs, type_places, book.len())?;
+    let mut trees = PlannedTrees::new(alloc, sources.end);
     let values = plan_values(alloc, &mut trees, a, found, &sources)?;
     let places = plan_states(alloc, &mut trees, a, &sources, &values)?;
     push_own(alloc, &mut book, &mut trees, a, &places)?;

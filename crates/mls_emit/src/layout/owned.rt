@@ -138,7 +138,8 @@ fn push_head(
     ensures adds { OnOk result (AddsOwn trees.new (place_of places.now) polarity head.now book.old book.new) }
 {
     push_function(alloc, book, trees, places, polarity, &head.function)?;
-    push_record(alloc, book, trees, places, polarity, &head.fields)
+    push_record(alloc, book, trees, places, polarity, &head.fields)?;
+    Ok(())
 }
 
 /// Adds the nodes of the functions and records of all states, and plans the trees of the sets that they name.

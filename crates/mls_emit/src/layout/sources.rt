@@ -1,5 +1,5 @@
 //! The nodes that are known before the trees of a part.
-ghost use Rattle.std.specs.Prelude.{◌≡◌, ℕ, ◌<◌, length, IfOk};
+ghost use Rattle.std.specs.Prelude.{◌≡◌, length, IfOk};
 ghost use Rattle.mls_emit.specs.LaidOut.{place_of};
 ghost use Rattle.mls_emit.specs.steps.Sources.{AreParted, ArePartners, parts_in, partners_in};
 
@@ -15,12 +15,14 @@ use mls_book::book::NodeId;
 use mls_subsume::verdict::StatePair;
 use std::alloc::Global;
 
-/// For each state the nodes of the parts of its head, and those of its partners in the type; and the node of nothing.
+/// For each state the nodes of the parts of its head, and those of its partners in the type; the node of nothing; and
+/// the number of the first node behind these.
 #[derive(Drop)]
 pub(crate) struct Sources {
     pub(crate) parts: List<NodeIds>,
     pub(crate) partners: Vec<NodeIds>,
     pub(crate) nothing: NodeId,
+    pub(crate) end: usize,
 }
 
 impl Sources {
@@ -45,7 +47,7 @@ impl Sources {
     }
 }
 
-/// The known nodes, and the number behind them. Functions and records get the numbers from `start` on.
+/// The known nodes. Functions and records get the numbers from `start` on.
 pub(crate) fn sources_of(
     alloc: Global,
     a: &Automaton,
@@ -53,18 +55,18 @@ pub(crate) fn sources_of(
     pairs: &[StatePair],
     type_places: &Places,
     start: usize,
-) -> Result<(Sources, usize), Memory>
-    ensures parts { IfOk result (λ known. AreParted a.now leaves start (length a.now.states) known.1 known.0.parts) }
+) -> Result<Sources, Memory>
+    ensures parts { IfOk result (λ known. AreParted a.now leaves start (length a.now.states) known.end known.parts) }
     ensures partners { IfOk result (λ known. ArePartners pairs.now (place_of type_places.now) (length a.now.states)
-        known.0.partners.items) }
-    ensures nothing { IfOk result (λ known. known.0.nothing ≡ leaves.nothing) }
+        known.partners.items) }
+    ensures nothing { IfOk result (λ known. known.nothing ≡ leaves.nothing) }
 {
     let parts = parts_of(alloc, a, leaves, start)?;
     let partners = partners_of(alloc, a.len(), pairs, type_places)?;
-    let sources = Sources {
+    Ok(Sources {
         parts: parts.nodes,
         partners,
         nothing: leaves.nothing,
-    };
-    Ok((sources, parts.end))
+        end: parts.end,
+    })
 }

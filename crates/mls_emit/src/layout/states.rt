@@ -37,7 +37,10 @@ fn add_values(ids: &mut NodeIds, a: &Automaton, values: &Places, s: StateId) -> 
         ids.old ids.new) }
 {
     match a.polarity(s) {
-        Polarity::Positive => add_nodes(ids, values, a.partners(s).as_slice()),
+        Polarity::Positive => {
+            add_nodes(ids, values, a.partners(s).as_slice())?;
+            Ok(())
+        }
         Polarity::Negative => {
             ids.push(values.node(s.0))?;
             Ok(())

@@ -98,8 +98,14 @@ fn value_members(
         ↔ IsEntering a.now (Holds found.now) sources.now (polarity_at a.now s.0) s.0 i) }
 {
     match a.polarity(s) {
-        Polarity::Positive => one(alloc, sources.nothing),
-        Polarity::Negative => entering(alloc, a, found, sources, s),
+        Polarity::Positive => {
+            let ids = one(alloc, sources.nothing)?;
+            Ok(ids)
+        }
+        Polarity::Negative => {
+            let ids = entering(alloc, a, found, sources, s)?;
+            Ok(ids)
+        }
     }
 }
 

@@ -12,11 +12,11 @@ use Rattle.mls_emit.proofs.layout.owned.push_own.Goals as goal
 pub loop-s-init : goal.loop-s-init
 loop-s-init c = record { extends = extends_none c.args.trees.now; adds = states_none (place_of c.args.places.now) c.args.a.now c.args.trees.now c.args.book.now }
 
-pub push_head-requires-labels : goal.push_head-requires-labels
-push_head-requires-labels c = subst (λ (h : Head). HasRisingLabels h.fields) (sym c.head.ensures) (c.requires.closed.labels c.loop-s.s)
+pub push_head-requires-clause-labels : goal.push_head-requires-clause-labels
+push_head-requires-clause-labels c = subst (λ (h : Head). HasRisingLabels h.fields) (sym c.head.ensures) (c.requires.closed.labels c.loop-s.s)
 
-pub push_head-requires-low : goal.push_head-requires-low
-push_head-requires-low c = places_low (place_of c.args.places.now) c.args.trees.now c.loop-s.trees c.loop-s.invariant.extends c.requires.low
+pub push_head-requires-clause-low : goal.push_head-requires-clause-low
+push_head-requires-clause-low c = places_low (place_of c.args.places.now) c.args.trees.now c.loop-s.trees c.loop-s.invariant.extends c.requires.low
 
 pub loop-s-preserved : goal.loop-s-preserved
 loop-s-preserved c =

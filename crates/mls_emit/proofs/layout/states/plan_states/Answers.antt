@@ -11,7 +11,7 @@ use Rattle.mls_emit.proofs.layout.states.plan_states.Goals as goal
 pub loop-s-init : goal.loop-s-init
 loop-s-init c = record {
   extends = extends_none c.args.trees.now;
-  trees = trees_none c.args.trees.now (polarity_at c.args.a.now) (λ s. IsPlaced c.args.a.now c.args.sources.now (place_of c.args.values.now) (polarity_at c.args.a.now s) s);
+  trees = trees_none c.args.trees.now (polarity_at c.args.a.now) (λ s. IsPlaced c.args.a.now c.args.sources.now (place_of c.args.values.now) (polarity_at c.args.a.now s) s) c.new-nodes.result c.new-nodes.ensures;
 }
 
 pub add-requires : goal.add-requires

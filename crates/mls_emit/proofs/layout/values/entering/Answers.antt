@@ -10,8 +10,8 @@ use Rattle.mls_emit.proofs.layout.values.entering.Goals as goal
 pub loop-p-init : goal.loop-p-init
 loop-p-init c = gathers_first (IsOfState c.args.a.now c.args.sources.now) c.above-p-items.result.now c.add_all.new.ids
 
-pub add_state-requires-state : goal.add_state-requires-state
-add_state-requires-state c =
+pub add_state-requires-clause-state : goal.add_state-requires-clause-state
+add_state-requires-clause-state c =
     (c.requires.related (get_or c.above-p-items.result.now c.loop-p.p-index 0) c.args.n.0
     ((c.above-p-items.ensures (get_or c.above-p-items.result.now c.loop-p.p-index 0)).0 (element c.above-p-items.result.now c.loop-p.p-index c.loop-p-test.true))).0
 

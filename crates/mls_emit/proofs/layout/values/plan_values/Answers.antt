@@ -11,7 +11,7 @@ use Rattle.mls_emit.proofs.layout.values.plan_values.Goals as goal
 pub loop-s-init : goal.loop-s-init
 loop-s-init c = record {
   extends = extends_none c.args.trees.now;
-  trees = trees_none c.args.trees.now (λ s. Positive) (λ s. IsEntering c.args.a.now (Holds c.args.found.now) c.args.sources.now (polarity_at c.args.a.now s) s);
+  trees = trees_none c.args.trees.now (λ s. Positive) (λ s. IsEntering c.args.a.now (Holds c.args.found.now) c.args.sources.now (polarity_at c.args.a.now s) s) c.new-nodes.result c.new-nodes.ensures;
 }
 
 pub add-requires : goal.add-requires
