@@ -5,8 +5,9 @@
 --     noted, not_noted                a node is added to the list of a state
 --     partners_none, partners_next    the partners by one pair more
 --     sources_below                   all known nodes stand before the trees
+--     all_low                         places are low
 use Rattle.std.proofs.Common.{◌≡◌, ◌≢◌, ◌⊎◌, inl, inr, ℕ, zero, suc, ◌+◌, ◌<◌, ◌≤◌, Bool, true, false, List, [], ◌∷◌, ◌++◌, length, take, refl, sym, ap, ◌∙◌, subst, arith, length-append, add-one}
-use Rattle.std.specs.Prelude.{◌↔◌, Contains, get_or, is_some}
+use Rattle.std.specs.Prelude.{◌↔◌, All, Contains, get_or, is_some}
 use Rattle.std.proofs.Math.ListN.{get_or-append, set}
 use Rattle.std.proofs.lemmas.Bool.{cases_eq}
 use Rattle.std.proofs.lemmas.List.{get_or_default, get_or_past, get_or_push, get_or-set_same, get_or-set_other}
@@ -18,8 +19,10 @@ use Rattle.mls_automaton.specs.Automata.{Automaton, head_at}
 use Rattle.mls_biunify.proofs.Relating.{taken-before, taken-last, taken-cases}
 use Rattle.mls_subsume.specs.declared.verdict.StatePair.{StatePair}
 use Rattle.mls_subsume.specs.Walks.{pair, IsIn}
+use Rattle.mls_emit.specs.declared.layout.Places.{Places}
 use Rattle.mls_emit.specs.declared.layout.leaves.Leaves.{Leaves}
 use Rattle.mls_emit.specs.declared.layout.sources.Sources.{Sources}
+use Rattle.mls_emit.specs.LaidOut.{place_of}
 use Rattle.mls_emit.specs.Trees.{IsNodeIn}
 use Rattle.mls_emit.specs.steps.Sources.{ids_if, count_if, own_count, head_parts, own_before, AreParted, ArePartners, AreBelow, parts_in, partners_in}
 use Rattle.mls_emit.proofs.WorkedParts.{nothing, contains_one}
@@ -227,3 +230,17 @@ pub partners_more : (pairs : List StatePair) (type_place : ℕ → ℕ) (n k : �
     → ArePartners (take (k + 1) pairs) type_place n new
 partners_more pairs type_place n k d id lists new low of it size added =
     partners_next pairs type_place n k (get_or pairs k d) id lists new low (get_or_default pairs k d (get_or pairs k d) low) of it size added
+
+-- all places are low where those of the states are, and the one past the end
+pub all_low : (places : Places) (n : ℕ) → All (λ (id : NodeId). id.0 < n) places.nodes × (places.past.0 < n) ↔ ((s : ℕ) → place_of places s < n)
+all_low places n = (λ it s. go it.0 it.1 s (below_or_more s (length places.nodes)), λ all. (λ k d low. at k d low (all k), at_end (all (length places.nodes))))
+  where
+    go : All (λ (id : NodeId). id.0 < n) places.nodes → places.past.0 < n → (s : ℕ) → (s < length places.nodes) ⊎ ((j : ℕ) × (s ≡ length places.nodes + j)) → place_of places s < n
+    go nodes past s (inl low) = nodes s places.past low
+    go nodes past s (inr (j, e)) = subst (λ (id : NodeId). id.0 < n) (sym (get_or_past places.nodes s places.past (omega (arith, e)))) past
+
+    at : (k : ℕ) (d : NodeId) → k < length places.nodes → place_of places k < n → (get_or places.nodes k d).0 < n
+    at k d low it = subst (λ (id : NodeId). id.0 < n) (get_or_default places.nodes k places.past d low) it
+
+    at_end : place_of places (length places.nodes) < n → places.past.0 < n
+    at_end it = subst (λ (id : NodeId). id.0 < n) (get_or_past places.nodes (length places.nodes) places.past (omega arith)) it

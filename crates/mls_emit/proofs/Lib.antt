@@ -45,6 +45,7 @@ pub mod Filled
 pub mod LongerLayouts
 pub mod PlannedTrees
 pub mod Gathering
+pub mod Distinct
 pub mod Entering
 pub mod KnownNodes
 pub mod OwnNodes

@@ -93,6 +93,13 @@ places_below plan sign M n places trees past s = go (below_or_more s n)
         let same : place_of places s ≡ places.past.0 = ap (λ (id : NodeId). id.0) (get_or_past places.nodes s places.past (omega (arith, all, e))) in
         omega (arith, past, same)
 
+-- the place of numbers past the end
+pub past_below : (sources : Sources) (start : ℕ) (plan : Planned) (places : Places) → AreBelow sources start → plan.start ≡ start → places.past ≡ sources.nothing → places.past.0 < end_of plan
+past_below sources start plan places below starts past =
+    let low : sources.nothing.0 < start = below.nothing in
+    let same : places.past.0 ≡ sources.nothing.0 = ap (λ (id : NodeId). id.0) past in
+    omega (arith, low, same, starts)
+
 -- the known nodes stand before the trees
 pub known_below : (old one : List Node) (a : Automaton) (leaves : Leaves) (sources : Sources) (pairs : List StatePair) (type_place : ℕ → ℕ) (start : ℕ) → ((s : ℕ) → type_place s < length old) → AddsLeaves old one leaves
     → AreParted a leaves (length one) (length a.states) start sources.parts → ArePartners pairs type_place (length a.states) sources.partners.items → sources.nothing ≡ leaves.nothing → AreBelow sources start

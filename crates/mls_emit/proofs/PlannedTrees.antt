@@ -2,7 +2,7 @@
 --     low_pushed                              a tree more keeps the members low
 --     root_pushed, root_low                   its number
 --     extends_none, extends_then, extends_one more trees behind
---     tree_made, tree_more, tree_same         a planned tree, where there are more trees, and in other words
+--     tree_made, tree_more, tree_as           a planned tree, where there are more trees, and in other words
 --     low_at                                  the members of a tree come before it
 --     planned_none, planned_next              pushing them one after another
 --     planned_is                              the planned trees stand in the book
@@ -12,7 +12,7 @@ use Rattle.std.proofs.Common.{◌≡◌, ◌⊎◌, inl, inr, ℕ, zero, suc, �
 use Rattle.std.specs.Prelude.{All, Contains, get_or, ◌↔◌}
 use Rattle.std.proofs.Math.ListN.{get_or-append}
 use Rattle.std.proofs.lemmas.List.{get_or_push}
-use Rattle.std.proofs.lemmas.List.Elements.{All-nil, All-append}
+use Rattle.std.proofs.lemmas.List.Elements.{All-nil, All-append, All-contains}
 use Rattle.mls_book.specs.declared.book.NodeId.{NodeId}
 use Rattle.mls_book.specs.declared.book.Node.{Node}
 use Rattle.mls_book.specs.Books.{IsBook}
@@ -97,6 +97,15 @@ tree_more old new p M i more it = record {
       (subst (λ (ts : List PlannedTree). IsRootIn old.start ts p it.members i) (sym more.trees) (root_kept old.start old.trees more.more p it.members i it.root));
   low = let low : i < end_of old = it.low in let le : end_of old ≤ end_of new = end_more old new more in omega (arith, low, le);
   same = it.same;
+}
+
+-- the same members in other words
+pub tree_as : (plan : Planned) (p : Polarity) (M P : ℕ → Type 0) (i : ℕ) → HasTree plan p M i → ((j : ℕ) → M j ↔ P j) → HasTree plan p P i
+tree_as plan p M P i it same = record {
+  members = it.members;
+  root = it.root;
+  low = it.low;
+  same = λ j. (λ there. (same j).0 ((it.same j).0 there), λ there. (it.same j).1 ((same j).1 there));
 }
 
 -- the members of a list, all of which are low
@@ -205,3 +214,6 @@ trees_more old new sign M n nodes longer it = record { size = it.size; tree = λ
 -- what stands before the first tree stands before the end
 pub start_low : (old new : Planned) → Extends old new → old.start ≤ end_of new
 start_low old new longer = let start : new.start ≡ old.start = longer.start in omega (arith, start)
+
+pub all_members : (members : List NodeId) (n : ℕ) → All (λ (id : NodeId). id.0 < n) members → (i : ℕ) → IsNodeIn members i → i < n
+all_members members n all i it = All-contains (λ (id : NodeId). id.0 < n) members (record { 0 = i }) all it

@@ -1,10 +1,11 @@
 //! The nodes of a part, laid out behind those of its type.
-ghost use Rattle.std.specs.Prelude.{◌≡◌, ℕ, ◌<◌, length, IfOk};
+ghost use Rattle.std.specs.Prelude.{◌≡◌, ◌↔◌, ℕ, ◌<◌, length, All, IfOk, IsTrue};
 ghost use Rattle.mls_book.specs.Books.{IsClosedBook};
 ghost use Rattle.mls_automaton.specs.Models.{IsClosed};
 ghost use Rattle.mls_biunify.specs.Rooms.{HoldsStates};
 ghost use Rattle.mls_emit.specs.LaidOut.{LaysOut, node_of, place_of};
 
+mod distinct;
 mod leaves;
 mod owned;
 mod partners;
@@ -45,6 +46,19 @@ impl Places {
             None => self.past,
         }
     }
+
+    /// Whether all of these nodes have lower numbers than this.
+    pub fn are_below(&self, number: usize) -> bool
+        ensures { IsTrue result ↔ ((s : ℕ) → place_of self.now s < number) }
+    {
+        are_low(self.nodes.as_slice(), number) && self.past.0 < number
+    }
+}
+
+fn are_low(nodes: &[NodeId], number: usize) -> bool
+    ensures { IsTrue result ↔ All (λ id. id.0 < number) nodes.now }
+{
+    nodes.iter().all(|id| id.0 < number)
 }
 
 /// A book with the nodes of a part, and the nodes of the states of its constraint.

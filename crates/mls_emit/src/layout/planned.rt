@@ -1,8 +1,9 @@
 //! Trees whose numbers are known before they are pushed, so that nodes before them can name them.
 ghost use Rattle.std.specs.Prelude.{◌≡◌, ◌<◌, ◌+◌, [], length, All, IfOk, OnOk};
-ghost use Rattle.mls_emit.specs.Trees.{tree_root, tree_size};
-ghost use Rattle.mls_emit.specs.steps.Planned.{AddsPlanned, IsRoot, end_of, with_tree};
+ghost use Rattle.mls_emit.specs.Trees.{IsNodeIn, tree_root, tree_size};
+ghost use Rattle.mls_emit.specs.steps.Planned.{AddsPlanned, Extends, HasTree, IsRoot, end_of, with_tree};
 
+use crate::layout::distinct::distinct;
 use crate::tree::{NodeIds, PlannedTree, push_planned};
 use mls_automaton::automaton::Polarity;
 use mls_base::list::List;
@@ -79,8 +80,8 @@ impl PlannedTrees {
         }
     }
 
-    /// Plans the tree of these members, and answers its number.
-    pub(crate) fn add(&mut self, polarity: Polarity, members: NodeIds) -> Result<NodeId, Memory>
+    // Plans the tree of these members, and answers its number.
+    fn add(&mut self, polarity: Polarity, members: NodeIds) -> Result<NodeId, Memory>
         requires { All (λ id. id.0 < end_of self.old) members }
         ensures trees { OnOk result (self.new ≡ with_tree self.old polarity members) }
         ensures root { IfOk result (λ id. IsRoot self.new polarity members id.0) }
@@ -91,6 +92,22 @@ impl PlannedTrees {
         let root = tree_root(self.end, end, members.as_slice());
         self.trees.push(PlannedTree { polarity, members })?;
         self.end = end;
+        Ok(root)
+    }
+
+    /// Plans the tree of these members, each once, and answers its number.
+    pub(crate) fn plan(
+        &mut self,
+        alloc: Global,
+        polarity: Polarity,
+        members: &NodeIds,
+    ) -> Result<NodeId, Memory>
+        requires { All (λ id. id.0 < end_of self.old) members.now }
+        ensures extends { OnOk result (Extends self.old self.new) }
+        ensures tree { IfOk result (λ id. HasTree self.new polarity (IsNodeIn members.now) id.0) }
+    {
+        let once = distinct(alloc, members)?;
+        let root = self.add(polarity, once)?;
         Ok(root)
     }
 

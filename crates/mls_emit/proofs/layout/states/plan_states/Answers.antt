@@ -2,9 +2,10 @@ use Rattle.std.proofs.Common.{◌<◌, ◌≤◌, ℕ, arith, subst, sym}
 use Rattle.mls_automaton.specs.declared.automaton.Polarity.{Polarity}
 use Rattle.mls_automaton.specs.Automata.{polarity_at}
 use Rattle.mls_emit.specs.LaidOut.{place_of}
+use Rattle.mls_emit.specs.Trees.{IsNodeIn}
 use Rattle.mls_emit.specs.steps.Planned.{end_of, HasTree}
 use Rattle.mls_emit.specs.steps.Sources.{IsPlaced}
-use Rattle.mls_emit.proofs.PlannedTrees.{extends_none, extends_one, extends_then, end_more, start_low, members_low, tree_made, trees_none, trees_next}
+use Rattle.mls_emit.proofs.PlannedTrees.{extends_none, extends_then, end_more, start_low, members_low, tree_as, trees_none, trees_next}
 use Rattle.mls_emit.proofs.Entering.{placed_low}
 use Rattle.mls_emit.proofs.layout.states.plan_states.Goals as goal
 
@@ -14,8 +15,8 @@ loop-s-init c = record {
   trees = trees_none c.args.trees.now (polarity_at c.args.a.now) (λ s. IsPlaced c.args.a.now c.args.sources.now (place_of c.args.values.now) (polarity_at c.args.a.now s) s) c.new-nodes.result c.new-nodes.ensures;
 }
 
-pub add-requires : goal.add-requires
-add-requires c =
+pub plan-requires : goal.plan-requires
+plan-requires c =
     let longer = c.loop-s.invariant.extends in
     let more : end_of c.args.trees.now ≤ end_of c.loop-s.trees = end_more c.args.trees.now c.loop-s.trees longer in
     let values : (n : ℕ) → place_of c.args.values.now n < end_of c.loop-s.trees = λ n. let low : place_of c.args.values.now n < end_of c.args.trees.now = c.requires.values n in omega (arith, low, more) in
@@ -26,13 +27,12 @@ add-requires c =
 pub loop-s-preserved : goal.loop-s-preserved
 loop-s-preserved c =
     let M = IsPlaced c.args.a.now c.args.sources.now (place_of c.args.values.now) (polarity_at c.args.a.now c.loop-s.s) c.loop-s.s in
-    let longer = extends_one c.loop-s.trees c.add.new.self c.polarity.result c.in_ok-members.members c.in_ok-add.ensures.trees in
     record {
-      extends = extends_then c.args.trees.now c.loop-s.trees c.add.new.self c.loop-s.invariant.extends longer;
+      extends = extends_then c.args.trees.now c.loop-s.trees c.plan.new.self c.loop-s.invariant.extends c.in_ok-plan.ensures.extends;
       trees =
-          trees_next c.loop-s.trees c.add.new.self (polarity_at c.args.a.now) (λ s. IsPlaced c.args.a.now c.args.sources.now (place_of c.args.values.now) (polarity_at c.args.a.now s) s) c.loop-s.s c.loop-s.nodes
-          c.push.new.self c.in_ok-add.field-0 c.loop-s.invariant.trees longer
-          (subst (λ (p : Polarity). HasTree c.add.new.self p M c.in_ok-add.field-0.0) c.polarity.ensures
-          (tree_made c.add.new.self c.polarity.result c.in_ok-members.members M c.in_ok-add.field-0.0 c.in_ok-add.ensures.root c.in_ok-add.ensures.low c.in_ok-members.ensures))
+          trees_next c.loop-s.trees c.plan.new.self (polarity_at c.args.a.now) (λ s. IsPlaced c.args.a.now c.args.sources.now (place_of c.args.values.now) (polarity_at c.args.a.now s) s) c.loop-s.s c.loop-s.nodes
+          c.push.new.self c.in_ok-plan.field-0 c.loop-s.invariant.trees c.in_ok-plan.ensures.extends
+          (subst (λ (p : Polarity). HasTree c.plan.new.self p M c.in_ok-plan.field-0.0) c.polarity.ensures
+          (tree_as c.plan.new.self c.polarity.result (IsNodeIn c.in_ok-members.members) M c.in_ok-plan.field-0.0 c.in_ok-plan.ensures.tree c.in_ok-members.ensures))
           c.in_ok-push.ensures.ok;
     }
