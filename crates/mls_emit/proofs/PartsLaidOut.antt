@@ -308,7 +308,7 @@ module _ (old one two new : List Node) (a : Automaton) (leaves : Leaves) (source
         tree_same new Positive (IsEntering a (Holds found) sources Negative n) (Enters a R (IsIn pairs) parts type_place n) (entering_same n low) (value n)
         (subst (λ (p : Polarity). IsTree new Positive (IsEntering a (Holds found) sources p n) (value n)) is (value_stands n low).1)
 
-    unfoldable pub layout_made : (b : Automaton) → IsTypeLayout old b type_place → IsLayout new a b R (IsIn pairs) place type_place
+    layout_made : (b : Automaton) → IsTypeLayout old b type_place → IsLayout new a b R (IsIn pairs) place type_place
     layout_made b type = record {
       type = subst (λ (nodes : List Node). IsTypeLayout nodes b type_place) (sym all_longer) (type_kept old more closed_old b type_place types_low type);
       parts = parts;

@@ -51,14 +51,15 @@ impl Places {
     pub fn are_below(&self, number: usize) -> bool
         ensures { IsTrue result ↔ ((s : ℕ) → place_of self.now s < number) }
     {
-        are_low(self.nodes.as_slice(), number) && self.past.0 < number
+        self.have_low_nodes(number)
     }
-}
 
-fn are_low(nodes: &[NodeId], number: usize) -> bool
-    ensures { IsTrue result ↔ All (λ id. id.0 < number) nodes.now }
-{
-    nodes.iter().all(|id| id.0 < number)
+    // Whether the nodes of the states and that past the end have lower numbers.
+    fn have_low_nodes(&self, number: usize) -> bool
+        ensures { IsTrue result ↔ All (λ id. id.0 < number) self.now.nodes × (self.now.past.0 < number) }
+    {
+        self.nodes.as_slice().iter().all(|id| id.0 < number) && self.past.0 < number
+    }
 }
 
 /// A book with the nodes of a part, and the nodes of the states of its constraint.
