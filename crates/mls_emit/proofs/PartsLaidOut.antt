@@ -341,6 +341,7 @@ module _ (old one two new : List Node) (a : Automaton) (leaves : Leaves) (source
   laid_out = record {
     more = more;
     longer = all_longer;
+    closed = closed_made;
     laid_out = λ c special same.
         subst (λ (x : Automaton). HoldsJust found (IsRelatedIn (record { automaton = x; goals = c.goals })) → IsTypeLayout old special.automaton type_place → IsLaidOut new (record { automaton = x; goals = c.goals }) special pairs place type_place)
         (sym same) (laid_out_here c.goals special);

@@ -132,7 +132,10 @@ fn lays_out_the_identity(rt: HostRuntime) -> Result<(), Fail> {
     let places = places_of(alloc, &[0, 1, 2], 3)?;
     let pairs = [pair(0, 0), pair(1, 1), pair(2, 2)];
     let line = laid(&rt, alloc, book, "+f1>2 - + 1~2", &[], &pairs, &places)?;
-    assert_eq!(rt; line.as_str(), "1>2 v0 v0 bot bool int bot 1>1 at 7 1 1 and 6");
+    assert_eq!(rt;
+        line.as_str(),
+        "1>2 v0 v0 bot bool int bot 1>1 at 7 1 1 and 6"
+    );
     Ok(())
 }
 
@@ -148,13 +151,7 @@ fn lays_out_an_application(rt: HostRuntime) -> Result<(), Fail> {
     push(&mut book, Node::Var(0))?;
     push(&mut book, Node::Bot)?;
     let places = places_of(alloc, &[0, 1, 2, 3, 4], 5)?;
-    let pairs = [
-        pair(0, 0),
-        pair(1, 1),
-        pair(5, 2),
-        pair(6, 3),
-        pair(4, 4),
-    ];
+    let pairs = [pair(0, 0), pair(1, 1), pair(5, 2), pair(6, 3), pair(4, 4)];
     let text = "+f1>4 - + -f5>6 + +i - 1~2 6~4";
     let line = laid(&rt, alloc, book, text, &[goal(2, 3)], &pairs, &places)?;
     assert_eq!(rt;

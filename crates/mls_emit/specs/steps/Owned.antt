@@ -57,8 +57,8 @@ pub record AddsOwn (plan : Planned) (place : ℕ → ℕ) (p : Polarity) (h : He
   pub fields : AddsRecord plan place p h.fields between new
 
 -- the nodes of a head's own parts stand in the book from this number on
-pub record HasOwn (plan : Planned) (place : ℕ → ℕ) (p : Polarity) (h : Head) (book : List Node) (first : ℕ) : Type 0
-    where
+pub record HasOwn (plan : Planned) (place : ℕ → ℕ) (p : Polarity) (h : Head) (book : List Node) (first : ℕ)
+    : Type 0 where
   pub function : (arms : Arms) → h.function ≡ Some arms → IsFunction plan place p arms (node_at book first)
   pub fields : (sets : List FieldSet) → h.fields ≡ Some sets
       → IsRecord plan place p sets (node_at book (first + count_if (is_some h.function)))

@@ -56,8 +56,8 @@ pub record AreParted (a : Automaton) (leaves : Leaves) (start n end : ℕ) (part
   pub are : (s : ℕ) → s < n → get_or parts s [] ≡ head_parts leaves (start + own_before a s) (head_at a s)
 
 -- for each of these states the nodes of the states of the type that it is paired with
-pub record ArePartners (pairs : List StatePair) (type_place : ℕ → ℕ) (n : ℕ) (partners : List (List NodeId)) : Type 0
-    where
+pub record ArePartners (pairs : List StatePair) (type_place : ℕ → ℕ) (n : ℕ) (partners : List (List NodeId))
+    : Type 0 where
   pub size : length partners ≡ n
   pub are : (s : ℕ) → s < n → (i : ℕ)
       → IsNodeIn (get_or partners s []) i ↔ ((t : ℕ) × IsIn pairs s t × (type_place t ≡ i))
