@@ -3,7 +3,7 @@
 --     of_state, entering_made         the head of a state and what flows in to it; and what flows in at a negative state
 --     placed_made, positive_valued, negative_valued       what a state is the tree of
 --     entering_low, placed_low        all of these stand before the trees
-use Rattle.std.proofs.Common.{◌≡◌, ◌⊎◌, inl, inr, ℕ, ◌<◌, ◌≤◌, List, [], ◌∷◌, ◌++◌, refl, sym, ap, ◌∙◌, subst, arith}
+use Rattle.std.proofs.Common.{◌≡◌, ◌⊎◌, inl, inr, ℕ, ◌<◌, ◌≤◌, List, [], ◌∷◌, ◌++◌, sym, ◌∙◌, arith}
 use Rattle.std.specs.Prelude.{◌↔◌, Contains}
 use Rattle.mls_book.specs.declared.book.NodeId.{NodeId}
 use Rattle.mls_automaton.specs.declared.automaton.Polarity.{Polarity}

@@ -2,7 +2,7 @@
 --     gathers_none, gathers_append, gathers_one, gathers_then, gathers_same
 --     gathers_more, gathers_all       what the elements of a list give
 --     gathered                        the members of a list that was empty first
-use Rattle.std.proofs.Common.{◌≡◌, ◌⊎◌, inl, inr, ℕ, ◌+◌, ◌<◌, ◌≤◌, List, [], ◌∷◌, ◌++◌, length, take, refl, sym, ap, subst, arith}
+use Rattle.std.proofs.Common.{◌≡◌, ◌⊎◌, inl, inr, ℕ, ◌+◌, ◌<◌, ◌≤◌, List, [], ◌∷◌, ◌++◌, length, take, sym, ap, subst}
 use Rattle.std.specs.Prelude.{◌↔◌, Contains, get_or}
 use Rattle.std.proofs.lemmas.List.Elements.{Contains-append_left, Contains-append_right, Contains-append_cases, Contains-push, Contains-push_cases}
 use Rattle.mls_book.specs.declared.book.NodeId.{NodeId}

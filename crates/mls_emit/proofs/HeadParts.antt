@@ -1,7 +1,7 @@
 -- The parts of heads at their nodes.
 --     numbers, in_numbers     the numbers of nodes
 --     head_parts_are          the nodes of a head's parts
-use Rattle.std.proofs.Common.{◌≡◌, ◌⊎◌, inl, inr, ℕ, ◌+◌, ◌<◌, Bool, true, false, List, [], ◌∷◌, ◌++◌, map, refl, sym, ap, ◌∙◌, subst, Option, Some, None}
+use Rattle.std.proofs.Common.{◌≡◌, ◌⊎◌, inl, inr, ℕ, ◌+◌, Bool, true, false, List, [], ◌∷◌, ◌++◌, map, refl, sym, ap, subst, Option, Some, None}
 use Rattle.std.specs.Prelude.{◌↔◌, Contains, is_some, option_map, bytes_eq, find, cond}
 use Rattle.std.proofs.lemmas.List.Elements.{Contains-append_left, Contains-append_right}
 use Rattle.mls_book.specs.declared.book.Field.{Field}
@@ -16,7 +16,7 @@ use Rattle.mls_automaton.specs.declared.automaton.HeadKind.{HeadKind}
 use Rattle.mls_automaton.specs.declared.automaton.HeadKind.TheVariants as kind
 use Rattle.mls_automaton.specs.declared.automaton.Polarity.{Polarity}
 use Rattle.mls_automaton.specs.Automata.{opposite}
-use Rattle.mls_automaton.specs.Heads.{Parts, parts_of, set_at}
+use Rattle.mls_automaton.specs.Heads.{parts_of, set_at}
 use Rattle.mls_automaton.proofs.Lists.{Contains-here, Contains-map, Contains-map_back}
 use Rattle.mls_emit.specs.declared.layout.leaves.Leaves.{Leaves}
 use Rattle.mls_emit.specs.Trees.{IsTree, IsNodeIn, IsPlaceIn}

@@ -7,8 +7,8 @@
 --     own_more                        in a longer book
 --     function_added, record_added    what is added to the book
 --     states_none, states_next        the nodes of one state more
-use Rattle.std.proofs.Common.{◌≡◌, ◌⊎◌, inl, inr, ℕ, suc, ◌+◌, ◌<◌, ◌≤◌, true, false, List, [], ◌∷◌, ◌++◌, length, take, refl, sym, ap, ◌∙◌, subst, arith, append-nil, append_assoc, length-append, add-one, Option, Some, None}
-use Rattle.std.specs.Prelude.{◌↔◌, All, Contains, get_or, is_some}
+use Rattle.std.proofs.Common.{◌≡◌, ◌⊎◌, inl, inr, ℕ, suc, ◌+◌, ◌<◌, ◌≤◌, List, [], ◌∷◌, ◌++◌, length, take, refl, sym, ap, ◌∙◌, subst, arith, append-nil, append_assoc, length-append, add-one, Option, Some, None}
+use Rattle.std.specs.Prelude.{◌↔◌, All, get_or, is_some}
 use Rattle.std.specs.Cmp.Lexicographic.{slice_cmp}
 use Rattle.std.specs.Ordering.{nat_cmp}
 use Rattle.std.specs.declared.cmp.Ordering.TheVariants.{Less}
@@ -31,11 +31,11 @@ use Rattle.mls_automaton.specs.Heads as heads
 use Rattle.mls_automaton.specs.Models.{HasRisingLabels}
 use Rattle.mls_automaton.proofs.Lists.{All-one}
 use Rattle.mls_emit.specs.Trees.{IsNodeIn, IsPlaceIn}
-use Rattle.mls_emit.specs.steps.Planned.{Planned, Extends, HasTree, IsRoot, end_of, with_tree}
-use Rattle.mls_emit.specs.steps.Sources.{Gathers, count_if, own_before, own_count}
+use Rattle.mls_emit.specs.steps.Planned.{Planned, Extends, HasTree, end_of}
+use Rattle.mls_emit.specs.steps.Sources.{count_if, own_before, own_count}
 use Rattle.mls_emit.specs.steps.Owned.{AreFields, IsFunction, IsRecord, AddsFunction, AddsRecord, AddsOwn, HasOwn, AddsStates}
 use Rattle.mls_emit.proofs.TreesMade.{book_pushed, last_at}
-use Rattle.mls_emit.proofs.PlannedTrees.{end_more, members_low, tree_made, tree_more}
+use Rattle.mls_emit.proofs.PlannedTrees.{end_more, members_low, tree_more}
 
 pub places_low : (place : ℕ → ℕ) (old new : Planned) → Extends old new → ((s : ℕ) → place s < end_of old) → (s : ℕ) → place s < end_of new
 places_low place old new longer low s =

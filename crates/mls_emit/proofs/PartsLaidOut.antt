@@ -4,10 +4,10 @@
 --     known_below         the known nodes stand before the trees
 --     layout_made         the layout of the part
 --     laid_out            the part is laid out
-use Rattle.std.proofs.Common.{◌≡◌, ◌⊎◌, inl, inr, ℕ, ◌+◌, ◌<◌, ◌≤◌, true, List, [], ◌∷◌, ◌++◌, length, refl, sym, ap, ◌∙◌, subst, arith, append_assoc, length-append}
+use Rattle.std.proofs.Common.{◌≡◌, ◌⊎◌, inl, inr, ℕ, ◌+◌, ◌<◌, ◌≤◌, List, [], ◌∷◌, ◌++◌, length, refl, sym, ap, ◌∙◌, subst, arith, append_assoc, length-append}
 use Rattle.std.specs.Prelude.{◌↔◌, All, Contains, get_or}
 use Rattle.std.proofs.lemmas.List.{get_or_default, get_or_past, get_or-append-add}
-use Rattle.std.proofs.lemmas.List.Elements.{All-nil, All-cons, All-append, All-get_or}
+use Rattle.std.proofs.lemmas.List.Elements.{All-cons, All-append}
 use Rattle.mls_book.specs.declared.book.NodeId.{NodeId}
 use Rattle.mls_book.specs.declared.book.Node.{Node}
 use Rattle.mls_book.specs.declared.book.Node.TheVariants as node
@@ -31,17 +31,17 @@ use Rattle.mls_emit.specs.declared.layout.sources.Sources.{Sources}
 use Rattle.mls_emit.specs.Trees.{IsTree, IsNodeIn, IsOfTree}
 use Rattle.mls_emit.specs.Heads.{AreParts}
 use Rattle.mls_emit.specs.Layouts.{IsTypeLayout, Enters, IsLayout}
-use Rattle.mls_emit.specs.Parts.{Constraint, IsRelatedIn, IsLaidOut}
+use Rattle.mls_emit.specs.Parts.{IsRelatedIn, IsLaidOut}
 use Rattle.mls_emit.specs.LaidOut.{place_of, LaysOut}
 use Rattle.mls_emit.specs.steps.Planned.{Planned, Extends, HasTree, AddsPlanned, end_of}
-use Rattle.mls_emit.specs.steps.Sources.{AddsLeaves, AreParted, ArePartners, AreBelow, IsEntering, IsPlaced, IsValued, head_parts, own_before, parts_in, partners_in}
+use Rattle.mls_emit.specs.steps.Sources.{AddsLeaves, AreParted, ArePartners, AreBelow, IsEntering, IsPlaced, IsValued, own_before, parts_in}
 use Rattle.mls_emit.specs.steps.Owned.{HaveTrees, AddsStates, HasOwn}
 use Rattle.mls_emit.proofs.TreesMade.{book_pushed, tree_same}
 use Rattle.mls_emit.proofs.LongerLayouts.{type_kept}
 use Rattle.mls_emit.proofs.WorkedParts.{nothing, empty_tree, empty_parts}
 use Rattle.mls_emit.proofs.PlannedTrees.{extends_none, extends_then, planned_is, tree_more}
 use Rattle.mls_emit.proofs.KnownNodes.{sources_below}
-use Rattle.mls_emit.proofs.OwnNodes.{all_children_more, children_more, own_more}
+use Rattle.mls_emit.proofs.OwnNodes.{all_children_more, own_more}
 use Rattle.mls_emit.proofs.HeadParts.{numbers, in_numbers, head_parts_are}
 
 -- a node of a tree names nodes before it

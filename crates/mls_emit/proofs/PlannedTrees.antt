@@ -9,7 +9,7 @@
 --     counted_next, root_next, low_next       the parts of planned trees
 --     trees_none, trees_next, trees_more      the trees of the first states
 use Rattle.std.proofs.Common.{◌≡◌, ◌⊎◌, inl, inr, ℕ, zero, suc, ◌+◌, ◌<◌, ◌≤◌, List, [], ◌∷◌, ◌++◌, length, take, refl, sym, ap, ◌∙◌, subst, arith, append-nil, append_assoc, length-append}
-use Rattle.std.specs.Prelude.{All, Contains, get_or, ◌↔◌}
+use Rattle.std.specs.Prelude.{All, get_or, ◌↔◌}
 use Rattle.std.proofs.Math.ListN.{get_or-append}
 use Rattle.std.proofs.lemmas.List.{get_or_push}
 use Rattle.std.proofs.lemmas.List.Elements.{All-nil, All-append, All-contains}

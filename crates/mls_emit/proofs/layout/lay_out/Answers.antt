@@ -1,12 +1,10 @@
-use Rattle.std.proofs.Common.{◌≡◌, ◌∙◌, ◌+◌, ℕ, ◌<◌, ◌≤◌, ap, arith, length, subst, sym}
+use Rattle.std.proofs.Common.{◌∙◌, ◌+◌, ap, length, subst, sym}
 use Rattle.mls_automaton.specs.declared.automaton.Polarity.TheVariants.{Positive}
 use Rattle.mls_automaton.specs.Automata.{polarity_at}
 use Rattle.mls_biunify.specs.Rooms.{Holds}
-use Rattle.mls_book.specs.declared.book.NodeId.{NodeId}
 use Rattle.mls_emit.specs.LaidOut.{place_of}
-use Rattle.mls_emit.specs.steps.Planned.{Planned, end_of}
+use Rattle.mls_emit.specs.steps.Planned.{Planned}
 use Rattle.mls_emit.specs.steps.Sources.{AreBelow, AreParted, IsEntering, IsPlaced, own_before}
-use Rattle.mls_emit.proofs.PlannedTrees.{end_more}
 use Rattle.mls_emit.proofs.PartsLaidOut.{known_below, past_below, places_below, laid_out}
 use Rattle.mls_emit.proofs.layout.lay_out.Goals as goal
 

@@ -1,4 +1,4 @@
-use Rattle.mls_emit.proofs.Distinct.{marked_new, there_gathered}
+use Rattle.mls_emit.proofs.Distinct.{marked_new}
 use Rattle.mls_emit.proofs.Gathering.{gathers_one}
 use Rattle.mls_emit.proofs.layout.distinct.add.Goals as goal
 

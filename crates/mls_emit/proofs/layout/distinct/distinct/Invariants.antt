@@ -1,4 +1,4 @@
-use Rattle.std.proofs.Common.{◌≡◌, [], take}
+use Rattle.std.proofs.Common.{◌≡◌, take}
 use Rattle.mls_book.specs.declared.book.NodeId.{NodeId}
 use Rattle.mls_emit.specs.steps.Sources.{Gathers, HasMarked}
 use Rattle.mls_emit.proofs.Gathering.{BySome}

@@ -1,6 +1,5 @@
-use Rattle.std.proofs.Common.{ℕ, subst}
 use Rattle.mls_emit.specs.LaidOut.{place_of}
-use Rattle.mls_emit.proofs.PlannedTrees.{extends_none, extends_then}
+use Rattle.mls_emit.proofs.PlannedTrees.{extends_then}
 use Rattle.mls_emit.proofs.OwnNodes.{places_low, fields_next}
 use Rattle.mls_emit.proofs.layout.owned.plan_fields.Goals as goal
 

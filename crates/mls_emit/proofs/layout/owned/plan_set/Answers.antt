@@ -1,4 +1,4 @@
-use Rattle.std.proofs.Common.{◌≡◌, List, ℕ, Contains, subst}
+use Rattle.std.proofs.Common.{List, ℕ, subst}
 use Rattle.std.specs.Prelude.{◌↔◌}
 use Rattle.mls_emit.specs.LaidOut.{place_of}
 use Rattle.mls_emit.specs.Trees.{IsNodeIn, IsPlaceIn}

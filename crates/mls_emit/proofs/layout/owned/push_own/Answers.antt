@@ -1,7 +1,7 @@
-use Rattle.std.proofs.Common.{ℕ, subst, ◌∙◌, sym, Option, List}
+use Rattle.std.proofs.Common.{subst, sym}
 use Rattle.mls_automaton.specs.declared.automaton.Head.{Head}
 use Rattle.mls_automaton.specs.declared.automaton.Polarity.{Polarity}
-use Rattle.mls_automaton.specs.Automata.{head_at, polarity_at}
+use Rattle.mls_automaton.specs.Automata.{head_at}
 use Rattle.mls_automaton.specs.Models.{HasRisingLabels}
 use Rattle.mls_emit.specs.LaidOut.{place_of}
 use Rattle.mls_emit.specs.steps.Owned.{AddsOwn}

@@ -3,8 +3,7 @@ use Rattle.mls_automaton.specs.declared.automaton.FieldSet.{FieldSet}
 use Rattle.mls_automaton.specs.Heads.{AreRising}
 use Rattle.mls_automaton.specs.Models.{HasRisingLabels}
 use Rattle.mls_emit.specs.LaidOut.{place_of}
-use Rattle.mls_emit.specs.steps.Owned.{AddsRecord, AreFields}
-use Rattle.mls_emit.proofs.OwnNodes.{fields_rising, record_made}
+use Rattle.mls_emit.proofs.OwnNodes.{fields_rising}
 use Rattle.mls_emit.proofs.layout.owned.push_record.Goals as goal
 
 pub push-requires : goal.push-requires

@@ -1,6 +1,4 @@
-use Rattle.std.proofs.Common.{ap, ◌∙◌}
-use Rattle.mls_automaton.specs.declared.automaton.Head.{Head}
-use Rattle.mls_emit.proofs.KnownNodes.{parted_none, parted_next}
+use Rattle.mls_emit.proofs.KnownNodes.{parted_next}
 use Rattle.mls_emit.proofs.layout.parts.parts_of.Goals as goal
 
 pub loop-s-preserved : goal.loop-s-preserved

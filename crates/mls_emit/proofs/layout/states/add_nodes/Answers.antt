@@ -1,4 +1,4 @@
-use Rattle.std.proofs.Common.{◌≡◌, ℕ, ap, ◌∙◌, subst, get_or}
+use Rattle.std.proofs.Common.{◌≡◌, subst}
 use Rattle.mls_book.specs.declared.book.NodeId.{NodeId}
 use Rattle.mls_emit.specs.LaidOut.{place_of}
 use Rattle.mls_emit.specs.steps.Sources.{Gathers}

@@ -1,4 +1,4 @@
-use Rattle.std.proofs.Common.{◌<◌, ◌≤◌, ℕ, arith, subst, sym}
+use Rattle.std.proofs.Common.{◌<◌, ◌≤◌, ℕ, arith, subst}
 use Rattle.mls_automaton.specs.declared.automaton.Polarity.{Polarity}
 use Rattle.mls_automaton.specs.Automata.{polarity_at}
 use Rattle.mls_emit.specs.LaidOut.{place_of}

@@ -1,4 +1,3 @@
-use Rattle.std.proofs.Common.{ℕ}
 use Rattle.mls_automaton.specs.Automata.{polarity_at}
 use Rattle.mls_emit.specs.LaidOut.{place_of}
 use Rattle.mls_emit.specs.steps.Owned.{HaveTrees}

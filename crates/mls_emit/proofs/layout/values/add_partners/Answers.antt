@@ -1,8 +1,8 @@
-use Rattle.std.proofs.Common.{List, ◌++◌, ℕ, ap, ◌∙◌, subst, sym, get_or}
+use Rattle.std.proofs.Common.{List, ◌++◌, ap, ◌∙◌, get_or}
 use Rattle.mls_book.specs.declared.book.NodeId.{NodeId}
 use Rattle.mls_emit.specs.Trees.{IsNodeIn}
-use Rattle.mls_emit.specs.steps.Sources.{Gathers, partners_in}
-use Rattle.mls_emit.proofs.Gathering.{BySome, gathers_first, gathers_more, gathers_all, gathers_append}
+use Rattle.mls_emit.specs.steps.Sources.{partners_in}
+use Rattle.mls_emit.proofs.Gathering.{gathers_first, gathers_more, gathers_all, gathers_append}
 use Rattle.mls_emit.proofs.layout.values.add_partners.Goals as goal
 
 pub loop-k-init : goal.loop-k-init

@@ -1,4 +1,4 @@
-use Rattle.std.proofs.Common.{List, ℕ, ◌++◌, ap, ◌∙◌, get_or, subst}
+use Rattle.std.proofs.Common.{List, ◌++◌, ap, ◌∙◌, get_or}
 use Rattle.mls_biunify.specs.Rooms.{Holds}
 use Rattle.mls_biunify.proofs.Relating.{element}
 use Rattle.mls_book.specs.declared.book.NodeId.{NodeId}

@@ -1,4 +1,3 @@
-use Rattle.std.proofs.Common.{◌<◌, ℕ}
 use Rattle.mls_emit.specs.Trees.{IsNodeIn}
 use Rattle.mls_emit.specs.steps.Planned.{end_of}
 use Rattle.mls_emit.proofs.PlannedTrees.{all_members, extends_one, members_low, tree_made}

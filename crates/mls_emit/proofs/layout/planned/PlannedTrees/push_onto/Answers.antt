@@ -1,4 +1,4 @@
-use Rattle.std.proofs.Common.{◌≡◌, List, [], ◌∷◌, ◌++◌, ◌+◌, All, length, take, get_or, refl, sym, ap, ◌∙◌, subst, ◌<◌}
+use Rattle.std.proofs.Common.{◌≡◌, List, [], ◌∷◌, ◌++◌, All, length, take, get_or, sym, ap, ◌∙◌, subst, ◌<◌}
 use Rattle.std.proofs.lemmas.List.{take_more}
 use Rattle.mls_book.specs.declared.book.NodeId.{NodeId}
 use Rattle.mls_emit.specs.declared.tree.PlannedTree.{PlannedTree}
