@@ -78,3 +78,11 @@ pub mod WorkedTypes
 pub mod ModelledConstraints
 pub mod AddedStates
 pub mod PartFields
+pub mod PlannedTrees
+pub mod Gathering
+pub mod Distinct
+pub mod Entering
+pub mod KnownNodes
+pub mod OwnNodes
+pub mod HeadParts
+pub mod PartsLaidOut

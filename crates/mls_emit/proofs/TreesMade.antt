@@ -1,5 +1,6 @@
 -- Trees that are made one node after another.
 --     two_low             the children of a join or a meet
+--     tree_same           a tree of the same members in other words
 --     tree_kept           a tree of a book is one in a longer book
 --     last_at             the last node
 --     book_pushed, two_ordered        a node more
@@ -8,10 +9,11 @@
 --     chain_next          a tree with one member more
 --     no_trees, trees_next, members_kept      trees that are made one after another
 use Rattle.std.proofs.Common.{◌≡◌, ◌⊎◌, inl, inr, ℕ, zero, suc, ◌+◌, ◌<◌, List, [], ◌∷◌, ◌++◌, length, refl, sym, ap, ◌∙◌, subst, arith, append-nil, append_assoc, length-append}
-use Rattle.std.specs.Prelude.{Contains, get_or}
+use Rattle.std.specs.Prelude.{◌↔◌, Contains, get_or}
 use Rattle.std.proofs.Math.ListN.{get_or-append}
 use Rattle.std.proofs.lemmas.List.{get_or_past}
-use Rattle.std.proofs.lemmas.List.Elements.{Contains-append_left, Contains-push, Contains-push_cases}
+use Rattle.std.proofs.lemmas.List.Elements.{All-nil, All-append, Contains-append_left, Contains-push, Contains-push_cases}
+use Rattle.mls_automaton.proofs.Lists.{All-one}
 use Rattle.mls_book.specs.declared.book.NodeId.{NodeId}
 use Rattle.mls_book.specs.declared.book.Node.{Node}
 use Rattle.mls_book.specs.declared.book.Node.TheVariants as node
@@ -20,7 +22,7 @@ use Rattle.mls_book.proofs.LongerBooks.{below_or_more}
 use Rattle.mls_automaton.specs.declared.automaton.Polarity.{Polarity}
 use Rattle.mls_automaton.specs.declared.automaton.Polarity.TheVariants.{Positive, Negative}
 use Rattle.mls_emit.specs.declared.tree.PlannedTree.{PlannedTree}
-use Rattle.mls_emit.specs.Trees.{none_node, two_node, HasOnly, member, none, two, HasMember, here, first, second, IsTree, IsNodeIn, AddsTree, AreTrees, HasMembersIn, AddsTrees}
+use Rattle.mls_emit.specs.Trees.{none_node, two_node, HasOnly, member, none, two, HasMember, here, first, second, IsTree, IsNodeIn, IsOfTree, tree_root, AddsTree, AreTrees, HasMembersIn, AddsTrees}
 
 -- the children of a join or a meet come before it
 pub two_low : (nodes : List Node) → IsBook nodes → (p : Polarity) (i : ℕ) (l r : NodeId) → node_at nodes i ≡ two_node p l r → (l.0 < i) × (r.0 < i)
@@ -32,6 +34,10 @@ more_only : (nodes : List Node) (p : Polarity) (M N : ℕ → Type 0) → ((i : 
 more_only nodes p M N within i (member it) = member (within i it)
 more_only nodes p M N within i (none e) = none e
 more_only nodes p M N within i (two l r e h k) = two l r e (more_only nodes p M N within l.0 h) (more_only nodes p M N within r.0 k)
+
+-- the same members in other words
+pub tree_same : (nodes : List Node) (p : Polarity) (M N : ℕ → Type 0) → ((j : ℕ) → M j ↔ N j) → (i : ℕ) → IsTree nodes p M i → IsTree nodes p N i
+tree_same nodes p M N same i tree = record { only = more_only nodes p M N (λ j. (same j).0) i tree.only; each = λ j it. tree.each j ((same j).1 it) }
 
 module _ (nodes more : List Node) (book : IsBook nodes) (p : Polarity) where
   same_node : (i : ℕ) (n : Node) → i < length nodes → node_at nodes i ≡ n → node_at (nodes ++ more) i ≡ n
@@ -95,11 +101,22 @@ pub two_ordered : (p : Polarity) (i : ℕ) (l r : NodeId) → l.0 < i → r.0 < 
 two_ordered Positive i l r h k = (h, k)
 two_ordered Negative i l r h k = (h, k)
 
+none_of_tree : (p : Polarity) → IsOfTree (none_node p)
+none_of_tree Positive = tt
+none_of_tree Negative = tt
+
+two_of_tree : (p : Polarity) (l r : NodeId) → IsOfTree (two_node p l r)
+two_of_tree Positive l r = tt
+two_of_tree Negative l r = tt
+
 -- no member
 no_member : (p : Polarity) (old new : List Node) (i : ℕ) → new ≡ old ++ none_node p ∷ [] → i ≡ length old → AddsTree p [] old new i
 no_member p old new i is at = record {
   more = none_node p ∷ [];
   longer = is;
+  are = All-one IsOfTree (none_node p) (none_of_tree p);
+  size = refl;
+  root = at;
   is_book = λ book. subst IsBook (sym is) (book_pushed old (none_node p) book (none_ordered p (length old)));
   inside = subst (λ k. k < length new) (sym at) (subst (λ (b : List Node). length old < length b) (sym is) (last_low old (none_node p)));
   tree = record {
@@ -120,6 +137,9 @@ pub chain_first : (p : Polarity) (book : List Node) (id : NodeId) → id.0 < len
 chain_first p book id low = record {
   more = [];
   longer = sym (append-nil book);
+  are = All-nil IsOfTree;
+  size = refl;
+  root = refl;
   is_book = λ is. is;
   inside = low;
   tree = record {
@@ -138,13 +158,29 @@ chain_first p book id low = record {
         go (inl h) = absurd (let low : h.0 < 0 = h.1 in omega arith)
         go (inr e) = e
 
+-- the number of a tree with one member more
+pushed_root : (start : ℕ) (one : NodeId) (rest : List NodeId) (id : NodeId) → tree_root start (one ∷ (rest ++ id ∷ [])) ≡ start + length rest
+pushed_root start one [] id = refl
+pushed_root start one (other ∷ rest) id = let all : length (rest ++ id ∷ []) ≡ length rest + 1 = length-append rest (id ∷ []) in omega (arith, all)
+
 -- one member more
-pub chain_next : (p : Polarity) (members : List NodeId) (old now new : List Node) (root id next : NodeId) → IsBook now → IsBook new
-    → AddsTree p members old now root.0 → new ≡ now ++ two_node p root id ∷ [] → next.0 ≡ length now
-    → AddsTree p (members ++ id ∷ []) old new next.0
-chain_next p members old now new root id next book is_new it is at = record {
+pub chain_next : (p : Polarity) (one : NodeId) (rest : List NodeId) (old now new : List Node) (root id next : NodeId) → IsBook now → IsBook new
+    → AddsTree p (one ∷ rest) old now root.0 → new ≡ now ++ two_node p root id ∷ [] → next.0 ≡ length now
+    → AddsTree p (one ∷ (rest ++ id ∷ [])) old new next.0
+chain_next p one rest old now new root id next book is_new it is at = record {
   more = it.more ++ two_node p root id ∷ [];
   longer = is ∙ (ap (λ b. b ++ two_node p root id ∷ []) it.longer ∙ append_assoc old it.more (two_node p root id ∷ []));
+  are = All-append IsOfTree it.more (two_node p root id ∷ []) it.are (All-one IsOfTree (two_node p root id) (two_of_tree p root id));
+  size =
+      let first_size : length it.more ≡ length rest = it.size in
+      let more_size : length (it.more ++ two_node p root id ∷ []) ≡ length it.more + 1 = length-append it.more (two_node p root id ∷ []) in
+      let ids : length (rest ++ id ∷ []) ≡ length rest + 1 = length-append rest (id ∷ []) in
+      omega (arith, first_size, more_size, ids);
+  root =
+      let first_size : length it.more ≡ length rest = it.size in
+      let all : length now ≡ length old + length it.more = ap length it.longer ∙ length-append old it.more in
+      let is_root : next.0 ≡ length old + length rest = omega (arith, at, all, first_size) in
+      is_root ∙ sym (pushed_root (length old) one rest id);
   is_book = λ first_is. is_new;
   inside = subst (λ k. k < length new) (sym at) (subst (λ (b : List Node). length now < length b) (sym is) (last_low now (two_node p root id)));
   tree = subst (λ b. IsTree b p (IsNodeIn (members ++ id ∷ [])) next.0) (sym is) (record {
@@ -156,6 +192,9 @@ chain_next p members old now new root id next book is_new it is at = record {
   });
 }
   where
+    members : List NodeId
+    members = one ∷ rest
+
     now' : List Node
     now' = now ++ two_node p root id ∷ []
 

@@ -25,3 +25,4 @@ pub mod MetNeeds
 pub mod PosedParts
 pub mod MetCopies
 pub mod OneEach
+pub mod LaidOut

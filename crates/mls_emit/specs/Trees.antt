@@ -1,5 +1,5 @@
 -- Trees of joins, for positive places, and of meets, for negative places.
-use Rattle.std.specs.Prelude.{◌≡◌, ◌<◌, ℕ, List, [], ◌∷◌, ◌++◌, length, All, Contains}
+use Rattle.std.specs.Prelude.{◌≡◌, ◌<◌, ◌+◌, ℕ, List, [], ◌∷◌, ◌++◌, length, All, Contains}
 use Rattle.mls_book.specs.declared.book.NodeId.{NodeId}
 use Rattle.mls_book.specs.declared.book.Node.{Node}
 use Rattle.mls_book.specs.declared.book.Node.TheVariants as node
@@ -43,10 +43,33 @@ IsPlaceIn place set i = (s : ℕ) × Contains set s × (place s ≡ i)
 abbrev pub IsNodeIn : List NodeId → ℕ → Type 0
 IsNodeIn nodes i = Contains nodes (record { 0 = i })
 
--- The second book is the first and more nodes, and node i in it is the join or the meet of just these members.
+-- how many nodes the tree of these members adds to a book
+abbrev pub tree_size : List NodeId → ℕ
+tree_size [] = 1
+tree_size (one ∷ rest) = length rest
+
+-- its number, where the first node that it adds gets this number
+abbrev pub tree_root : ℕ → List NodeId → ℕ
+tree_root start [] = start
+tree_root start (one ∷ []) = one.0
+tree_root start (one ∷ other ∷ rest) = start + length rest
+
+-- the node is that of no member, or that of two trees
+abbrev pub IsOfTree : Node → Type 0
+IsOfTree node.Bot = Unit {0}
+IsOfTree node.Top = Unit {0}
+IsOfTree (node.Join l r) = Unit {0}
+IsOfTree (node.Meet l r) = Unit {0}
+IsOfTree _ = ⊥
+
+-- The second book is the first and more nodes, and node i in it is the join or the meet of just these members. How many
+-- nodes there are more, and which is the tree, is told by how many members there are.
 pub record AddsTree (p : Polarity) (members : List NodeId) (old new : List Node) (i : ℕ) : Type 0 where
   pub more : List Node
   pub longer : new ≡ old ++ more
+  pub are : All IsOfTree more
+  pub size : length more ≡ tree_size members
+  pub root : i ≡ tree_root (length old) members
   pub is_book : IsBook old → IsBook new
   pub inside : i < length new
   pub tree : IsTree new p (IsNodeIn members) i

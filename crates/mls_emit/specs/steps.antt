@@ -5,3 +5,6 @@ pub mod Growth
 pub mod Rounds
 pub mod Filling
 pub mod Results
+pub mod Planned
+pub mod Sources
+pub mod Owned

@@ -95,8 +95,8 @@ pub struct PlannedTree {
 /// Numbers of nodes in order.
 pub type NodeIds = List<NodeId>;
 
-// Adds the tree of these members, which are nodes of the book.
-fn push_planned(book: &mut Book, tree: &PlannedTree) -> Result<NodeId, Memory>
+/// Adds the tree of these members, which are nodes of the book.
+pub(crate) fn push_planned(book: &mut Book, tree: &PlannedTree) -> Result<NodeId, Memory>
     requires { HasMembersIn book.old tree.now }
     ensures { IfOk result (λ id. AddsTree tree.now.polarity tree.now.members book.old book.new id.0) }
 {

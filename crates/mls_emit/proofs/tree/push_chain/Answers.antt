@@ -12,5 +12,5 @@ pub loop-member-preserved : goal.loop-member-preserved
 loop-member-preserved c =
     subst (λ (ms : List NodeId). AddsTree c.args.polarity (c.args.first ∷ ms) c.args.book.now c.push_two.new.book c.in_ok-root.root.0)
     (sym (take_more c.args.rest.now c.loop-member.member-index _ c.loop-member-test.true))
-    (chain_next c.args.polarity (c.args.first ∷ take c.loop-member.member-index c.args.rest.now) c.args.book.now c.loop-member.book c.push_two.new.book
+    (chain_next c.args.polarity c.args.first (take c.loop-member.member-index c.args.rest.now) c.args.book.now c.loop-member.book c.push_two.new.book
     c.loop-member.root _ c.in_ok-root.root c.push_two.ensures.is_book c.in_ok-root.ensures.is_new c.loop-member.invariant c.in_ok-root.ensures.book c.in_ok-root.ensures.number)
