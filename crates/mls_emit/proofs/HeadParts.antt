@@ -50,7 +50,7 @@ module _ (plan : Planned) (book : List Node) (place : ℕ → ℕ) (stands : (p 
   field_is label [] (field ∷ fields) are = absurd are
   field_is label (set ∷ sets) [] are = absurd are
   field_is label (set ∷ sets) (field ∷ fields) are = subst (λ l. IsFieldAt book place p (option_map (λ (s : FieldSet). s.set) (cond (bytes_eq set.label label) (Some set) (find (λ (s : FieldSet). bytes_eq s.label label) sets)))
-        (option_map (λ (f : Field). f.node) (cond (bytes_eq l label) (Some field) (find (λ (f : Field). bytes_eq f.label label) fields)))) (sym are.0.0) (go (field_is label sets fields are.1) (bytes_eq set.label label))
+      (option_map (λ (f : Field). f.node) (cond (bytes_eq l label) (Some field) (find (λ (f : Field). bytes_eq f.label label) fields)))) (sym are.0.0) (go (field_is label sets fields are.1) (bytes_eq set.label label))
     where
       go : IsFieldAt book place p (set_at sets label) (field_at label fields) → (b : Bool) → IsFieldAt book place p (option_map (λ (s : FieldSet). s.set) (cond b (Some set) (find (λ (s : FieldSet). bytes_eq s.label label) sets)))
           (option_map (λ (f : Field). f.node) (cond b (Some field) (find (λ (f : Field). bytes_eq f.label label) fields)))

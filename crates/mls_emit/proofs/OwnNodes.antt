@@ -216,8 +216,8 @@ module _ (place : ℕ → ℕ) (p : Polarity) where
       at_function arms (n, is, fun) =
           let all : length it.between ≡ length book + 1 = ap length is ∙ length-append book (n ∷ []) in
           let at : node_at new (length book) ≡ n =
-              ap (λ (b : List Node). node_at b (length book)) r.longer ∙ (get_or-append it.between r.more node.Bot (length book) (omega (arith, all))
-              ∙ (ap (λ (b : List Node). node_at b (length book)) is ∙ last_at book n)) in
+          ap (λ (b : List Node). node_at b (length book)) r.longer ∙ (get_or-append it.between r.more node.Bot (length book) (omega (arith, all))
+          ∙ (ap (λ (b : List Node). node_at b (length book)) is ∙ last_at book n)) in
           subst (IsFunction plan place p arms) (sym at) fun
 
       at_record : (sets : List FieldSet) → AddsRecord plan place p (Some sets) it.between new → IsRecord plan place p sets (node_at new (length book + count_if (is_some h.function)))

@@ -157,9 +157,9 @@ module _ (old one two new : List Node) (a : Automaton) (leaves : Leaves) (source
 
   closed_new : books.IsClosed new
   closed_new = subst (All (HasChildrenBelow (length new))) (sym all_longer) (All-append (HasChildrenBelow (length new)) old more olds (All-cons (HasChildrenBelow (length new)) node.Bool (node.Int ∷ node.Bot ∷ (owned.more ++ planned.more)) tt
-        (All-cons (HasChildrenBelow (length new)) node.Int (node.Bot ∷ (owned.more ++ planned.more)) tt
-        (All-cons (HasChildrenBelow (length new)) node.Bot (owned.more ++ planned.more) tt
-        (All-append (HasChildrenBelow (length new)) owned.more planned.more owns trees)))))
+      (All-cons (HasChildrenBelow (length new)) node.Int (node.Bot ∷ (owned.more ++ planned.more)) tt
+      (All-cons (HasChildrenBelow (length new)) node.Bot (owned.more ++ planned.more) tt
+      (All-append (HasChildrenBelow (length new)) owned.more planned.more owns trees)))))
     where
       olds : All (HasChildrenBelow (length new)) old
       olds =

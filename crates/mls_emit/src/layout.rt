@@ -71,7 +71,7 @@ pub struct LaidOut {
 
 /// The nodes of the states of an automaton, behind those of a type: `found` are its related states, and `pairs` those
 /// of its states and of the type's that a walk meets, where the type's states have these places. It takes time near
-/// linear in the number of all members of joins and meets that it adds.
+/// linear in the number of members of the joins and meets that it adds, each counted as often as it is met.
 ///
 /// # Errors
 ///

@@ -28,10 +28,10 @@ pub plan_states-requires-clause-values : goal.plan_states-requires-clause-values
 plan_states-requires-clause-values c =
     let starts = c.in_ok-values.ensures.extends.start ∙ ap (λ (plan : Planned). plan.start) c.new-trees.ensures in
     let below =
-        known_below c.args.book c.push_leaves.new.book c.args.a.now c.in_ok-leaves.leaves c.in_ok-sources.sources c.args.pairs.now (place_of c.args.type_places.now) c.in_ok-sources.sources.end
-        c.requires.places c.in_ok-leaves.ensures
-        (subst (λ n. AreParted c.args.a.now c.in_ok-leaves.leaves n (length c.args.a.now.states) c.in_ok-sources.sources.end c.in_ok-sources.sources.parts) c.len.ensures.len c.in_ok-sources.ensures.parts)
-        c.in_ok-sources.ensures.partners c.in_ok-sources.ensures.nothing in
+    known_below c.args.book c.push_leaves.new.book c.args.a.now c.in_ok-leaves.leaves c.in_ok-sources.sources c.args.pairs.now (place_of c.args.type_places.now) c.in_ok-sources.sources.end
+    c.requires.places c.in_ok-leaves.ensures
+    (subst (λ n. AreParted c.args.a.now c.in_ok-leaves.leaves n (length c.args.a.now.states) c.in_ok-sources.sources.end c.in_ok-sources.sources.parts) c.len.ensures.len c.in_ok-sources.ensures.parts)
+    c.in_ok-sources.ensures.partners c.in_ok-sources.ensures.nothing in
     places_below c.plan_values.new.trees (λ s. Positive) (λ s. IsEntering c.args.a.now (Holds c.args.found.now) c.in_ok-sources.sources (polarity_at c.args.a.now s) s) (length c.args.a.now.states)
     c.in_ok-values.values c.in_ok-values.ensures.trees
     (past_below c.in_ok-sources.sources c.in_ok-sources.sources.end c.plan_values.new.trees c.in_ok-values.values below starts c.in_ok-values.ensures.past)
@@ -40,10 +40,10 @@ pub push_own-requires-clause-low : goal.push_own-requires-clause-low
 push_own-requires-clause-low c =
     let starts = c.in_ok-places.ensures.extends.start ∙ (c.in_ok-values.ensures.extends.start ∙ ap (λ (plan : Planned). plan.start) c.new-trees.ensures) in
     let below =
-        known_below c.args.book c.push_leaves.new.book c.args.a.now c.in_ok-leaves.leaves c.in_ok-sources.sources c.args.pairs.now (place_of c.args.type_places.now) c.in_ok-sources.sources.end
-        c.requires.places c.in_ok-leaves.ensures
-        (subst (λ n. AreParted c.args.a.now c.in_ok-leaves.leaves n (length c.args.a.now.states) c.in_ok-sources.sources.end c.in_ok-sources.sources.parts) c.len.ensures.len c.in_ok-sources.ensures.parts)
-        c.in_ok-sources.ensures.partners c.in_ok-sources.ensures.nothing in
+    known_below c.args.book c.push_leaves.new.book c.args.a.now c.in_ok-leaves.leaves c.in_ok-sources.sources c.args.pairs.now (place_of c.args.type_places.now) c.in_ok-sources.sources.end
+    c.requires.places c.in_ok-leaves.ensures
+    (subst (λ n. AreParted c.args.a.now c.in_ok-leaves.leaves n (length c.args.a.now.states) c.in_ok-sources.sources.end c.in_ok-sources.sources.parts) c.len.ensures.len c.in_ok-sources.ensures.parts)
+    c.in_ok-sources.ensures.partners c.in_ok-sources.ensures.nothing in
     places_below c.plan_states.new.trees (polarity_at c.args.a.now) (λ s. IsPlaced c.args.a.now c.in_ok-sources.sources (place_of c.in_ok-values.values) (polarity_at c.args.a.now s) s) (length c.args.a.now.states)
     c.in_ok-places.places c.in_ok-places.ensures.trees
     (past_below c.in_ok-sources.sources c.in_ok-sources.sources.end c.plan_states.new.trees c.in_ok-places.places below starts c.in_ok-places.ensures.past)
