@@ -1,12 +1,12 @@
 -- A constraint that has a state for each binder, and nothing else.
 --     begun_none, begun_next      one binder after another
 --     begun_good, begun_model
-use Rattle.std.proofs.Common.{◌≡◌, ◌⊎◌, inl, inr, ℕ, zero, suc, ◌+◌, ◌<◌, Bool, true, false, List, [], ◌∷◌, ◌++◌, map, length, get_or, Contains, refl, sym, ap, ◌∙◌, subst, arith, Option, Some, None, IsSome, length-append}
+use Rattle.std.proofs.Common.{◌≡◌, ◌⊎◌, inl, inr, ℕ, zero, suc, ◌+◌, ◌<◌, Bool, true, false, List, [], ◌∷◌, ◌++◌, map, length, get_or, Contains, refl, sym, ap, ◌∙◌, subst, arith, Some, None, IsSome, length-append}
 use Rattle.std.specs.Prelude.{cond}
 use Rattle.std.specs.BTreeMap.{BTreeMap, IsEmpty, get, is_at}
 use Rattle.std.specs.Map.{lookup}
 use Rattle.std.specs.Ordering.{nat_cmp, is_eq}
-use Rattle.std.proofs.Math.ListN.{get_or-append, get_or-map}
+use Rattle.std.proofs.Math.ListN.{get_or-append}
 use Rattle.std.proofs.lemmas.List.{get_or-append-add, get_or_past, length-map, map-append}
 use Rattle.std.proofs.lemmas.List.Elements.{Contains-get_or, Contains-push_cases}
 use Rattle.mls_book.specs.Predicates.{Predicate, Implies, top}
@@ -15,7 +15,7 @@ use Rattle.mls_automaton.specs.declared.automaton.Polarity.TheVariants.{Negative
 use Rattle.mls_automaton.specs.declared.automaton.Flow.{Flow}
 use Rattle.mls_automaton.specs.declared.automaton.Head.{Head}
 use Rattle.mls_automaton.specs.declared.automaton.State.{State}
-use Rattle.mls_automaton.specs.Automata.{Automaton, empty_head, head_at, polarity_at, state_at, with_state, IsState}
+use Rattle.mls_automaton.specs.Automata.{Automaton, empty_head, head_at, polarity_at, state_at, IsState}
 use Rattle.mls_automaton.specs.Heads.{head_value}
 use Rattle.mls_automaton.specs.Models.{HasRisingLabels, HasStatesIn, IsInside}
 use Rattle.mls_biunify.specs.declared.goal.Goal.{Goal}
@@ -29,7 +29,7 @@ use Rattle.mls_emit.specs.PosedModels.{HasModel}
 use Rattle.mls_emit.specs.PosedParts.{AddsBinder, IsBegun}
 use Rattle.mls_emit.specs.Posings.{negative, size}
 use Rattle.mls_emit.proofs.HeldTypes.{top_type}
-use Rattle.mls_emit.proofs.PosedModels.{extended, extended_new, extended_old, extended_types}
+use Rattle.mls_emit.proofs.PosedModels.{extended, extended_old, extended_types}
 
 abbrev past : State
 past = record { polarity = Positive; head = empty_head }

@@ -4,13 +4,11 @@
 --     copy_begun, copy_next   one binder after another
 --     can_bind                each binder of the known type may be put to the one around
 --     copy_posed              a node whose root is in the copy, or that of another node
-use Rattle.std.proofs.Common.{◌≡◌, ◌⊎◌, ◌↔◌, inl, inr, ℕ, suc, ◌+◌, ◌<◌, List, [], ◌∷◌, ◌++◌, map, length, Contains, refl, sym, ap, ◌∙◌, subst, arith, Some}
+use Rattle.std.proofs.Common.{◌≡◌, ◌↔◌, inl, inr, ℕ, ◌+◌, ◌<◌, List, [], ◌∷◌, ◌++◌, map, length, Contains, refl, sym, ap, ◌∙◌, subst, arith, Some}
 use Rattle.std.specs.BTreeMap.{BTreeMap, Updates}
 use Rattle.std.specs.Ordering.{nat_cmp}
 use Rattle.std.proofs.lemmas.List.{append_assoc, map-append}
 use Rattle.std.proofs.lemmas.List.Elements.{Contains-append_left, Contains-append_right, Contains-push, Contains-push_cases}
-use Rattle.mls_automaton.specs.declared.automaton.Flow.{Flow}
-use Rattle.mls_automaton.specs.declared.automaton.Polarity.{Polarity}
 use Rattle.mls_automaton.specs.declared.automaton.Polarity.TheVariants.{Negative, Positive}
 use Rattle.mls_automaton.specs.declared.automaton.Head.{Head}
 use Rattle.mls_automaton.specs.declared.automaton.State.{State}
@@ -143,9 +141,9 @@ module _ (p : Posing) (known : Scheme) where
       closed = is.closed;
       state = is.states entry there;
       above = λ q k state. record {
-            in_range = let low : k < length known.automaton.states = state.in_range in let size_is : length m.automaton.states ≡ n + length known.automaton.states = many in omega arith;
-            polarity = ap (λ (x : State). x.polarity) (copied_state k) ∙ state.polarity;
-          };
+        in_range = let low : k < length known.automaton.states = state.in_range in let size_is : length m.automaton.states ≡ n + length known.automaton.states = many in omega arith;
+        polarity = ap (λ (x : State). x.polarity) (copied_state k) ∙ state.polarity;
+      };
       head = ap (λ (x : State). x.head) (copied_state entry.state.0);
     }
       where

@@ -1,7 +1,7 @@
 -- What a node adds leaves the constraint good.
 --     adds_good, copy_good
 --     node_good
-use Rattle.std.proofs.Common.{◌≡◌, ◌⊎◌, ◌↔◌, inl, inr, ℕ, zero, suc, ◌+◌, ◌<◌, ◌≤◌, Bool, true, false, List, [], ◌∷◌, ◌++◌, map, length, get_or, All, Contains, refl, sym, ap, ◌∙◌, subst, arith, Option, Some, None, IsSome, length-append}
+use Rattle.std.proofs.Common.{◌≡◌, ◌⊎◌, inl, inr, ℕ, zero, suc, ◌+◌, ◌<◌, Bool, true, false, List, [], ◌∷◌, map, length, get_or, All, Contains, refl, sym, ap, ◌∙◌, subst, arith, Option, Some, None, IsSome, length-append}
 use Rattle.std.specs.Prelude.{cond}
 use Rattle.std.specs.BTreeMap.{BTreeMap, get}
 use Rattle.std.specs.Ordering.{nat_cmp, is_eq}
@@ -17,21 +17,19 @@ use Rattle.mls_automaton.specs.declared.automaton.Head.{Head}
 use Rattle.mls_automaton.specs.declared.automaton.State.{State}
 use Rattle.mls_automaton.specs.declared.scheme.EnvEntry.{EnvEntry}
 use Rattle.mls_automaton.specs.declared.scheme.Scheme.{Scheme}
-use Rattle.mls_automaton.specs.Automata.{Automaton, empty_head, flow, state_at, polarity_at, head_at, opposite, HasFlow, IsState}
-use Rattle.mls_automaton.specs.Embeddings.{appended, renamed_head, renamed_state}
-use Rattle.mls_automaton.specs.Models.{HasFieldsIn, HasRisingLabels, HasStatesIn, IsClosed}
+use Rattle.mls_automaton.specs.Automata.{empty_head, flow, state_at, polarity_at, head_at, HasFlow, IsState}
+use Rattle.mls_automaton.specs.Embeddings.{appended, renamed_state}
+use Rattle.mls_automaton.specs.Models.{HasRisingLabels, HasStatesIn, IsClosed}
 use Rattle.mls_automaton.proofs.Appends.{closed-appended, second-embedded, second-state}
 use Rattle.mls_automaton.proofs.Lists.{All-contained, Contains-cases, Contains-map_back}
 use Rattle.mls_biunify.specs.declared.goal.Goal.{Goal}
 use Rattle.mls_biunify.specs.Relations.{IsGoalOf}
 use Rattle.mls_infer.proofs.Grown.{states_more}
-use Rattle.mls_term.specs.declared.term.Part.{Part}
 use Rattle.mls_term.specs.declared.term.TermForm.{TermForm}
 use Rattle.mls_term.specs.declared.term.TermForm.TheVariants as form
-use Rattle.mls_typing.proofs.Contexts.{same_key}
 use Rattle.mls_emit.specs.declared.pose.Need.{Need}
 use Rattle.mls_emit.specs.declared.pose.Posing.{Posing}
-use Rattle.mls_emit.specs.PosedCopies.{HasBinder, HasBinderOf, IsGood, IsNew}
+use Rattle.mls_emit.specs.PosedCopies.{HasBinder, HasBinderOf, IsGood}
 use Rattle.mls_emit.specs.PosedNodes.{HasPartsIn}
 use Rattle.mls_emit.specs.Posings.{Added, Adds, AddsNode, CanPose, HasKnown, known_in, IsCopiedEdge, IsKnownTo, OneEdge, binder_in, copied_need, copy_added, NoEdge, bool_head, fix_added, function_head, goal, int_head, literal_added, negative, one_field, or_zero, positive, record_head, root_in, size}
 use Rattle.mls_emit.proofs.PosedByNode.{new_state}

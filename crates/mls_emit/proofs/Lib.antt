@@ -41,7 +41,6 @@ pub mod WorkedNames
 pub mod WorkedConstraint
 pub mod ReadLayouts
 pub mod TreesMade
-pub mod Filled
 pub mod LongerLayouts
 pub mod Posings
 pub mod Copies

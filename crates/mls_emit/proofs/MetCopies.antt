@@ -1,9 +1,8 @@
 -- The copy of a known type, where binders have what is needed of them.
 --     renamed_within      a head lies within itself under other numbers
 --     copy_met
-use Rattle.std.proofs.Common.{◌≡◌, ◌⊎◌, ◌↔◌, inl, inr, ℕ, zero, suc, ◌+◌, ◌<◌, ◌≤◌, Bool, true, false, List, [], ◌∷◌, map, length, get_or, All, Contains, refl, sym, ap, ◌∙◌, subst, arith, Option, Some, None}
-use Rattle.std.specs.Prelude.{◌==◌, bytes_eq, cond, find, option_map}
-use Rattle.std.specs.BTreeMap.{BTreeMap}
+use Rattle.std.proofs.Common.{◌≡◌, ◌⊎◌, inl, inr, ℕ, suc, ◌+◌, ◌<◌, Bool, true, false, List, [], ◌∷◌, map, length, All, Contains, refl, sym, ap, ◌∙◌, subst, arith, Option, Some, None}
+use Rattle.std.specs.Prelude.{bytes_eq, cond, find, option_map}
 use Rattle.std.proofs.lemmas.List.{get_or_past}
 use Rattle.std.proofs.lemmas.List.Elements.{All-contains}
 use Rattle.mls_book.proofs.LongerBooks.{below_or_more}
@@ -17,8 +16,8 @@ use Rattle.mls_automaton.specs.declared.scheme.EnvEntry.{EnvEntry}
 use Rattle.mls_automaton.specs.declared.scheme.Scheme.{Scheme}
 use Rattle.mls_automaton.specs.Automata.{Automaton, empty_head, flow, head_at, polarity_at, state_at, opposite, HasFlow, IsState}
 use Rattle.mls_automaton.specs.Embeddings.{renamed_arms, renamed_field, renamed_head, renamed_state}
-use Rattle.mls_automaton.specs.Heads.{set_at, Parts, parts_of}
-use Rattle.mls_automaton.specs.Models.{HasArmsIn, HasFieldsIn, HasStatesIn, IsClosed}
+use Rattle.mls_automaton.specs.Heads.{set_at, parts_of}
+use Rattle.mls_automaton.specs.Models.{HasArmsIn, HasFieldsIn, HasStatesIn}
 use Rattle.mls_automaton.specs.declared.automaton.Flow.{Flow}
 use Rattle.mls_automaton.proofs.Lists.{Contains-cases, Contains-here, Contains-later, Contains-map}
 use Rattle.std.specs.Ordering.{nat_cmp, eq_by_cmp}
@@ -28,7 +27,7 @@ use Rattle.mls_typing.proofs.Contexts.{same_key}
 use Rattle.mls_typing.proofs.TypedForms.{same_self}
 use Rattle.mls_emit.specs.declared.pose.Need.{Need}
 use Rattle.mls_emit.specs.declared.pose.Posing.{Posing}
-use Rattle.mls_emit.specs.MetCopies.{AreSeparate, IsCopyMet, IsOfNoBinder}
+use Rattle.mls_emit.specs.MetCopies.{IsCopyMet, IsOfNoBinder}
 use Rattle.mls_emit.specs.MetNeeds.{HasMet, needy}
 use Rattle.mls_emit.specs.PosedCopies.{IsCopyAt}
 use Rattle.mls_emit.specs.PosedParts.{IsKnownType}

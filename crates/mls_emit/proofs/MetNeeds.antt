@@ -1,8 +1,7 @@
 -- The needs of binders are met one after another.
 --     none_met, next_met
-use Rattle.std.proofs.Common.{◌≡◌, ◌≢◌, ◌⊎◌, inl, inr, ℕ, ◌+◌, ◌<◌, Bool, true, false, List, [], ◌∷◌, ◌++◌, map, length, Contains, All, refl, sym, ap, ◌∙◌, subst, arith}
+use Rattle.std.proofs.Common.{◌≡◌, ◌⊎◌, inl, inr, ℕ, ◌+◌, ◌<◌, List, [], ◌∷◌, ◌++◌, map, length, Contains, All, refl, sym, ap, ◌∙◌, subst, arith}
 use Rattle.std.specs.BTreeMap.{BTreeMap}
-use Rattle.std.specs.Prelude.{◌==◌}
 use Rattle.std.proofs.lemmas.List.Elements.{All-cons, Contains-append_left, Contains-push, Contains-push_cases}
 use Rattle.mls_book.specs.Predicates.{Predicate, Implies}
 use Rattle.mls_book.proofs.Lattice.{meet_greatest}
@@ -12,7 +11,7 @@ use Rattle.mls_automaton.specs.declared.automaton.Polarity.TheVariants.{Negative
 use Rattle.mls_automaton.specs.declared.automaton.Head.{Head}
 use Rattle.mls_automaton.specs.declared.automaton.State.{State}
 use Rattle.mls_automaton.specs.Automata.{Automaton, head_at, polarity_at, state_at, IsState}
-use Rattle.mls_automaton.specs.Heads.{Parts, combined, combined_two, head_value, parts_of, parts_value, IsSameParts}
+use Rattle.mls_automaton.specs.Heads.{combined, combined_two, head_value, parts_of, IsSameParts}
 use Rattle.mls_automaton.specs.Models.{HasRisingLabels, HasStatesIn, IsClosed}
 use Rattle.mls_automaton.proofs.Combined.{combined_two-value, same_parts-value}
 use Rattle.mls_automaton.proofs.CombinedStates.{HasPartsIn, combined_in, head_in, parts_in, same_in}
@@ -20,7 +19,7 @@ use Rattle.mls_flow.specs.Simulations.{IsHeadWithin}
 use Rattle.mls_flow.proofs.HeadsWithin.{Same, within-self, within-combined, within-same, within-trans}
 use Rattle.mls_scheme.proofs.MetStates.{combined-none}
 use Rattle.mls_emit.specs.declared.pose.Need.{Need}
-use Rattle.mls_emit.specs.MetNeeds.{AreNeeds, HasMet, IsSame, needy}
+use Rattle.mls_emit.specs.MetNeeds.{HasMet, needy}
 
 abbrev no_needs : List Need
 no_needs = []

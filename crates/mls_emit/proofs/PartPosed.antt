@@ -1,36 +1,32 @@
 -- Where the nodes of a part are posed and the needs of binders are met, the part is posed.
 --     part_posed
-use Rattle.std.proofs.Common.{◌≡◌, ◌⊎◌, ◌↔◌, inl, inr, ℕ, ◌+◌, ◌<◌, true, false, List, [], ◌∷◌, map, length, Contains, refl, sym, ap, ◌∙◌, subst, arith, Option, Some, None, IsSome}
+use Rattle.std.proofs.Common.{◌≡◌, ℕ, ◌+◌, ◌<◌, false, List, Contains, refl, sym, ap, ◌∙◌, subst, Option, Some, None, IsSome}
 use Rattle.std.specs.BTreeMap.{BTreeMap, get}
 use Rattle.std.specs.Ordering.{nat_cmp}
 use Rattle.mls_book.specs.Predicates.{Predicate, Implies}
 use Rattle.mls_automaton.specs.declared.automaton.Polarity.{Polarity}
 use Rattle.mls_automaton.specs.declared.automaton.Polarity.TheVariants.{Negative, Positive}
-use Rattle.mls_automaton.specs.declared.automaton.FieldSet.{FieldSet}
 use Rattle.mls_automaton.specs.declared.automaton.Flow.{Flow}
 use Rattle.mls_automaton.specs.declared.automaton.Head.{Head}
 use Rattle.mls_automaton.specs.declared.scheme.EnvEntry.{EnvEntry}
 use Rattle.mls_automaton.specs.declared.scheme.Scheme.{Scheme}
 use Rattle.mls_automaton.specs.Automata.{Automaton, empty_head, flow, head_at, polarity_at, HasFlow, IsState}
 use Rattle.mls_automaton.specs.Heads.{head_value}
-use Rattle.mls_automaton.specs.Models.{HasStatesIn, IsClosed, IsInside, IsModel}
-use Rattle.mls_biunify.specs.declared.goal.Goal.{Goal}
-use Rattle.mls_biunify.specs.Relations.{IsGoal, IsGoalOf}
+use Rattle.mls_automaton.specs.Models.{HasStatesIn, IsClosed, IsInside}
+use Rattle.mls_biunify.specs.Relations.{IsGoal}
 use Rattle.mls_infer.proofs.Grown.{states_more}
-use Rattle.mls_term.specs.declared.term.Part.{Part}
 use Rattle.mls_term.specs.declared.term.TermForm.{TermForm}
 use Rattle.mls_term.specs.declared.term.TermForm.TheVariants as form
 use Rattle.mls_term.specs.declared.term.TermNode.{TermNode}
-use Rattle.mls_deriv.specs.Steps.{form_at}
 use Rattle.mls_emit.specs.declared.pose.Need.{Need}
 use Rattle.mls_emit.specs.declared.pose.Posing.{Posing}
 use Rattle.mls_emit.specs.MetCopies.{IsCopyMet, IsUseMet}
 use Rattle.mls_emit.specs.MetNeeds.{AreNeeds, HasMet, needy}
-use Rattle.mls_emit.specs.PosedCopies.{Extends, IsCopyAt, IsGood, IsUsePosed}
+use Rattle.mls_emit.specs.PosedCopies.{IsCopyAt, IsGood, IsUsePosed}
 use Rattle.mls_emit.specs.PosedModels.{HasModel}
 use Rattle.mls_emit.specs.PosedNodes.{IsNodePosed}
 use Rattle.mls_emit.specs.PosedParts.{ArePosable, HasKnownType, HavePosed, IsBegun, IsKnownType, IsPartPosed, IsPosable}
-use Rattle.mls_emit.specs.Posings.{binder_in, known_in, number_at, or_zero, root_in}
+use Rattle.mls_emit.specs.Posings.{binder_in, known_in, or_zero, root_in}
 use Rattle.mls_emit.proofs.BegunPosings.{begun_model}
 use Rattle.mls_emit.proofs.MetCopies.{copy, copy_met, copy_root}
 use Rattle.mls_emit.proofs.PosedParts.{binder_state}

@@ -2,22 +2,20 @@
 --     adds_extends        what was there stays
 --     node_posed          and the node is posed
 --     node_extends, node_root
-use Rattle.std.proofs.Common.{◌≡◌, ◌⊎◌, inl, inr, ℕ, suc, ◌+◌, ◌<◌, ◌≤◌, Bool, true, false, List, [], ◌∷◌, ◌++◌, map, length, get_or, Contains, refl, sym, ap, ◌∙◌, subst, arith, Option, Some, None, length-append, IsSome}
+use Rattle.std.proofs.Common.{◌≡◌, inl, inr, ℕ, suc, ◌+◌, Bool, true, false, List, [], ◌∷◌, map, length, get_or, Contains, refl, sym, ap, ◌∙◌, subst, arith, Option, Some, None, length-append, IsSome}
 use Rattle.std.specs.Prelude.{cond}
-use Rattle.std.specs.BTreeMap.{BTreeMap, get, Updates}
+use Rattle.std.specs.BTreeMap.{get, Updates}
 use Rattle.std.specs.Ordering.{nat_cmp, is_eq}
 use Rattle.std.proofs.Math.ListN.{get_or-append, get_or-map}
 use Rattle.std.proofs.lemmas.List.{get_or-append-add, length-map}
 use Rattle.std.proofs.lemmas.List.Elements.{Contains-append_left, Contains-append_right}
 use Rattle.mls_automaton.specs.declared.automaton.Polarity.TheVariants.{Positive}
-use Rattle.mls_automaton.specs.declared.automaton.FieldSet.{FieldSet}
 use Rattle.mls_automaton.specs.declared.automaton.State.{State}
-use Rattle.mls_automaton.specs.declared.scheme.EnvEntry.{EnvEntry}
 use Rattle.mls_automaton.specs.declared.scheme.Scheme.{Scheme}
-use Rattle.mls_automaton.specs.Automata.{Automaton, empty_head, state_at, polarity_at, head_at, HasFlow}
+use Rattle.mls_automaton.specs.Automata.{empty_head, state_at, HasFlow}
 use Rattle.mls_automaton.specs.Embeddings.{renamed_state}
 use Rattle.mls_automaton.specs.Heads.{set_at}
-use Rattle.mls_automaton.proofs.Lists.{Contains-here, Contains-later, Contains-map, Contains-map_back}
+use Rattle.mls_automaton.proofs.Lists.{Contains-here, Contains-map, Contains-map_back}
 use Rattle.mls_biunify.specs.declared.goal.Goal.{Goal}
 use Rattle.mls_biunify.specs.Relations.{IsGoal}
 use Rattle.mls_term.specs.declared.term.Part.{Part}

@@ -1,7 +1,7 @@
 -- What is posed stays posed while more is added.
 --     extends_all         what was there stays, step by step
 --     posed_kept
-use Rattle.std.proofs.Common.{◌≡◌, ◌⊎◌, ◌↔◌, inl, inr, ℕ, ◌+◌, ◌<◌, ◌≤◌, true, false, List, [], ◌∷◌, map, length, Contains, refl, sym, ap, ◌∙◌, subst, arith, Option, Some, None, IsSome}
+use Rattle.std.proofs.Common.{◌≡◌, ◌⊎◌, inl, inr, ℕ, ◌+◌, ◌<◌, ◌≤◌, true, false, List, [], ◌∷◌, length, refl, sym, ap, ◌∙◌, subst, arith, Option, Some, None, IsSome}
 use Rattle.std.specs.BTreeMap.{get}
 use Rattle.std.specs.Ordering.{nat_cmp}
 use Rattle.std.proofs.lemmas.List.{get_or_past}
@@ -11,16 +11,11 @@ use Rattle.mls_automaton.specs.declared.automaton.Arms.{Arms}
 use Rattle.mls_automaton.specs.declared.automaton.FieldSet.{FieldSet}
 use Rattle.mls_automaton.specs.declared.automaton.State.{State}
 use Rattle.mls_automaton.specs.declared.scheme.Scheme.{Scheme}
-use Rattle.mls_automaton.specs.Automata.{Automaton, empty_head, state_at, polarity_at, head_at, HasFlow}
-use Rattle.mls_automaton.specs.Heads.{set_at}
-use Rattle.mls_biunify.specs.declared.goal.Goal.{Goal}
+use Rattle.mls_automaton.specs.Automata.{Automaton, empty_head, state_at, head_at, HasFlow}
 use Rattle.mls_biunify.specs.Relations.{IsGoal}
-use Rattle.mls_term.specs.declared.term.Part.{Part}
 use Rattle.mls_term.specs.declared.term.TermForm.{TermForm}
 use Rattle.mls_term.specs.declared.term.TermForm.TheVariants as form
-use Rattle.mls_emit.specs.declared.pose.Need.{Need}
 use Rattle.mls_emit.specs.declared.pose.Posing.{Posing}
-use Rattle.mls_emit.specs.Posed.{HasArms}
 use Rattle.mls_emit.specs.PosedCopies.{Extends, IsCopyAt, IsGood, IsUsePosed}
 use Rattle.mls_emit.specs.PosedNodes.{HasPartsIn, IsNodePosed}
 use Rattle.mls_emit.specs.Posings.{binder_in, number_at, or_zero, root_in, size}

@@ -1,9 +1,8 @@
 -- A model of a constraint goes on over what a node adds, where the node is typed as its form asks.
 --     adds_model
 --     node_model
-use Rattle.std.proofs.Common.{◌≡◌, ◌⊎◌, ◌↔◌, inl, inr, ℕ, zero, suc, ◌+◌, ◌<◌, Bool, true, false, List, [], ◌∷◌, ◌++◌, map, length, get_or, Contains, refl, sym, ap, ◌∙◌, subst, arith, Option, Some, None, IsSome}
-use Rattle.std.specs.Prelude.{bytes_eq, cond, find, option_map, slice_get}
-use Rattle.std.specs.FinMap as finmap
+use Rattle.std.proofs.Common.{◌≡◌, ◌⊎◌, inl, inr, ℕ, zero, suc, ◌+◌, ◌<◌, Bool, true, false, List, [], ◌∷◌, map, length, get_or, Contains, refl, sym, ap, ◌∙◌, subst, arith, Option, Some, None, IsSome}
+use Rattle.std.specs.Prelude.{bytes_eq, cond, find, option_map}
 use Rattle.std.proofs.lemmas.Slice.Eq.{bytes_eq-Decides}
 use Rattle.std.specs.BTreeMap.{BTreeMap, get}
 use Rattle.std.specs.Ordering.{nat_cmp, is_eq}
@@ -20,13 +19,13 @@ use Rattle.mls_automaton.specs.declared.automaton.Polarity.TheVariants.{Negative
 use Rattle.mls_automaton.specs.declared.automaton.Flow.{Flow}
 use Rattle.mls_automaton.specs.declared.automaton.Head.{Head}
 use Rattle.mls_automaton.specs.declared.automaton.State.{State}
-use Rattle.mls_automaton.specs.Automata.{Automaton, empty_head, flow, state_at, polarity_at, head_at, opposite, HasFlow, IsState}
+use Rattle.mls_automaton.specs.Automata.{empty_head, flow, state_at, polarity_at, head_at, opposite, HasFlow, IsState}
 use Rattle.mls_automaton.specs.Embeddings.{renamed_head, renamed_state}
 use Rattle.mls_automaton.specs.Heads.{head_value, record_value, set_at, set_value}
 use Rattle.mls_automaton.specs.Schemes.{IsScheme, IsSchemeOf}
 use Rattle.mls_automaton.proofs.Lists.{Contains-cases, Contains-here, Contains-later, Contains-map_back}
 use Rattle.mls_book.specs.Schemes.{binder_passes}
-use Rattle.mls_automaton.specs.Models.{HasStatesIn, IsInside, IsModel}
+use Rattle.mls_automaton.specs.Models.{IsInside, IsModel}
 use Rattle.mls_biunify.specs.declared.goal.Goal.{Goal}
 use Rattle.mls_infer.proofs.HeadValues.{bool_value, empty_value, function_head-value, int_value, record_head-value, set_one}
 use Rattle.mls_infer.proofs.Grown.{head_value-agree, head_value-moved, model_agree, states_more}

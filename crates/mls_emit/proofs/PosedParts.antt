@@ -1,7 +1,7 @@
 -- The nodes of a part are posed one after another.
 --     can_pose            each may be posed
 --     pose_none, pose_next
-use Rattle.std.proofs.Common.{◌≡◌, ◌≢◌, ◌⊎◌, inl, inr, ℕ, zero, suc, ◌<◌, Bool, true, false, List, [], ◌∷◌, ◌++◌, map, length, take, get_or, Contains, refl, sym, ap, ◌∙◌, subst, arith, Option, Some, None, IsSome}
+use Rattle.std.proofs.Common.{◌≡◌, ◌≢◌, ◌⊎◌, inl, inr, ℕ, zero, suc, ◌<◌, Bool, true, false, List, [], ◌∷◌, ◌++◌, length, take, get_or, Contains, refl, sym, ap, ◌∙◌, subst, arith, Option, Some, None, IsSome}
 use Rattle.std.specs.Prelude.{cond, option_map}
 use Rattle.std.specs.List.{AllPairs}
 use Rattle.std.proofs.lemmas.List.{get_or_default}
@@ -9,27 +9,20 @@ use Rattle.std.proofs.lemmas.Option.{slice_get-get_or}
 use Rattle.std.specs.BTreeMap.{BTreeMap, get, Updates}
 use Rattle.std.specs.Ordering.{nat_cmp, is_eq}
 use Rattle.std.proofs.lemmas.List.Elements.{Contains-append_left, Contains-push, Contains-push_cases}
-use Rattle.mls_book.specs.Predicates.{Predicate}
 use Rattle.mls_automaton.specs.declared.automaton.Polarity.TheVariants.{Negative}
-use Rattle.mls_automaton.specs.declared.scheme.EnvEntry.{EnvEntry}
 use Rattle.mls_automaton.specs.declared.scheme.Scheme.{Scheme}
 use Rattle.mls_automaton.specs.Automata.{IsState}
 use Rattle.mls_biunify.specs.Relations.{IsGoal}
-use Rattle.mls_term.specs.declared.term.Part.{Part}
 use Rattle.mls_term.specs.declared.term.TermForm.{TermForm}
 use Rattle.mls_term.specs.declared.term.TermForm.TheVariants as form
 use Rattle.mls_term.specs.declared.term.TermNode.{TermNode}
-use Rattle.mls_term.specs.Derivations.{Known}
 use Rattle.mls_typing.proofs.Contexts.{same_key}
-use Rattle.mls_typing.specs.Typed.{IsType}
 use Rattle.mls_deriv.specs.Steps.{form_at}
 use Rattle.mls_emit.specs.declared.pose.Posing.{Posing}
-use Rattle.mls_emit.specs.NodeTypes.{IsNodeTyped}
 use Rattle.mls_emit.specs.PosedCopies.{Extends, HasBinder, HasBinderOf, IsGood, IsNew, IsUsePosed}
-use Rattle.mls_emit.specs.PosedModels.{AreOver, HasModel}
 use Rattle.mls_emit.specs.PosedNodes.{HasPartsIn, IsNodePosed}
-use Rattle.mls_emit.specs.PosedParts.{ArePosable, HasKnownType, HavePosed, IsBegun, IsKnownType, IsPosable}
-use Rattle.mls_emit.specs.Posings.{Added, Adds, AddsNode, CanPose, HasKnown, IsKnownTo, binder_in, known_in, or_zero, root_in}
+use Rattle.mls_emit.specs.PosedParts.{HasKnownType, HavePosed, IsBegun, IsPosable}
+use Rattle.mls_emit.specs.Posings.{AddsNode, CanPose, HasKnown, binder_in, known_in, or_zero, root_in}
 use Rattle.mls_emit.proofs.BegunPosings.{begun_good}
 use Rattle.mls_emit.proofs.GoodPosings.{node_good}
 use Rattle.mls_emit.proofs.PosedByNode.{node_extends, node_posed, node_root}

@@ -1,7 +1,6 @@
 -- Where each node of a part is posed, so is the tree.
 --     posed_tree
-use Rattle.std.proofs.Common.{◌≡◌, ℕ, ◌<◌, List, [], ◌∷◌, ◌++◌, All, Contains, refl, sym, ap, subst, Some}
-use Rattle.std.specs.Prelude.{Option}
+use Rattle.std.proofs.Common.{◌≡◌, ℕ, List, [], ◌∷◌, ◌++◌, Contains, sym, subst, Some}
 use Rattle.mls_automaton.specs.declared.automaton.FieldSet.{FieldSet}
 use Rattle.mls_automaton.specs.Automata.{Automaton}
 use Rattle.mls_automaton.specs.Heads.{set_at}
@@ -58,6 +57,11 @@ module _ (nodes : List TermNode) (a : Automaton) (IsGoal : ℕ → ℕ → Type 
     posed_trees scope no_field parts sets is inside there rises = is
     posed_trees scope (a_field label e rest) parts sets (j, others, is, first, later) inside there rises =
         let here : Contains parts (record { label = label; child = j }) = subst (λ (ps : List Part). Contains ps (record { label = label; child = j })) (sym is) (Contains-here (record { label = label; child = j }) others) in
-        let next : (part : Part) → Contains others part → Contains parts part = λ part at. subst (λ (ps : List Part). Contains ps part) (sym is) (Contains-later (record { label = label; child = j }) others part at) in
-        (j, others, is, there (record { label = label; child = j }) here, posed_tree scope e j first (inside (record { label = label; child = j }) here) rises.0,
-        posed_trees scope rest others sets later (λ part at. inside part (next part at)) (λ part at. there part (next part at)) rises.1)
+        let next : (part : Part) → Contains others part → Contains parts part = λ part at. subst (λ (ps : List Part). Contains ps part) (sym is) (Contains-later (record { label = label; child = j }) others part at) in (
+          j,
+          others,
+          is,
+          there (record { label = label; child = j }) here,
+          posed_tree scope e j first (inside (record { label = label; child = j }) here) rises.0,
+          posed_trees scope rest others sets later (λ part at. inside part (next part at)) (λ part at. there part (next part at)) rises.1,
+        )

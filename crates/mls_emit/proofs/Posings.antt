@@ -105,7 +105,7 @@ result_root p m i it = ap (λ rs. number_at rs i) it.roots
 pub no_edges : (p : Posing) (IsEdge : ℕ → ℕ → Type 0) → ((n s : ℕ) → IsEdge n s → ⊥) → AddsEdges p p IsEdge
 no_edges p IsEdge none = record {
   states = refl;
-  flows = λ n s. (λ it. inl it, λ it. elim it [ | inl old ↦ old | inr new ↦ absurd (none n s new) ]);
+  flows = λ n s. (λ it. inl it, λ it. elim it [ inl old ↦ old | inr new ↦ absurd (none n s new) ]);
   goals = refl;
   needs = refl;
   roots = refl;

@@ -1,6 +1,5 @@
 pub mod Shown
 pub mod Trees
-pub mod Drafts
 pub mod Heads
 pub mod Layouts
 pub mod Uses

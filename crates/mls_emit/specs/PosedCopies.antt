@@ -1,5 +1,5 @@
 -- What holds of a constraint while nodes are posed, and of the copies of known types in it.
-use Rattle.std.specs.Prelude.{◌≡◌, ℕ, ◌<◌, ◌≤◌, ◌+◌, List, length, Contains, IsSome, Option, Some}
+use Rattle.std.specs.Prelude.{◌≡◌, ℕ, ◌<◌, ◌≤◌, ◌+◌, length, Contains, IsSome, Option, Some}
 use Rattle.std.specs.BTreeMap.{get}
 use Rattle.std.specs.Ordering.{nat_cmp}
 use Rattle.mls_automaton.specs.declared.automaton.Polarity.TheVariants.{Negative, Positive}

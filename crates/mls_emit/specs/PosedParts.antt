@@ -1,5 +1,5 @@
 -- The constraint of a part, posed whole.
-use Rattle.std.specs.Prelude.{◌≡◌, ◌≢◌, ℕ, ◌<◌, List, [], ◌++◌, length, take, get_or, map, All, Contains, IsSome}
+use Rattle.std.specs.Prelude.{◌≡◌, ◌≢◌, ℕ, ◌<◌, List, [], length, take, get_or, map, All, Contains, IsSome}
 use Rattle.std.specs.Prelude.{Option, Some, None}
 use Rattle.std.specs.BTreeMap.{BTreeMap, get, Updates}
 use Rattle.std.specs.List.{AllPairs}

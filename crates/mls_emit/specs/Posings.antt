@@ -1,5 +1,6 @@
 -- A constraint that is posed node by node: what each form of a node adds to it.
-use Rattle.std.specs.Prelude.{◌≡◌, ◌≢◌, ◌⊎◌, ◌↔◌, ℕ, suc, true, ◌+◌, List, [], ◌∷◌, ◌++◌, map, length, Contains, IsSome, Option, Some, None}
+use Rattle.std.specs.Prelude.{◌≡◌, ◌≢◌, ◌⊎◌, ◌↔◌, ℕ, suc, true, ◌+◌, List, [], ◌∷◌, ◌++◌, map, length}
+use Rattle.std.specs.Prelude.{Contains, IsSome, Option, Some, None}
 use Rattle.std.specs.BTreeMap.{BTreeMap, get, Updates}
 use Rattle.std.specs.List.{AllPairs}
 use Rattle.std.specs.Ordering.{nat_cmp}

@@ -3,7 +3,6 @@ pub mod Lines
 pub mod Needs
 pub mod Growth
 pub mod Rounds
-pub mod Filling
 pub mod Results
 pub mod Planned
 pub mod Sources

@@ -1,7 +1,7 @@
 //! The constraint of a part of a term, posed node by node: each node has a state as its root, each binder one negative
 //! state, and all goals of the part stand together.
-ghost use Rattle.std.specs.Prelude.{◌≡◌, ◌≢◌, ℕ, ◌+◌, ◌++◌, ◌∷◌, List, [], suc, length, map, All, Contains, OnOk, IfOk, IsSome};
-ghost use Rattle.std.specs.Prelude.{Some};
+ghost use Rattle.std.specs.Prelude.{◌≡◌, ◌≢◌, ℕ, ◌+◌, ◌++◌, ◌∷◌, List, [], suc, length, map, All, Contains};
+ghost use Rattle.std.specs.Prelude.{OnOk, IfOk, IsSome, Some};
 ghost use Rattle.std.specs.List.{AllPairs};
 ghost use Rattle.std.specs.Cmp.Lexicographic.{slice_cmp};
 ghost use Rattle.std.specs.BTreeMap.{IsOrdered};
@@ -225,7 +225,13 @@ impl Posing {
     }
 
     // A function of a binder.
-    fn pose_fun(&mut self, alloc: Global, node: usize, binder: usize, body: usize) -> Result<(), Memory>
+    fn pose_fun(
+        &mut self,
+        alloc: Global,
+        node: usize,
+        binder: usize,
+        body: usize,
+    ) -> Result<(), Memory>
         ensures { OnOk result (Adds self.old self.new node
             (fun_added (size self.old) (binder_in self.old binder) (root_in self.old body)) NoEdge) }
     {
@@ -245,7 +251,13 @@ impl Posing {
     }
 
     // An application of a function to an argument.
-    fn pose_apply(&mut self, alloc: Global, node: usize, function: usize, argument: usize) -> Result<(), Memory>
+    fn pose_apply(
+        &mut self,
+        alloc: Global,
+        node: usize,
+        function: usize,
+        argument: usize,
+    ) -> Result<(), Memory>
         ensures { OnOk result (Adds self.old self.new node
             (apply_added (size self.old) (root_in self.old function) (root_in self.old argument))
             (OneEdge (suc (size self.old)) (size self.old))) }
@@ -259,7 +271,13 @@ impl Posing {
     }
 
     // A projection of a field.
-    fn pose_project(&mut self, alloc: Global, node: usize, body: usize, label: &Name) -> Result<(), Memory>
+    fn pose_project(
+        &mut self,
+        alloc: Global,
+        node: usize,
+        body: usize,
+        label: &Name,
+    ) -> Result<(), Memory>
         ensures { OnOk result (Adds self.old self.new node
             (project_added (size self.old) (root_in self.old body) label.now)
             (OneEdge (suc (size self.old)) (size self.old))) }
@@ -273,7 +291,13 @@ impl Posing {
     }
 
     // A conditional.
-    fn pose_choice(&mut self, node: usize, condition: usize, first: usize, second: usize) -> Result<(), Memory>
+    fn pose_choice(
+        &mut self,
+        node: usize,
+        condition: usize,
+        first: usize,
+        second: usize,
+    ) -> Result<(), Memory>
         ensures { OnOk result (Adds self.old self.new node
             (choice_added (size self.old) (root_in self.old condition) (root_in self.old first)
             (root_in self.old second)) (OneEdge (suc (size self.old)) (size self.old))) }
@@ -319,7 +343,11 @@ impl Posing {
         ensures { OnOk result (Binds self.old self.new first known.now entry) }
     {
         let from = self.binder(entry.binder);
-        self.push_edges(from, first, known.automaton.partners(entry.state).as_slice())?;
+        self.push_edges(
+            from,
+            first,
+            known.automaton.partners(entry.state).as_slice(),
+        )?;
         let own = raised(entry.state.0, first)?;
         let head = copied_head(self.automaton.head(StateId(own)))?;
         self.needs.push(Need {
@@ -397,7 +425,13 @@ impl Posing {
     /// # Errors
     ///
     /// `Memory` where memory is wanting.
-    pub fn pose_node(&mut self, alloc: Global, node: usize, form: &TermForm, known: &KnownTypes) -> Result<(), Memory>
+    pub fn pose_node(
+        &mut self,
+        alloc: Global,
+        node: usize,
+        form: &TermForm,
+        known: &KnownTypes,
+    ) -> Result<(), Memory>
         requires { CanPose known.now.globals known.now.lets self.old form.now }
         ensures { OnOk result (AddsNode (known_in known.now.globals) (known_in known.now.lets) self.old self.new node
             form.now) }
@@ -409,11 +443,19 @@ impl Posing {
             TermForm::Number(_) => self.pose_literal(node, int_head()),
             TermForm::Truth(_) => self.pose_literal(node, bool_head()),
             TermForm::Fun(x, body) => self.pose_fun(alloc, node, *x, *body),
-            TermForm::Apply(function, argument) => self.pose_apply(alloc, node, *function, *argument),
+            TermForm::Apply(function, argument) => self.pose_apply(
+                alloc, node, *function, *argument,
+            ),
             TermForm::Make(parts) => self.pose_make(alloc, node, parts.as_slice()),
             TermForm::Project(body, label) => self.pose_project(alloc, node, *body, label),
-            TermForm::If(condition, first, second) => self.pose_choice(node, *condition, *first, *second),
-            TermForm::Let(k, _, second) => self.pose_let(node, known_type(&known.lets, *k), *second),
+            TermForm::If(condition, first, second) => self.pose_choice(
+                node, *condition, *first, *second,
+            ),
+            TermForm::Let(k, _, second) => self.pose_let(
+                node,
+                known_type(&known.lets, *k),
+                *second,
+            ),
             TermForm::Rec(x, body) => self.pose_fix(node, *x, *body),
         }
     }
@@ -449,7 +491,12 @@ fn fields_of(alloc: Global, rows: &BTreeMap<Name, StateId>) -> Result<FieldSets,
     Ok(fields)
 }
 
-fn push_field(alloc: Global, fields: &mut FieldSets, label: &Name, root: StateId) -> Result<(), Memory>
+fn push_field(
+    alloc: Global,
+    fields: &mut FieldSets,
+    label: &Name,
+    root: StateId,
+) -> Result<(), Memory>
     ensures { OnOk result (fields.new ≡ fields.old ++ map row_field ((label.now, root) ∷ [])) }
 {
     fields.push(FieldSet {
@@ -490,8 +537,8 @@ pub fn meet_needs(
     Ok(())
 }
 
-/// The constraint of a part of a term: of these nodes, each behind its parts, over the binders around the part and those
-/// that it binds. The names have these known types.
+/// The constraint of a part of a term: of these nodes, each behind its parts, over the binders around the part and
+/// those that it binds. The names have these known types.
 ///
 /// # Errors
 ///
@@ -509,6 +556,11 @@ pub fn pose_part(
 {
     let mut posing = Posing::begun(alloc, binders)?;
     posing.pose_nodes(alloc, nodes, part, known)?;
-    meet_needs(alloc, &mut posing.automaton, &posing.binders, posing.needs.as_slice())?;
+    meet_needs(
+        alloc,
+        &mut posing.automaton,
+        &posing.binders,
+        posing.needs.as_slice(),
+    )?;
     Ok(posing)
 }

@@ -7,6 +7,7 @@ use mls_automaton::automaton::{Automaton, Head, Polarity};
 use mls_automaton::sample::show_automaton;
 use mls_automaton::state_set::StateId;
 use mls_base::memory::Memory;
+use mls_base::spelling::is_name;
 use mls_biunify::goal::is_state;
 use mls_book::name::Name;
 use mls_term::term::TermForm;
@@ -103,8 +104,8 @@ fn poses_an_application(rt: HostRuntime) -> Result<(), Fail> {
 #[test]
 fn poses_a_projection(rt: HostRuntime) -> Result<(), Fail> {
     let alloc = rt.alloc();
-    let mut label = Name::new(alloc);
-    label.push(b'a')?;
+    assert!(rt; is_name(b"a"));
+    let label = Name::new(alloc, b"a")?;
     let forms = [TermForm::Bound(0), TermForm::Project(0, label)];
     let line = posed(&rt, alloc, &forms)?;
     assert_eq!(rt; line.as_str(), "- + + - -{a:3} 0~1 3~2 1<4");

@@ -1,13 +1,12 @@
-use Rattle.std.proofs.Common.{◌≡◌, ◌<◌, ◌∙◌, ◌++◌, ◌∷◌, [], ℕ, List, length, take, get_or, Contains, sym, subst, ap}
+use Rattle.std.proofs.Common.{◌<◌, ◌∙◌, ◌++◌, ◌∷◌, [], ℕ, List, length, take, Contains, sym, subst, ap}
 use Rattle.std.proofs.lemmas.List.{take_more}
 use Rattle.std.proofs.lemmas.List.Elements.{Contains-get_or}
 use Rattle.mls_automaton.specs.declared.automaton.Polarity.TheVariants.{Negative}
 use Rattle.mls_automaton.specs.declared.automaton.Head.{Head}
-use Rattle.mls_automaton.specs.Automata.{IsState}
 use Rattle.mls_automaton.specs.Heads.{combined_two, parts_of, IsSameParts}
 use Rattle.mls_automaton.specs.Models.{HasRisingLabels}
 use Rattle.mls_emit.specs.declared.pose.Need.{Need}
-use Rattle.mls_emit.specs.MetNeeds.{HasMet, needy}
+use Rattle.mls_emit.specs.MetNeeds.{HasMet}
 use Rattle.mls_emit.proofs.MetNeeds.{none_met, next_met}
 use Rattle.mls_emit.proofs.pose.meet_needs.Goals as goal
 

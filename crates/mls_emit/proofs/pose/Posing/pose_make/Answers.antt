@@ -1,5 +1,4 @@
-use Rattle.std.proofs.Common.{◌≡◌, ◌∙◌, List, ap, map, sym, subst}
-use Rattle.std.specs.Prelude.{OnOk}
+use Rattle.std.proofs.Common.{◌≡◌, ◌∙◌, List, ap, map, subst}
 use Rattle.mls_automaton.specs.declared.automaton.FieldSet.{FieldSet}
 use Rattle.mls_automaton.specs.declared.automaton.Head.{Head}
 use Rattle.mls_biunify.proofs.Answered.{on_ok}

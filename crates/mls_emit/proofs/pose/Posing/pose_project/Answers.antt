@@ -1,9 +1,9 @@
-use Rattle.std.proofs.Common.{◌≡◌, ℕ, suc, List, [], ◌∷◌, ◌++◌, ◌∙◌, ap, subst, Some}
+use Rattle.std.proofs.Common.{◌≡◌, suc, [], ◌∷◌, ◌++◌, ◌∙◌, ap, subst, Some}
 use Rattle.std.specs.BTreeMap.{Updates}
 use Rattle.std.specs.Ordering.{nat_cmp}
 use Rattle.mls_biunify.specs.declared.goal.Goal.{Goal}
 use Rattle.mls_emit.specs.declared.pose.Posing.{Posing}
-use Rattle.mls_emit.specs.Posings.{bool_head, function_head, goal, one_field, record_head, root_in, size}
+use Rattle.mls_emit.specs.Posings.{goal, one_field, record_head, root_in, size}
 use Rattle.mls_emit.specs.steps.Results.{HasResult}
 use Rattle.mls_emit.proofs.Posings.{result_added, result_root, result_size}
 use Rattle.mls_emit.proofs.pose.Posing.pose_project.Goals as goal_of

@@ -1,8 +1,7 @@
-use Rattle.std.proofs.Common.{◌≡◌, ◌↔◌, ◌<◌, ℕ, List, length, Contains, get_or, subst, ap, sym, ◌∙◌}
+use Rattle.std.proofs.Common.{◌↔◌, ◌<◌, ℕ, List, length, Contains, get_or, subst, ap, sym, ◌∙◌}
 use Rattle.std.proofs.lemmas.List.Elements.{Contains-get_or}
 use Rattle.mls_automaton.specs.declared.automaton.Polarity.TheVariants.{Negative}
 use Rattle.mls_automaton.specs.Automata.{head_at, IsPartner, IsState}
-use Rattle.mls_emit.specs.declared.pose.Posing.{Posing}
 use Rattle.mls_emit.proofs.Copies.{binder_bound, ends_above}
 use Rattle.mls_emit.proofs.Posings.{state_there}
 use Rattle.mls_emit.proofs.pose.Posing.push_binder.Goals as goal

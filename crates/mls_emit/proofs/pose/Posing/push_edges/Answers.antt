@@ -1,7 +1,7 @@
-use Rattle.std.proofs.Common.{◌≡◌, ◌+◌, ◌<◌, ◌++◌, ◌∷◌, [], ℕ, List, take, Contains, get_or, sym, subst, ap, arith}
+use Rattle.std.proofs.Common.{◌≡◌, ◌+◌, ◌<◌, ℕ, List, take, Contains, get_or, sym, subst, arith}
 use Rattle.std.proofs.lemmas.List.{take_all, take_more}
 use Rattle.mls_automaton.specs.declared.automaton.Polarity.TheVariants.{Positive}
-use Rattle.mls_automaton.specs.Automata.{Automaton, IsState}
+use Rattle.mls_automaton.specs.Automata.{IsState}
 use Rattle.mls_emit.specs.declared.pose.Posing.{Posing}
 use Rattle.mls_emit.specs.steps.Results.{AddsEdges}
 use Rattle.mls_emit.proofs.Posings.{no_edges, edge_more, one_end_more, state_there}
