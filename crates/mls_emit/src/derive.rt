@@ -5,12 +5,74 @@ ghost use Rattle.mls_infer.specs.Inference.{AreNames};
 ghost use Rattle.mls_iface.specs.Signatures.{IsEntry};
 ghost use Rattle.mls_emit.specs.Derived.{AreDerivations};
 
+mod copies;
+mod known;
+mod puts;
+mod scopes;
+mod section;
+mod split;
+mod steps;
+mod writer;
+
+use mls_base::list::List;
 use mls_base::memory::Memory;
-use mls_deriv::derivation::Derivation;
-use mls_iface::signature::Signature;
-use mls_term::term::Resolved;
-use mls_typetext::scheme::Names;
+use mls_deriv::derivation::{Derivation, Section, Sections};
+use mls_deriv::verify::{Verified, verify};
+use mls_iface::signature::{SigEntry, Signature};
+use mls_term::term::{Resolved, ResolvedBinding};
+use mls_typetext::scheme::{Names, ReadScheme};
+use section::written;
 use std::alloc::Global;
+
+// A copy of bytes.
+fn copy_bytes(alloc: Global, bytes: &[u8]) -> Result<List<u8>, Memory> {
+    let mut copy = List::new(alloc);
+    for byte in bytes {
+        copy.push(*byte)?;
+    }
+    Ok(copy)
+}
+
+// The section of a binding with this entry, where names mean these types.
+fn section_of(
+    alloc: Global,
+    environment: &[&ReadScheme],
+    binding: &ResolvedBinding,
+    entry: &SigEntry,
+) -> Result<Section, Memory> {
+    let written = written(
+        alloc,
+        environment,
+        binding.term.nodes.as_slice(),
+        &entry.scheme,
+    )?;
+    Ok(Section {
+        name: entry.name.clone()?,
+        text: copy_bytes(alloc, entry.text.as_slice())?,
+        nodes: written.book,
+        lines: written.lines,
+    })
+}
+
+// The sections of all entries.
+fn sections_of(
+    alloc: Global,
+    bindings: &[ResolvedBinding],
+    declared: &[ReadScheme],
+    entries: &[SigEntry],
+) -> Result<Sections, Memory> {
+    let mut environment = Vec::new(alloc);
+    for read in declared {
+        environment.push(read)?;
+    }
+    let mut sections = Sections::new(alloc);
+    for entry in entries {
+        let binding = bindings.get(sections.len()).ok_or(Memory)?;
+        sections.push(section_of(alloc, environment.as_slice(), binding, entry)?)?;
+        environment.push(&entry.scheme)?;
+    }
+    Ok(sections)
+}
 
 /// A derivation of the signature of a module over the schemes of its environment: the operators, and what its imports
 /// declare. There is one section for each entry, and each step is allowed.
@@ -30,5 +92,15 @@ pub fn derivation_of(
     ensures { IfOk result (λ d. AreDerivations declared.now.schemes «module».now.bindings signature.now.entries
         d.sections) }
 {
-    Err(Memory)
+    let sections = sections_of(
+        alloc,
+        module.bindings.as_slice(),
+        declared.schemes.as_slice(),
+        signature.entries.as_slice(),
+    )?;
+    let derivation = Derivation { sections };
+    match verify(alloc, &derivation, module, declared)? {
+        Verified::Yes => Ok(derivation),
+        Verified::No(_) => Err(Memory),
+    }
 }

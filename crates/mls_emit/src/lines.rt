@@ -11,7 +11,7 @@ use mls_deriv::table::{Table, table_of};
 use std::alloc::Global;
 
 // Adds put lines.
-fn push_puts(lines: &mut SectionLines, puts: &[Put]) -> Result<(), Memory>
+pub(crate) fn push_puts(lines: &mut SectionLines, puts: &[Put]) -> Result<(), Memory>
     ensures { OnOk result (lines.new ≡ lines.old ++ put_lines puts.now) }
 {
     for put in puts {
@@ -21,7 +21,7 @@ fn push_puts(lines: &mut SectionLines, puts: &[Put]) -> Result<(), Memory>
 }
 
 // Adds pair lines.
-fn push_pairs(lines: &mut SectionLines, pairs: &[Pair]) -> Result<(), Memory>
+pub(crate) fn push_pairs(lines: &mut SectionLines, pairs: &[Pair]) -> Result<(), Memory>
     ensures { OnOk result (lines.new ≡ lines.old ++ pair_lines pairs.now) }
 {
     for pair in pairs {

@@ -1,0 +1,326 @@
+//! The section of a binding, part by part.
+
+use crate::derive::copies::push_book;
+use crate::derive::known::{FirstPart, FirstParts, Globals, put_global};
+use crate::derive::scopes::{PartBinders, binders_of, scopes_of};
+use crate::derive::split::{Numbers, TermPart, parts_of};
+use crate::derive::steps::Steps;
+use crate::derive::writer::{PartView, Writer};
+use crate::first_type::first_type_of;
+use crate::layout::{LaidOut, Places, lay_out};
+use crate::posable::posed;
+use crate::pose::{KnownTypes, Posing};
+use crate::solve::{Solution, solution_of};
+use crate::tree::NodeIds;
+use crate::type_layout::lay_out_type;
+use crate::walk::walk_of;
+use mls_automaton::scheme::{Env, EnvEntry, Scheme};
+use mls_automaton::state_set::StateId;
+use mls_base::memory::Memory;
+use mls_book::book::{Book, Node, NodeId};
+use mls_deriv::derivation::{BinderNode, BinderNodes, SectionLines};
+use mls_scheme::read::scheme_of_read;
+use mls_term::term::{TermForm, TermNode};
+use mls_typetext::scheme::ReadScheme;
+use std::alloc::Global;
+use std::collections::BTreeMap;
+
+/// The nodes and the lines of a section.
+#[derive(Drop)]
+pub(crate) struct Written {
+    pub(crate) book: Book,
+    pub(crate) lines: SectionLines,
+}
+
+// A section so far: its nodes and steps, what is known of names, and the number of the next variable.
+#[derive(Drop)]
+struct Draft {
+    book: Book,
+    steps: Steps,
+    known: KnownTypes,
+    globals: Globals,
+    firsts: FirstParts,
+    variable: usize,
+}
+
+// The type of a part in the book.
+#[derive(Drop)]
+struct TypeAt {
+    scheme: Scheme,
+    places: Places,
+}
+
+// The nodes of a book, each as its own state.
+fn own_places(alloc: Global, length: usize, past: NodeId) -> Result<Places, Memory> {
+    let mut nodes = NodeIds::new(alloc);
+    for i in 0..length {
+        nodes.push(NodeId(i))?;
+    }
+    Ok(Places { nodes, past })
+}
+
+// Binders with their states, as the environment of a scheme.
+fn env_of(alloc: Global, posing: &Posing, binders: &[usize]) -> Result<Env, Memory> {
+    let mut env = Env::new(alloc);
+    for binder in binders {
+        if !env.as_slice().iter().all(|other| other.binder < *binder) {
+            return Err(Memory);
+        }
+        env.push(EnvEntry {
+            binder: *binder,
+            state: StateId(posing.binder(*binder)),
+        })?;
+    }
+    Ok(env)
+}
+
+// Binders with their states.
+fn states_of(
+    alloc: Global,
+    posing: &Posing,
+    binders: &[usize],
+) -> Result<Vec<(usize, usize)>, Memory> {
+    let mut states = Vec::new(alloc);
+    for binder in binders {
+        states.push((*binder, posing.binder(*binder)))?;
+    }
+    Ok(states)
+}
+
+// The nodes of the binders of a type.
+fn type_env(alloc: Global, at: &TypeAt) -> Result<BinderNodes, Memory> {
+    let mut env = BinderNodes::new(alloc);
+    for entry in at.scheme.env.as_slice() {
+        env.push(BinderNode {
+            binder: entry.binder,
+            node: at.places.node(entry.state.0),
+        })?;
+    }
+    Ok(env)
+}
+
+impl Draft {
+    // A section that begins with the nodes of a type.
+    fn new(alloc: Global, read: &ReadScheme) -> Result<Draft, Memory> {
+        let mut book = Book::new(alloc);
+        push_book(alloc, &mut book, &read.book)?;
+        Ok(Draft {
+            book,
+            steps: Steps::new(alloc),
+            known: KnownTypes {
+                globals: BTreeMap::new(alloc),
+                lets: BTreeMap::new(alloc),
+            },
+            globals: Globals::new(alloc),
+            firsts: FirstParts::new(alloc),
+            variable: read.vars,
+        })
+    }
+
+    // Reads the type of a name, and puts it into the book, where that was not done.
+    fn add_global(
+        &mut self,
+        alloc: Global,
+        environment: &[&ReadScheme],
+        g: usize,
+    ) -> Result<(), Memory> {
+        if self.globals.contains_key(&g) {
+            return Ok(());
+        }
+        let read = *environment.get(g).ok_or(Memory)?;
+        let scheme = scheme_of_read(alloc, read)?;
+        let global = put_global(alloc, &mut self.book, read, &scheme)?;
+        self.globals.insert(g, global)?;
+        self.known.globals.insert(g, scheme)?;
+        Ok(())
+    }
+
+    // Puts the types of the names of the environment into the book.
+    fn add_globals(
+        &mut self,
+        alloc: Global,
+        environment: &[&ReadScheme],
+        nodes: &[TermNode],
+    ) -> Result<(), Memory> {
+        for node in nodes {
+            if let TermForm::Global(g) = &node.form {
+                self.add_global(alloc, environment, *g)?;
+            }
+        }
+        Ok(())
+    }
+
+    // The type of a let's first part: what its solved constraint gives its root and the binders around.
+    fn first_type(
+        &mut self,
+        alloc: Global,
+        posing: &Posing,
+        solution: &Solution,
+        root: usize,
+        around: &[usize],
+    ) -> Result<TypeAt, Memory> {
+        let states = states_of(alloc, posing, around)?;
+        let scheme = first_type_of(alloc, &solution.automaton, root, states.as_slice())?;
+        let book = replace_book(&mut self.book, alloc);
+        let laid = lay_out_type(book, &scheme, self.variable)?;
+        self.book = laid.book;
+        self.variable = laid.variables;
+        Ok(TypeAt {
+            scheme,
+            places: laid.places,
+        })
+    }
+
+    // The type of the whole term: its nodes are the first of the book.
+    fn whole_type(&mut self, alloc: Global, read: &ReadScheme) -> Result<TypeAt, Memory> {
+        let past = self.book.push(Node::Bot)?;
+        let places = own_places(alloc, read.book.len(), past)?;
+        let scheme = scheme_of_read(alloc, read)?;
+        Ok(TypeAt { scheme, places })
+    }
+
+    // Lays out a part behind its type.
+    fn laid_out(
+        &mut self,
+        alloc: Global,
+        posing: &Posing,
+        solution: Solution,
+        root: usize,
+        around: &[usize],
+        at: &TypeAt,
+    ) -> Result<LaidOut, Memory> {
+        let general = Scheme {
+            automaton: solution.automaton,
+            env: env_of(alloc, posing, around)?,
+            root: StateId(root),
+        };
+        let pairs = walk_of(alloc, &general, &at.scheme)?;
+        if !at.places.are_below(self.book.len()) {
+            return Err(Memory);
+        }
+        let book = replace_book(&mut self.book, alloc);
+        lay_out(
+            alloc,
+            book,
+            &posing.automaton,
+            &solution.found,
+            pairs.as_slice(),
+            &at.places,
+        )
+    }
+
+    // Writes the lines of a part, and answers its last step, which has the type of the part.
+    fn write(
+        &mut self,
+        alloc: Global,
+        nodes: &[TermNode],
+        part: &[usize],
+        around: &[usize],
+        posing: &Posing,
+        laid: LaidOut,
+        at: &TypeAt,
+    ) -> Result<usize, Memory> {
+        let scopes = scopes_of(alloc, nodes, part, around)?;
+        let root = *part.last().ok_or(Memory)?;
+        let mut writer = Writer {
+            laid,
+            steps: replace_steps(&mut self.steps, alloc),
+            concluded: BTreeMap::new(alloc),
+        };
+        let view = PartView {
+            posing,
+            scopes: &scopes,
+            known: &self.known,
+            globals: &self.globals,
+            firsts: &self.firsts,
+        };
+        writer.write_part(alloc, &view, nodes, part)?;
+        let env = type_env(alloc, at)?;
+        let type_root = at.places.node(at.scheme.root.0);
+        let step = writer.adapted(alloc, root, env.as_slice(), type_root)?;
+        self.book = writer.laid.book;
+        self.steps = writer.steps;
+        Ok(step)
+    }
+
+    // Makes the type of a let's first part known, with its last step.
+    fn add_first(
+        &mut self,
+        alloc: Global,
+        k: usize,
+        step: usize,
+        variable: usize,
+        at: TypeAt,
+    ) -> Result<(), Memory> {
+        self.steps.name(k, step)?;
+        let first = FirstPart {
+            step,
+            root: at.places.node(at.scheme.root.0),
+            env: type_env(alloc, &at)?,
+            variable,
+        };
+        self.firsts.insert(k, first)?;
+        self.known.lets.insert(k, at.scheme)?;
+        Ok(())
+    }
+
+    // Writes a part.
+    fn add_part(
+        &mut self,
+        alloc: Global,
+        nodes: &[TermNode],
+        part: &TermPart,
+        read: &ReadScheme,
+    ) -> Result<(), Memory> {
+        let list = part.nodes.as_slice();
+        let binders = binders_of(alloc, nodes, list, &self.known.lets)?;
+        let around = binders.around.as_slice();
+        let posing = posed(alloc, nodes, list, binders.all.as_slice(), &self.known)?;
+        let solution = solution_of(alloc, &posing.automaton, posing.goals.as_slice())?;
+        let root = posing.root(*list.last().ok_or(Memory)?);
+        let variable = self.variable;
+        let at = match part.of_let {
+            Some(_) => self.first_type(alloc, &posing, &solution, root, around)?,
+            None => self.whole_type(alloc, read)?,
+        };
+        let laid = self.laid_out(alloc, &posing, solution, root, around, &at)?;
+        let step = self.write(alloc, nodes, list, around, &posing, laid, &at)?;
+        match part.of_let {
+            Some(k) => self.add_first(alloc, k, step, variable, at),
+            None => Ok(()),
+        }
+    }
+}
+
+// Takes the book out.
+fn replace_book(book: &mut Book, alloc: Global) -> Book {
+    std::mem::replace(book, Book::new(alloc))
+}
+
+// Takes the steps out.
+fn replace_steps(steps: &mut Steps, alloc: Global) -> Steps {
+    std::mem::replace(steps, Steps::new(alloc))
+}
+
+/// The section of a term that has this type: its nodes begin with those of the type.
+///
+/// # Errors
+///
+/// `Memory` where memory is wanting.
+pub(crate) fn written(
+    alloc: Global,
+    environment: &[&ReadScheme],
+    nodes: &[TermNode],
+    read: &ReadScheme,
+) -> Result<Written, Memory> {
+    let parts = parts_of(alloc, nodes)?;
+    let mut draft = Draft::new(alloc, read)?;
+    draft.add_globals(alloc, environment, nodes)?;
+    for (_, part) in parts.iter() {
+        draft.add_part(alloc, nodes, part, read)?;
+    }
+    Ok(Written {
+        book: draft.book,
+        lines: draft.steps.lines,
+    })
+}

@@ -1,0 +1,158 @@
+//! The steps of a section, as they are written.
+
+use crate::lines::{push_pairs, push_puts};
+use crate::pairs::{Pairs, pair_list};
+use mls_base::list::List;
+use mls_base::memory::Memory;
+use mls_book::book::{Book, NodeId};
+use mls_deriv::claim::{Pair, Put};
+use mls_deriv::derivation::{BinderNode, BinderNodes, Mode, SectionLine, SectionLines};
+use mls_deriv::derivation::{StepLine, StepRule};
+use std::alloc::Global;
+
+/// What a step concludes: its number, its type, and what it needs of binders.
+#[derive(Drop)]
+pub(crate) struct Conclusion {
+    pub(crate) step: usize,
+    pub(crate) root: NodeId,
+    pub(crate) env: BinderNodes,
+}
+
+/// The lines of a section so far, and how many steps they have.
+#[derive(Drop)]
+pub(crate) struct Steps {
+    pub(crate) lines: SectionLines,
+    pub(crate) count: usize,
+}
+
+fn copied(alloc: Global, env: &[BinderNode]) -> Result<BinderNodes, Memory> {
+    let mut copy = BinderNodes::new(alloc);
+    for entry in env {
+        copy.push(*entry)?;
+    }
+    Ok(copy)
+}
+
+// The node of a binder, where binders rise.
+fn node_of(env: &[BinderNode], binder: usize) -> Option<NodeId> {
+    match env.binary_search_by(|entry| entry.binder.cmp(&binder)) {
+        Ok(at) => Some(env[at].node),
+        Err(_) => None,
+    }
+}
+
+// The pairs that a step by pairs asks for: that of the two types, and that of each binder.
+fn asked(
+    alloc: Global,
+    from: &Conclusion,
+    env: &[BinderNode],
+    root: NodeId,
+) -> Result<Pairs, Memory> {
+    let mut pairs = Pairs::new(alloc);
+    pairs.push(Pair {
+        mode: Mode::Lr,
+        left: from.root.0,
+        right: root.0,
+    })?;
+    for entry in from.env.as_slice() {
+        if let Some(node) = node_of(env, entry.binder) {
+            pairs.push(Pair {
+                mode: Mode::Rl,
+                left: node.0,
+                right: entry.node.0,
+            })?;
+        }
+    }
+    Ok(pairs)
+}
+
+impl Steps {
+    /// No line.
+    pub(crate) fn new(alloc: Global) -> Steps {
+        Steps {
+            lines: List::new(alloc),
+            count: 0,
+        }
+    }
+
+    /// Writes a step.
+    ///
+    /// # Errors
+    ///
+    /// `Memory` where memory is wanting.
+    pub(crate) fn step(
+        &mut self,
+        alloc: Global,
+        node: usize,
+        rule: StepRule,
+        env: &[BinderNode],
+        root: NodeId,
+    ) -> Result<Conclusion, Memory> {
+        let step = self.count;
+        self.count = step.checked_add(1).ok_or(Memory)?;
+        self.lines.push(SectionLine::Step(StepLine {
+            node,
+            rule,
+            env: copied(alloc, env)?,
+            root,
+        }))?;
+        Ok(Conclusion {
+            step,
+            root,
+            env: copied(alloc, env)?,
+        })
+    }
+
+    /// Writes a step by pairs, where variables stand for nodes.
+    ///
+    /// # Errors
+    ///
+    /// `Memory` where memory is wanting.
+    pub(crate) fn sub(
+        &mut self,
+        alloc: Global,
+        book: &Book,
+        node: usize,
+        from: &Conclusion,
+        puts: &[Put],
+        env: &[BinderNode],
+        root: NodeId,
+    ) -> Result<Conclusion, Memory> {
+        let wanted = asked(alloc, from, env, root)?;
+        let pairs = pair_list(alloc, book, puts, wanted.as_slice())?;
+        let to = self.step(alloc, node, StepRule::Sub(from.step), env, root)?;
+        push_puts(&mut self.lines, puts)?;
+        push_pairs(&mut self.lines, pairs.as_slice())?;
+        Ok(to)
+    }
+
+    /// Goes over to another type and environment, where they differ.
+    ///
+    /// # Errors
+    ///
+    /// `Memory` where memory is wanting.
+    pub(crate) fn adapt(
+        &mut self,
+        alloc: Global,
+        book: &Book,
+        node: usize,
+        from: Conclusion,
+        env: &[BinderNode],
+        root: NodeId,
+    ) -> Result<Conclusion, Memory> {
+        if from.root == root && from.env.as_slice() == env {
+            return Ok(from);
+        }
+        self.sub(alloc, book, node, &from, &[], env, root)
+    }
+
+    /// Writes that the name of a let has the type of a step.
+    ///
+    /// # Errors
+    ///
+    /// `Memory` where memory is wanting.
+    pub(crate) fn name(&mut self, k: usize, step: usize) -> Result<(), Memory> {
+        self.lines.push(SectionLine::Let(k, step))?;
+        Ok(())
+    }
+}

@@ -1,0 +1,489 @@
+//! The lines of a part, written node by node: each has the step of its rule, behind those that bring its parts to the
+//! types that the rule asks for.
+
+use crate::derive::known::{FirstPart, FirstParts, Globals};
+use crate::derive::puts::{Puts, global_puts, let_puts};
+use crate::derive::scopes::Scopes;
+use crate::derive::steps::{Conclusion, Steps};
+use crate::layout::LaidOut;
+use crate::pose::{KnownTypes, Posing};
+use mls_base::list::List;
+use mls_base::memory::Memory;
+use mls_book::book::{Field, Node, NodeId};
+use mls_book::name::Name;
+use mls_deriv::derivation::{BinderNode, BinderNodes, StepRule};
+use mls_term::term::{Part, TermForm, TermNode};
+use std::alloc::Global;
+use std::collections::BTreeMap;
+
+/// What is known of a part: its constraint, the binders around its nodes, and the types of names.
+#[derive(Clone, Copy)]
+pub(crate) struct PartView<'a> {
+    pub(crate) posing: &'a Posing,
+    pub(crate) scopes: &'a Scopes,
+    pub(crate) known: &'a KnownTypes,
+    pub(crate) globals: &'a Globals,
+    pub(crate) firsts: &'a FirstParts,
+}
+
+/// The nodes of a part, the steps so far, and what the nodes conclude.
+#[derive(Drop)]
+pub(crate) struct Writer {
+    pub(crate) laid: LaidOut,
+    pub(crate) steps: Steps,
+    pub(crate) concluded: BTreeMap<usize, Conclusion>,
+}
+
+// The number behind this one, by so many.
+fn behind(number: usize, by: usize) -> Result<usize, Memory> {
+    number.checked_add(by).ok_or(Memory)
+}
+
+// The node of a binder, where it has one.
+fn node_at(env: &[BinderNode], binder: usize) -> Option<NodeId> {
+    match env.binary_search_by(|entry| entry.binder.cmp(&binder)) {
+        Ok(at) => Some(env[at].node),
+        Err(_) => None,
+    }
+}
+
+// The node of the field with this label.
+fn field_at(fields: &[Field], label: &Name) -> Result<NodeId, Memory> {
+    match fields.iter().find(|field| field.label == *label) {
+        Some(field) => Ok(field.node),
+        None => Err(Memory),
+    }
+}
+
+impl Writer {
+    // The node of a state.
+    fn place(&self, state: usize) -> NodeId {
+        self.laid.places.node(state)
+    }
+
+    // The domain and the codomain of the function of a state, with its node.
+    fn function(&self, state: usize) -> Result<(NodeId, NodeId, NodeId), Memory> {
+        let id = self.laid.function(state).ok_or(Memory)?;
+        if id.0 >= self.laid.book.len() {
+            return Err(Memory);
+        }
+        match self.laid.book.node(id) {
+            Node::Arrow(from, to) => Ok((id, *from, *to)),
+            _ => Err(Memory),
+        }
+    }
+
+    // The node of the record of a state.
+    fn record(&self, state: usize) -> Result<NodeId, Memory> {
+        let id = self.laid.record(state).ok_or(Memory)?;
+        if id.0 >= self.laid.book.len() {
+            return Err(Memory);
+        }
+        Ok(id)
+    }
+
+    // The node of a field of a record.
+    fn field(&self, record: NodeId, label: &Name) -> Result<NodeId, Memory> {
+        if record.0 >= self.laid.book.len() {
+            return Err(Memory);
+        }
+        match self.laid.book.node(record) {
+            Node::Rcd(fields) => field_at(fields.as_slice(), label),
+            _ => Err(Memory),
+        }
+    }
+
+    // The nodes of binders.
+    fn env(&self, alloc: Global, view: &PartView, binders: &[usize]) -> Result<BinderNodes, Memory> {
+        let mut env = BinderNodes::new(alloc);
+        for binder in binders {
+            env.push(BinderNode {
+                binder: *binder,
+                node: self.place(view.posing.binder(*binder)),
+            })?;
+        }
+        Ok(env)
+    }
+
+    // The nodes of the binders around a node.
+    fn around(&self, alloc: Global, view: &PartView, node: usize) -> Result<BinderNodes, Memory> {
+        self.env(alloc, view, view.scopes.around(node))
+    }
+
+    // The nodes of the binders around a node, of which this one has another node.
+    fn around_with(
+        &self,
+        alloc: Global,
+        view: &PartView,
+        node: usize,
+        binder: usize,
+        other: NodeId,
+    ) -> Result<BinderNodes, Memory> {
+        let mut env = BinderNodes::new(alloc);
+        for x in view.scopes.around(node) {
+            let place = self.place(view.posing.binder(*x));
+            env.push(BinderNode {
+                binder: *x,
+                node: if *x == binder { other } else { place },
+            })?;
+        }
+        Ok(env)
+    }
+
+    // What a node concludes; it is asked for once.
+    fn take(&mut self, node: usize) -> Result<Conclusion, Memory> {
+        self.concluded.remove(&node).ok_or(Memory)
+    }
+
+    /// The step of a node that has this type and environment.
+    ///
+    /// # Errors
+    ///
+    /// `Memory` where memory is wanting.
+    pub(crate) fn adapted(
+        &mut self,
+        alloc: Global,
+        node: usize,
+        env: &[BinderNode],
+        root: NodeId,
+    ) -> Result<usize, Memory> {
+        let from = self.take(node)?;
+        let to = self.steps.adapt(alloc, &self.laid.book, node, from, env, root)?;
+        Ok(to.step)
+    }
+
+    // A use of a binder: the type is its own node.
+    fn bound(
+        &mut self,
+        alloc: Global,
+        view: &PartView,
+        node: usize,
+        x: usize,
+    ) -> Result<Conclusion, Memory> {
+        let place = self.place(view.posing.binder(x));
+        let mut env = BinderNodes::new(alloc);
+        env.push(BinderNode {
+            binder: x,
+            node: place,
+        })?;
+        self.steps.step(alloc, node, StepRule::Var, env.as_slice(), place)
+    }
+
+    // A name of the environment, at the copy of its type.
+    fn global(
+        &mut self,
+        alloc: Global,
+        view: &PartView,
+        node: usize,
+        g: usize,
+    ) -> Result<Conclusion, Memory> {
+        let global = view.globals.get(&g).ok_or(Memory)?;
+        let first = *view.posing.copies.get(&node).ok_or(Memory)?;
+        let puts = global_puts(
+            alloc,
+            &mut self.laid.book,
+            &self.laid.places,
+            global,
+            first,
+        )?;
+        let rule = StepRule::Name(NodeId(global.first));
+        let own = self.steps.step(alloc, node, rule, &[], global.root)?;
+        let root = self.place(view.posing.root(node));
+        self.steps.sub(alloc, &self.laid.book, node, &own, puts.as_slice(), &[], root)
+    }
+
+    // What the variables of a let's first part stand for at a node with a copy of its type.
+    fn puts_of_let(
+        &self,
+        alloc: Global,
+        view: &PartView,
+        node: usize,
+        k: usize,
+        part: &FirstPart,
+    ) -> Result<Puts, Memory> {
+        let scheme = view.known.lets.get(&k).ok_or(Memory)?;
+        let first = *view.posing.copies.get(&node).ok_or(Memory)?;
+        let_puts(
+            alloc,
+            &self.laid.places,
+            view.posing,
+            scheme,
+            part.variable,
+            first,
+        )
+    }
+
+    // The binders of a let's first part, with their own nodes.
+    fn binders_of_let(
+        &self,
+        alloc: Global,
+        view: &PartView,
+        part: &FirstPart,
+    ) -> Result<BinderNodes, Memory> {
+        let mut env = BinderNodes::new(alloc);
+        for entry in part.env.as_slice() {
+            env.push(BinderNode {
+                binder: entry.binder,
+                node: self.place(view.posing.binder(entry.binder)),
+            })?;
+        }
+        Ok(env)
+    }
+
+    // A let-bound name, at the copy of its type.
+    fn inner(
+        &mut self,
+        alloc: Global,
+        view: &PartView,
+        node: usize,
+        k: usize,
+    ) -> Result<Conclusion, Memory> {
+        let part = view.firsts.get(&k).ok_or(Memory)?;
+        let puts = self.puts_of_let(alloc, view, node, k, part)?;
+        let rule = StepRule::Use(part.step);
+        let own = self.steps.step(alloc, node, rule, part.env.as_slice(), part.root)?;
+        let env = self.binders_of_let(alloc, view, part)?;
+        let root = self.place(view.posing.root(node));
+        self.steps.sub(
+            alloc,
+            &self.laid.book,
+            node,
+            &own,
+            puts.as_slice(),
+            env.as_slice(),
+            root,
+        )
+    }
+
+    fn fun(
+        &mut self,
+        alloc: Global,
+        view: &PartView,
+        node: usize,
+        x: usize,
+        body: usize,
+    ) -> Result<Conclusion, Memory> {
+        let (arrow, from, to) = self.function(view.posing.root(node))?;
+        let inner = self.around_with(alloc, view, body, x, from)?;
+        let step = self.adapted(alloc, body, inner.as_slice(), to)?;
+        let env = self.around(alloc, view, node)?;
+        self.steps.step(alloc, node, StepRule::Fun(step), env.as_slice(), arrow)
+    }
+
+    fn apply(
+        &mut self,
+        alloc: Global,
+        view: &PartView,
+        node: usize,
+        function: usize,
+        argument: usize,
+    ) -> Result<Conclusion, Memory> {
+        let upper = behind(view.posing.root(node), 2)?;
+        let (arrow, from, to) = self.function(upper)?;
+        let env = self.around(alloc, view, node)?;
+        let first = self.adapted(alloc, function, env.as_slice(), arrow)?;
+        let second = self.adapted(alloc, argument, env.as_slice(), from)?;
+        self.steps.step(
+            alloc,
+            node,
+            StepRule::App(first, second),
+            env.as_slice(),
+            to,
+        )
+    }
+
+    // The steps of the parts of a record at the types of its fields.
+    fn parts(
+        &mut self,
+        alloc: Global,
+        record: NodeId,
+        env: &[BinderNode],
+        parts: &[Part],
+    ) -> Result<List<usize>, Memory> {
+        let mut steps = List::new(alloc);
+        for part in parts {
+            let field = self.field(record, &part.label)?;
+            steps.push(self.adapted(alloc, part.child, env, field)?)?;
+        }
+        Ok(steps)
+    }
+
+    fn make(
+        &mut self,
+        alloc: Global,
+        view: &PartView,
+        node: usize,
+        parts: &[Part],
+    ) -> Result<Conclusion, Memory> {
+        let record = self.record(view.posing.root(node))?;
+        let binders = match parts.is_empty() {
+            true => &[],
+            false => view.scopes.around(node),
+        };
+        let env = self.env(alloc, view, binders)?;
+        let steps = self.parts(alloc, record, env.as_slice(), parts)?;
+        self.steps.step(alloc, node, StepRule::Make(steps), env.as_slice(), record)
+    }
+
+    fn project(
+        &mut self,
+        alloc: Global,
+        view: &PartView,
+        node: usize,
+        body: usize,
+        label: &Name,
+    ) -> Result<Conclusion, Memory> {
+        let upper = behind(view.posing.root(node), 2)?;
+        let record = self.record(upper)?;
+        let field = self.field(record, label)?;
+        let env = self.around(alloc, view, node)?;
+        let step = self.adapted(alloc, body, env.as_slice(), record)?;
+        self.steps.step(alloc, node, StepRule::Proj(step), env.as_slice(), field)
+    }
+
+    fn choice(
+        &mut self,
+        alloc: Global,
+        view: &PartView,
+        node: usize,
+        condition: usize,
+        first: usize,
+        second: usize,
+    ) -> Result<Conclusion, Memory> {
+        let into = self.place(behind(view.posing.root(node), 1)?);
+        let truth = self.laid.boolean;
+        let env = self.around(alloc, view, node)?;
+        let asked = self.adapted(alloc, condition, env.as_slice(), truth)?;
+        let yes = self.adapted(alloc, first, env.as_slice(), into)?;
+        let no = self.adapted(alloc, second, env.as_slice(), into)?;
+        let rule = StepRule::If(asked, yes, no);
+        self.steps.step(alloc, node, rule, env.as_slice(), into)
+    }
+
+    // The environment of a let: the binders that its first part needs have meets of both nodes.
+    fn meets(
+        &mut self,
+        alloc: Global,
+        part: &FirstPart,
+        env: &[BinderNode],
+    ) -> Result<BinderNodes, Memory> {
+        let mut met = BinderNodes::new(alloc);
+        for entry in env {
+            let node = match node_at(part.env.as_slice(), entry.binder) {
+                Some(other) => self.meet(other, entry.node)?,
+                None => entry.node,
+            };
+            met.push(BinderNode {
+                binder: entry.binder,
+                node,
+            })?;
+        }
+        Ok(met)
+    }
+
+    // Adds the meet of two nodes.
+    fn meet(&mut self, left: NodeId, right: NodeId) -> Result<NodeId, Memory> {
+        let node = Node::Meet(left, right);
+        if !self.laid.book.can_push(&node) {
+            return Err(Memory);
+        }
+        self.laid.book.push(node)
+    }
+
+    // A let: back from the meets to the nodes of the binders.
+    fn let_in(
+        &mut self,
+        alloc: Global,
+        view: &PartView,
+        node: usize,
+        k: usize,
+        second: usize,
+    ) -> Result<Conclusion, Memory> {
+        let part = view.firsts.get(&k).ok_or(Memory)?;
+        let env = self.around(alloc, view, node)?;
+        let root = self.place(view.posing.root(second));
+        let step = self.adapted(alloc, second, env.as_slice(), root)?;
+        let met = self.meets(alloc, part, env.as_slice())?;
+        let rule = StepRule::Let(part.step, step);
+        let own = self.steps.step(alloc, node, rule, met.as_slice(), root)?;
+        if part.env.is_empty() {
+            return Ok(own);
+        }
+        let puts = self.puts_of_let(alloc, view, node, k, part)?;
+        self.steps.sub(
+            alloc,
+            &self.laid.book,
+            node,
+            &own,
+            puts.as_slice(),
+            env.as_slice(),
+            root,
+        )
+    }
+
+    fn recursion(
+        &mut self,
+        alloc: Global,
+        view: &PartView,
+        node: usize,
+        x: usize,
+        body: usize,
+    ) -> Result<Conclusion, Memory> {
+        let root = self.place(view.posing.root(body));
+        let inner = self.around_with(alloc, view, body, x, root)?;
+        let step = self.adapted(alloc, body, inner.as_slice(), root)?;
+        let env = self.around(alloc, view, node)?;
+        self.steps.step(alloc, node, StepRule::Rec(step), env.as_slice(), root)
+    }
+
+    // The step of a node's rule, with what leads to it.
+    fn write_form(
+        &mut self,
+        alloc: Global,
+        view: &PartView,
+        node: usize,
+        form: &TermForm,
+    ) -> Result<Conclusion, Memory> {
+        let integer = self.laid.integer;
+        let boolean = self.laid.boolean;
+        match form {
+            TermForm::Bound(x) => self.bound(alloc, view, node, *x),
+            TermForm::Inner(k) => self.inner(alloc, view, node, *k),
+            TermForm::Global(g) => self.global(alloc, view, node, *g),
+            TermForm::Number(_) => self.steps.step(alloc, node, StepRule::Lit, &[], integer),
+            TermForm::Truth(_) => self.steps.step(alloc, node, StepRule::Lit, &[], boolean),
+            TermForm::Fun(x, body) => self.fun(alloc, view, node, *x, *body),
+            TermForm::Apply(function, argument) => {
+                self.apply(alloc, view, node, *function, *argument)
+            }
+            TermForm::Make(parts) => self.make(alloc, view, node, parts.as_slice()),
+            TermForm::Project(body, label) => self.project(alloc, view, node, *body, label),
+            TermForm::If(condition, first, second) => {
+                self.choice(alloc, view, node, *condition, *first, *second)
+            }
+            TermForm::Let(k, _, second) => self.let_in(alloc, view, node, *k, *second),
+            TermForm::Rec(x, body) => self.recursion(alloc, view, node, *x, *body),
+        }
+    }
+
+    /// Writes the lines of the nodes of a part, in order.
+    ///
+    /// # Errors
+    ///
+    /// `Memory` where memory is wanting.
+    pub(crate) fn write_part(
+        &mut self,
+        alloc: Global,
+        view: &PartView,
+        nodes: &[TermNode],
+        part: &[usize],
+    ) -> Result<(), Memory> {
+        for i in part {
+            if let Some(node) = nodes.get(*i) {
+                let own = self.write_form(alloc, view, *i, &node.form)?;
+                self.concluded.insert(*i, own)?;
+            }
+        }
+        Ok(())
+    }
+}
