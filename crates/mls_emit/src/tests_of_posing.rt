@@ -36,6 +36,7 @@ fn one_binder(alloc: Global) -> Result<Posing, Memory> {
         roots: BTreeMap::new(alloc),
         binders,
         needs: Needs::new(alloc),
+        copies: BTreeMap::new(alloc),
     })
 }
 
