@@ -158,11 +158,7 @@ fn has_known_type(
 }
 
 // Whether a type may be copied over these binders.
-fn is_known_type(
-    alloc: Global,
-    around: &BTreeSet<usize>,
-    known: &Scheme,
-) -> Result<bool, Memory> {
+fn is_known_type(alloc: Global, around: &BTreeSet<usize>, known: &Scheme) -> Result<bool, Memory> {
     if !is_scheme(known) {
         return Ok(false);
     }

@@ -151,7 +151,11 @@ fn behind(
             if !are_alike(general, special, (pair.general.0, pair.special.0)) {
                 return Ok(Numbers::new(alloc));
             }
-            named_by(alloc, general.head(pair.general), special.head(pair.special))
+            named_by(
+                alloc,
+                general.head(pair.general),
+                special.head(pair.special),
+            )
         }
     }
 }

@@ -27,8 +27,10 @@ impl Owned {
     // Adds those of a head, of which its own nodes have the numbers from this one on.
     fn push(&mut self, first: usize, head: &Head) -> Result<(), Memory> {
         let second = behind(first, head.function.is_some())?;
-        self.functions.push(head.function.is_some().then_some(NodeId(first)))?;
-        self.records.push(head.fields.is_some().then_some(NodeId(second)))?;
+        self.functions
+            .push(head.function.is_some().then_some(NodeId(first)))?;
+        self.records
+            .push(head.fields.is_some().then_some(NodeId(second)))?;
         Ok(())
     }
 
