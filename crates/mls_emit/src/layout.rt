@@ -6,14 +6,15 @@ ghost use Rattle.mls_biunify.specs.Rooms.{HoldsStates};
 ghost use Rattle.mls_emit.specs.LaidOut.{LaysOut, node_of, place_of};
 
 mod distinct;
-mod leaves;
-mod owned;
+pub(crate) mod leaves;
+pub mod numbers;
+pub(crate) mod owned;
 mod partners;
-mod parts;
-mod planned;
+pub(crate) mod parts;
+pub(crate) mod planned;
 mod sources;
 mod states;
-mod values;
+pub(crate) mod values;
 
 use crate::tree::NodeIds;
 use leaves::push_leaves;
@@ -22,6 +23,7 @@ use mls_base::memory::Memory;
 use mls_biunify::found::Found;
 use mls_book::book::{Book, NodeId};
 use mls_subsume::verdict::StatePair;
+use numbers::{Owned, owned_of};
 use owned::push_own;
 use planned::PlannedTrees;
 use sources::sources_of;
@@ -62,11 +64,27 @@ impl Places {
     }
 }
 
-/// A book with the nodes of a part, and the nodes of the states of its constraint.
+/// A book with the nodes of a part, the nodes of the states of its constraint, those of their functions and records,
+/// and those of `bool` and `int`.
 #[derive(Drop)]
 pub struct LaidOut {
     pub book: Book,
     pub places: Places,
+    pub own: Owned,
+    pub boolean: NodeId,
+    pub integer: NodeId,
+}
+
+impl LaidOut {
+    /// The node of the function of a state.
+    pub fn function(&self, s: usize) -> Option<NodeId> {
+        self.own.function(s)
+    }
+
+    /// The node of the record of a state.
+    pub fn record(&self, s: usize) -> Option<NodeId> {
+        self.own.record(s)
+    }
 }
 
 /// The nodes of the states of an automaton, behind those of a type: `found` are its related states, and `pairs` those
@@ -93,11 +111,18 @@ pub fn lay_out(
 {
     let mut book = book;
     let leaves = push_leaves(&mut book)?;
+    let own = owned_of(alloc, a, book.len())?;
     let sources = sources_of(alloc, a, leaves, pairs, type_places, book.len())?;
     let mut trees = PlannedTrees::new(alloc, sources.end);
     let values = plan_values(alloc, &mut trees, a, found, &sources)?;
     let places = plan_states(alloc, &mut trees, a, &sources, &values)?;
     push_own(alloc, &mut book, &mut trees, a, &places)?;
     trees.push_onto(&mut book)?;
-    Ok(LaidOut { book, places })
+    Ok(LaidOut {
+        book,
+        places,
+        own,
+        boolean: leaves.boolean,
+        integer: leaves.integer,
+    })
 }

@@ -47,7 +47,7 @@ pub type Goals = List<Goal>;
 pub type Needs = List<Need>;
 
 /// A constraint that is being posed: its automaton and its goals, the root of each node that was posed, the state of
-/// each binder, and what copies of known types ask of binders.
+/// each binder, what copies of known types ask of binders, and for each node with a copy the copy's first state.
 #[derive(Drop)]
 pub struct Posing {
     pub automaton: Automaton,
@@ -55,6 +55,7 @@ pub struct Posing {
     pub roots: BTreeMap<usize, usize>,
     pub binders: BTreeMap<usize, usize>,
     pub needs: Needs,
+    pub copies: BTreeMap<usize, usize>,
 }
 
 // The number at a key, and 0 where there is none.
@@ -165,6 +166,7 @@ impl Posing {
             roots: BTreeMap::new(alloc),
             binders: BTreeMap::new(alloc),
             needs: Needs::new(alloc),
+            copies: BTreeMap::new(alloc),
         };
         for binder in binders {
             posing.push_binder_state(*binder)?;
@@ -379,6 +381,7 @@ impl Posing {
     {
         let first = self.push_copy(known)?;
         let root = raised(known.root.0, first)?;
+        self.copies.insert(node, first)?;
         self.roots.insert(node, root)?;
         Ok(())
     }
@@ -390,8 +393,9 @@ impl Posing {
             (copy_added (size self.old) known.now (root_in self.old second))
             (IsCopiedEdge (size self.old) (binder_in self.old) known.now known.now.env)) }
     {
-        self.push_copy(known)?;
+        let first = self.push_copy(known)?;
         let root = self.root(second);
+        self.copies.insert(node, first)?;
         self.roots.insert(node, root)?;
         Ok(())
     }

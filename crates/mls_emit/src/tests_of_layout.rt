@@ -19,7 +19,7 @@ use std::process::Abort;
 use std::test::Fail;
 
 // The automaton of a text, which is one.
-fn sample(rt: &impl Abort, alloc: Global, text: &str) -> Result<Automaton, Memory>
+pub(crate) fn sample(rt: &impl Abort, alloc: Global, text: &str) -> Result<Automaton, Memory>
     ensures { IfOk result IsClosed }
 {
     match automaton_of(alloc, text)? {
@@ -53,7 +53,7 @@ fn show_node(line: &mut String, node: &Node) -> Result<(), Memory> {
 }
 
 // The nodes of a book.
-fn show_book(line: &mut String, book: &Book) -> Result<(), Memory> {
+pub(crate) fn show_book(line: &mut String, book: &Book) -> Result<(), Memory> {
     for i in 0..book.len() {
         show_node(line, book.node(NodeId(i)))?;
         line.push_str(" ")?;
@@ -62,7 +62,7 @@ fn show_book(line: &mut String, book: &Book) -> Result<(), Memory> {
 }
 
 // The states at which the nodes stand that are given.
-fn places_of(alloc: Global, nodes: &[usize], past: usize) -> Result<Places, Memory> {
+pub(crate) fn places_of(alloc: Global, nodes: &[usize], past: usize) -> Result<Places, Memory> {
     let mut ids = NodeIds::new(alloc);
     for node in nodes {
         ids.push(NodeId(*node))?;
@@ -106,14 +106,14 @@ fn push(book: &mut Book, node: Node) -> Result<(), Memory> {
     Ok(())
 }
 
-fn pair(general: usize, special: usize) -> StatePair {
+pub(crate) fn pair(general: usize, special: usize) -> StatePair {
     StatePair {
         general: StateId(general),
         special: StateId(special),
     }
 }
 
-fn goal(positive: usize, negative: usize) -> Goal {
+pub(crate) fn goal(positive: usize, negative: usize) -> Goal {
     Goal {
         positive: StateId(positive),
         negative: StateId(negative),

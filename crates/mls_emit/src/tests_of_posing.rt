@@ -17,7 +17,7 @@ use std::process::Abort;
 use std::test::Fail;
 
 // No name is known.
-fn no_types(alloc: Global) -> KnownTypes {
+pub(crate) fn no_types(alloc: Global) -> KnownTypes {
     KnownTypes {
         globals: BTreeMap::new(alloc),
         lets: BTreeMap::new(alloc),
@@ -36,6 +36,7 @@ fn one_binder(alloc: Global) -> Result<Posing, Memory> {
         roots: BTreeMap::new(alloc),
         binders,
         needs: Needs::new(alloc),
+        copies: BTreeMap::new(alloc),
     })
 }
 

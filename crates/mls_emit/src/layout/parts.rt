@@ -29,8 +29,8 @@ fn push_if(ids: &mut NodeIds, is_there: bool, id: NodeId) -> Result<(), Memory>
     Ok(())
 }
 
-// The number behind that of a node, where it is there.
-fn behind(number: usize, is_there: bool) -> Result<usize, Memory>
+/// The number behind that of a node, where it is there.
+pub(crate) fn behind(number: usize, is_there: bool) -> Result<usize, Memory>
     ensures { IfOk result (λ next. next ≡ number + count_if is_there) }
 {
     match is_there {
@@ -52,8 +52,8 @@ fn head_parts(alloc: Global, leaves: Leaves, first: usize, head: &Head) -> Resul
     Ok(ids)
 }
 
-// The number behind those of a head's own nodes.
-fn behind_own(first: usize, head: &Head) -> Result<usize, Memory>
+/// The number behind those of a head's own nodes.
+pub(crate) fn behind_own(first: usize, head: &Head) -> Result<usize, Memory>
     ensures { IfOk result (λ end. end ≡ first + own_count head.now) }
 {
     let second = behind(first, head.function.is_some())?;

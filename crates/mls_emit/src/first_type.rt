@@ -1,0 +1,91 @@
+//! The type of the first part of a let.
+ghost use Rattle.std.specs.Prelude.{IfOk};
+
+use crate::posable::is_scheme;
+use mls_automaton::automaton::{Automaton, Polarity};
+use mls_automaton::scheme::{Env, EnvEntry, Scheme};
+use mls_automaton::state_set::{StateId, StateSet};
+use mls_base::memory::Memory;
+use mls_shape::simplify::simplify;
+use std::alloc::Global;
+
+// Whether a binder is higher than all of these, which rise.
+fn is_next(env: &[EnvEntry], binder: usize) -> bool {
+    env.is_empty() || env[env.len() - 1].binder < binder
+}
+
+// Adds a binder, which is to be higher than those that are there.
+fn push_binder(env: &mut Env, binder: usize, state: StateId) -> Result<(), Memory> {
+    if !is_next(env.as_slice(), binder) {
+        return Err(Memory);
+    }
+    env.push(EnvEntry { binder, state })?;
+    Ok(())
+}
+
+// The environment of binders with their states. Their numbers are to rise.
+fn env_of(alloc: Global, binders: &[(usize, usize)]) -> Result<Env, Memory> {
+    let mut env = Env::new(alloc);
+    for (binder, state) in binders {
+        push_binder(&mut env, *binder, StateId(*state))?;
+    }
+    Ok(env)
+}
+
+// Adds an edge from a state to each of these, all of which are to be there.
+fn push_edges(automaton: &mut Automaton, from: StateId, ends: &[usize]) -> Result<(), Memory> {
+    for end in ends {
+        automaton.add_flow(from, StateId(*end))?;
+    }
+    Ok(())
+}
+
+// Adds a state with the head and the edges of this one.
+fn push_twin(automaton: &mut Automaton, state: StateId) -> Result<StateId, Memory> {
+    let head = automaton.head(state).clone()?;
+    let ends = automaton.partners(state).clone()?;
+    let twin = automaton.state(Polarity::Negative, head)?;
+    push_edges(automaton, twin, ends.as_slice())?;
+    Ok(twin)
+}
+
+// The same type, where each binder has a state of its own behind those that are there.
+fn with_own_states(alloc: Global, scheme: Scheme) -> Result<Scheme, Memory> {
+    let mut automaton = scheme.automaton;
+    let mut env = Env::new(alloc);
+    for entry in scheme.env.as_slice() {
+        let twin = push_twin(&mut automaton, entry.state)?;
+        push_binder(&mut env, entry.binder, twin)?;
+    }
+    Ok(Scheme {
+        automaton,
+        env,
+        root: scheme.root,
+    })
+}
+
+/// The type of the first part of a let: the simplified scheme of this root and these binders over a solved automaton,
+/// in which each binder has a state of its own that no head names: a twin behind all others of its state, with the same
+/// head and the same edges.
+///
+/// # Errors
+///
+/// `Memory` where memory is wanting, or where this is no scheme: the automaton is not closed, the root is not positive,
+/// a binder's state is not negative, or the numbers of binders do not rise.
+pub(crate) fn first_type_of(
+    alloc: Global,
+    solved: &Automaton,
+    root: usize,
+    binders: &[(usize, usize)],
+) -> Result<Scheme, Memory> {
+    let scheme = Scheme {
+        automaton: solved.copy()?,
+        env: env_of(alloc, binders)?,
+        root: StateId(root),
+    };
+    if !is_scheme(&scheme) {
+        return Err(Memory);
+    }
+    let simple = simplify(alloc, &scheme)?;
+    with_own_states(alloc, simple)
+}

@@ -1,0 +1,242 @@
+//! Whether the nodes of a part may be posed, and their constraint.
+//!
+//! What posing asks for is tested here: each node of the part comes once and behind its parts, the binders that the
+//! nodes name are those of the part, the names have known types that may be copied, and the labels of a record differ.
+ghost use Rattle.std.specs.Prelude.{IfOk};
+ghost use Rattle.mls_emit.specs.PosedParts.{IsPartPosed};
+
+use crate::pose::{KnownTypes, Posing, pose_part};
+use mls_automaton::automaton::{Arms, Automaton, FieldSet, FieldSets, Head, Polarity};
+use mls_automaton::scheme::{EnvEntry, Scheme};
+use mls_automaton::state_set::{StateId, StateSet};
+use mls_base::memory::Memory;
+use mls_biunify::goal::is_state;
+use mls_book::name::Name;
+use mls_term::term::{Part, TermForm, TermNode};
+use std::alloc::Global;
+use std::collections::{BTreeMap, BTreeSet};
+
+/// The constraint of a part of a term: of these nodes, over these binders. The names have these known types.
+///
+/// # Errors
+///
+/// `Memory` where memory is wanting, or where the nodes may not be posed: a node comes twice, before one of its parts
+/// or is none of the term, a binder is none of these, a name has no known type that may be copied, or two labels of a
+/// record are the same.
+pub(crate) fn posed(
+    alloc: Global,
+    nodes: &[TermNode],
+    part: &[usize],
+    binders: &[usize],
+    known: &KnownTypes,
+) -> Result<Posing, Memory>
+    ensures { IfOk result (IsPartPosed nodes.now known.now.globals known.now.lets binders.now part.now) }
+{
+    if !is_part_list(alloc, nodes, part)? {
+        return Err(Memory);
+    }
+    if !are_posable(alloc, nodes, part, binders, known)? {
+        return Err(Memory);
+    }
+    pose_part(alloc, nodes, part, binders, known)
+}
+
+// Whether these are nodes of a term, each once and each behind its parts.
+fn is_part_list(alloc: Global, nodes: &[TermNode], part: &[usize]) -> Result<bool, Memory> {
+    let mut done = BTreeSet::new(alloc);
+    for node in part {
+        if !may_follow(nodes, &done, *node) {
+            return Ok(false);
+        }
+        done.insert(*node)?;
+    }
+    Ok(true)
+}
+
+// Whether a node may stand behind those that are done.
+fn may_follow(nodes: &[TermNode], done: &BTreeSet<usize>, node: usize) -> bool {
+    node < nodes.len() && !done.contains(&node) && has_parts_in(done, &nodes[node].form)
+}
+
+// Whether the parts of a node are done. The first part of a let is none of its own.
+fn has_parts_in(done: &BTreeSet<usize>, form: &TermForm) -> bool {
+    match form {
+        TermForm::Bound(_) => true,
+        TermForm::Inner(_) => true,
+        TermForm::Global(_) => true,
+        TermForm::Number(_) => true,
+        TermForm::Truth(_) => true,
+        TermForm::Fun(_, body) => done.contains(body),
+        TermForm::Apply(function, argument) => done.contains(function) && done.contains(argument),
+        TermForm::Make(parts) => have_children_in(done, parts.as_slice()),
+        TermForm::Project(body, _) => done.contains(body),
+        TermForm::If(condition, first, second) => {
+            done.contains(condition) && done.contains(first) && done.contains(second)
+        }
+        TermForm::Let(_, _, second) => done.contains(second),
+        TermForm::Rec(_, body) => done.contains(body),
+    }
+}
+
+// Whether the parts of a record are done.
+fn have_children_in(done: &BTreeSet<usize>, parts: &[Part]) -> bool {
+    parts.iter().all(|part| done.contains(&part.child))
+}
+
+// Whether each node of a part may be posed over these binders.
+fn are_posable(
+    alloc: Global,
+    nodes: &[TermNode],
+    part: &[usize],
+    binders: &[usize],
+    known: &KnownTypes,
+) -> Result<bool, Memory> {
+    let around = set_of(alloc, binders)?;
+    for node in part {
+        if !is_posable(alloc, &around, &nodes[*node].form, known)? {
+            return Ok(false);
+        }
+    }
+    Ok(true)
+}
+
+// The set of these numbers.
+fn set_of(alloc: Global, numbers: &[usize]) -> Result<BTreeSet<usize>, Memory> {
+    let mut set = BTreeSet::new(alloc);
+    for number in numbers {
+        set.insert(*number)?;
+    }
+    Ok(set)
+}
+
+// Whether a node may be posed over these binders.
+fn is_posable(
+    alloc: Global,
+    around: &BTreeSet<usize>,
+    form: &TermForm,
+    known: &KnownTypes,
+) -> Result<bool, Memory> {
+    match form {
+        TermForm::Bound(x) => Ok(around.contains(x)),
+        TermForm::Inner(k) => has_known_type(alloc, around, &known.lets, *k),
+        TermForm::Global(g) => has_known_type(alloc, around, &known.globals, *g),
+        TermForm::Number(_) => Ok(true),
+        TermForm::Truth(_) => Ok(true),
+        TermForm::Fun(x, _) => Ok(around.contains(x)),
+        TermForm::Apply(_, _) => Ok(true),
+        TermForm::Make(parts) => have_distinct_labels(alloc, parts.as_slice()),
+        TermForm::Project(_, _) => Ok(true),
+        TermForm::If(_, _, _) => Ok(true),
+        TermForm::Let(k, _, _) => has_known_type(alloc, around, &known.lets, *k),
+        TermForm::Rec(x, _) => Ok(around.contains(x)),
+    }
+}
+
+// Whether the labels of the parts of a record differ.
+fn have_distinct_labels(alloc: Global, parts: &[Part]) -> Result<bool, Memory> {
+    let mut labels: BTreeSet<Name> = BTreeSet::new(alloc);
+    for part in parts {
+        if labels.contains(&part.label) {
+            return Ok(false);
+        }
+        labels.insert(part.label.clone()?)?;
+    }
+    Ok(true)
+}
+
+// Whether a name has a known type that may be copied.
+fn has_known_type(
+    alloc: Global,
+    around: &BTreeSet<usize>,
+    types: &BTreeMap<usize, Scheme>,
+    name: usize,
+) -> Result<bool, Memory> {
+    match types.get(&name) {
+        None => Ok(false),
+        Some(known) => is_known_type(alloc, around, known),
+    }
+}
+
+// Whether a type may be copied over these binders.
+fn is_known_type(alloc: Global, around: &BTreeSet<usize>, known: &Scheme) -> Result<bool, Memory> {
+    if !is_scheme(known) {
+        return Ok(false);
+    }
+    if !has_binders_in(around, known.env.as_slice()) {
+        return Ok(false);
+    }
+    are_separate(alloc, known)
+}
+
+/// Whether the automaton is closed, the root is positive and the states of binders are negative.
+pub(crate) fn is_scheme(scheme: &Scheme) -> bool {
+    scheme.automaton.is_closed()
+        && is_state(&scheme.automaton, scheme.root, Polarity::Positive)
+        && are_negative(&scheme.automaton, scheme.env.as_slice())
+}
+
+// Whether the states of binders are negative.
+fn are_negative(automaton: &Automaton, env: &[EnvEntry]) -> bool {
+    env.iter().all(|entry| is_state(automaton, entry.state, Polarity::Negative))
+}
+
+// Whether the binders are among these.
+fn has_binders_in(around: &BTreeSet<usize>, env: &[EnvEntry]) -> bool {
+    env.iter().all(|entry| around.contains(&entry.binder))
+}
+
+// Whether no two binders have one state, and no head names the state of a binder.
+fn are_separate(alloc: Global, known: &Scheme) -> Result<bool, Memory> {
+    match states_apart(alloc, known.env.as_slice())? {
+        None => Ok(false),
+        Some(states) => Ok(are_free(&known.automaton, &states)),
+    }
+}
+
+// The states of binders. None comes where two binders have one state.
+fn states_apart(alloc: Global, env: &[EnvEntry]) -> Result<Option<BTreeSet<usize>>, Memory> {
+    let mut states = BTreeSet::new(alloc);
+    for entry in env {
+        if states.contains(&entry.state.0) {
+            return Ok(None);
+        }
+        states.insert(entry.state.0)?;
+    }
+    Ok(Some(states))
+}
+
+// Whether no head of a state names one of these.
+fn are_free(automaton: &Automaton, states: &BTreeSet<usize>) -> bool {
+    for s in 0..automaton.len() {
+        if !is_free_head(states, automaton.head(StateId(s))) {
+            return false;
+        }
+    }
+    true
+}
+
+fn is_free_head(states: &BTreeSet<usize>, head: &Head) -> bool {
+    are_free_arms(states, &head.function) && are_free_fields(states, &head.fields)
+}
+
+fn are_free_arms(states: &BTreeSet<usize>, function: &Option<Arms>) -> bool {
+    match function {
+        None => true,
+        Some(arms) => is_free_set(states, &arms.domain) && is_free_set(states, &arms.codomain),
+    }
+}
+
+fn are_free_fields(states: &BTreeSet<usize>, fields: &Option<FieldSets>) -> bool {
+    match fields {
+        None => true,
+        Some(fields) => are_free_sets(states, fields.as_slice()),
+    }
+}
+
+fn are_free_sets(states: &BTreeSet<usize>, fields: &[FieldSet]) -> bool {
+    fields.iter().all(|field| is_free_set(states, &field.set))
+}
+
+fn is_free_set(states: &BTreeSet<usize>, set: &StateSet) -> bool {
+    set.as_slice().iter().all(|s| !states.contains(s))
+}
