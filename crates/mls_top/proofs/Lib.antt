@@ -3,6 +3,7 @@ pub mod AnswersExist
 pub mod CommandLimits
 pub mod CommandNumbers
 pub mod DerivationsRead
+pub mod DerivedModules
 pub mod FileNames
 pub mod FirstTokens
 pub mod GeneratedModules

@@ -18,7 +18,7 @@ use Rattle.mls_iface.specs.Signatures.{IsPlain, entry_line}
 use Rattle.mls_modules.specs.Entries.{IsSignatureOf}
 use Rattle.mls_modules.specs.Environments.{declared_names}
 use Rattle.mls_top.specs.declared.command.Command.{Command}
-use Rattle.mls_top.specs.declared.command.Command.TheVariants.{Infer, Check, Verify, Generate}
+use Rattle.mls_top.specs.declared.command.Command.TheVariants.{Infer, Check, Derive, Verify, Generate}
 use Rattle.mls_top.specs.declared.status.Status.{Status}
 use Rattle.mls_top.specs.declared.status.Status.TheVariants.{Done, NoScheme, Mismatch}
 use Rattle.mls_top.specs.Answers.{IsAnswer}
@@ -67,6 +67,7 @@ OneAnswer =
 abbrev pub InfersTypesOf : List ℕ → Command → Type 0
 InfersTypesOf x (Infer y) = y ≡ x
 InfersTypesOf x (Check y) = y ≡ x
+InfersTypesOf x (Derive y) = y ≡ x
 InfersTypesOf x (Verify y) = ⊥
 InfersTypesOf x (Generate seed count) = generated_name ≡ x
 

@@ -8,7 +8,7 @@ pub fn one_answer()
 {}
 
 /// All words have an answer over all files, or ask for types of a module whose imports are read and whose names have
-/// meanings.
+/// meanings, or for the check of a derivation for one.
 pub fn answer_exists()
     ensures { AnswerExists }
 {}

@@ -4,6 +4,7 @@
 mod answer;
 mod check;
 mod command;
+mod derive;
 mod faults;
 mod fetching;
 mod generate;

@@ -35,7 +35,8 @@ fn of_types<'a>(alloc: Global) -> Result<clap::Command<'a>, AllocError>
         .disable_version_flag(true)
         .subcommand_required(true)
         .subcommand(with_one(alloc, "infer", "NAME")?)?
-        .subcommand(with_one(alloc, "check", "NAME")?)
+        .subcommand(with_one(alloc, "check", "NAME")?)?
+        .subcommand(with_one(alloc, "derive", "NAME")?)
 }
 
 // A subcommand with one operand.

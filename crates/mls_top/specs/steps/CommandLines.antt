@@ -15,7 +15,7 @@ subcommand name operands = record (new_shape name) { rules = map one_word operan
 -- the subcommands that infer the types of one module
 abbrev pub inferring_subcommands : List Shape
 inferring_subcommands = subcommand (codes "infer") (codes "NAME" ∷ []) ∷ subcommand (codes "check")
-    (codes "NAME" ∷ []) ∷ []
+    (codes "NAME" ∷ []) ∷ subcommand (codes "derive") (codes "NAME" ∷ []) ∷ []
 
 -- those that are asked of one module
 abbrev pub module_subcommands : List Shape
