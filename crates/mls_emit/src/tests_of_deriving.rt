@@ -41,6 +41,6 @@ fn identity(rt: HostRuntime) -> Result<(), Fail> {
     assert!(rt; found.is_ok());
     let derivation = found?;
     let text = print_derivation(alloc, &derivation)?;
-    assert_eq!(rt; text.as_slice(), b"".as_slice());
+    assert_eq!(rt; text.as_slice(), b"derivation 1\nval id : a -> a\nnode fn 1 2\nnode var 0\nnode var 0\nnode bot\nnode bool\nnode int\nnode bot\nnode fn 1 1\nstep 0 var env 0 1 type 1\nstep 1 fun 0 env type 7\nstep 1 sub 1 env type 0\npair lr 7 0\npair rl 1 1\npair lr 1 2\nend\n".as_slice());
     Ok(())
 }
