@@ -5,10 +5,11 @@ ghost use Rattle.mls_infer.specs.Inference.{AreNames};
 ghost use Rattle.mls_iface.specs.Signatures.{IsEntry};
 ghost use Rattle.mls_emit.specs.Derived.{AreDerivations};
 
+mod binders;
+mod chosen;
 mod copies;
 mod known;
 mod puts;
-mod scopes;
 mod section;
 mod split;
 mod steps;

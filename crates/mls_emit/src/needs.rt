@@ -43,7 +43,7 @@ fn push_rights(needs: &mut Pairs, mode: Mode, i: usize, l: NodeId, r: NodeId) ->
 }
 
 // The node that a variable is read as on the left side.
-fn left_node(mode: Mode, table: &Table, variable: usize) -> Option<usize>
+pub(crate) fn left_node(mode: Mode, table: &Table, variable: usize) -> Option<usize>
     ensures { result ≡ left_node mode (put_in table.now) variable }
 {
     match mode {
@@ -54,7 +54,7 @@ fn left_node(mode: Mode, table: &Table, variable: usize) -> Option<usize>
 }
 
 // The node that a variable is read as on the right side.
-fn right_node(mode: Mode, table: &Table, variable: usize) -> Option<usize>
+pub(crate) fn right_node(mode: Mode, table: &Table, variable: usize) -> Option<usize>
     ensures { result ≡ right_node mode (put_in table.now) variable }
 {
     match mode {
@@ -117,7 +117,7 @@ fn push_field(needs: &mut Pairs, mode: Mode, fields: &Fields, other: &Field) -> 
 }
 
 // Adds the pairs of the fields of the right record.
-fn push_fields(
+pub(crate) fn push_fields(
     needs: &mut Pairs,
     mode: Mode,
     fields: &Fields,
@@ -132,7 +132,7 @@ fn push_fields(
 }
 
 // The mode with its sides exchanged.
-fn exchanged(mode: Mode) -> Mode
+pub(crate) fn exchanged(mode: Mode) -> Mode
     ensures { result ≡ exchanged mode }
 {
     match mode {

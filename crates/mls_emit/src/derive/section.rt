@@ -1,9 +1,9 @@
 //! The section of a binding, part by part.
 
+use crate::derive::binders::binders_of;
 use crate::derive::copies::push_book;
 use crate::derive::known::{FirstPart, FirstParts, Globals, put_global};
-use crate::derive::scopes::{PartBinders, binders_of, scopes_of};
-use crate::derive::split::{Numbers, TermPart, parts_of};
+use crate::derive::split::{TermPart, parts_of};
 use crate::derive::steps::Steps;
 use crate::derive::writer::{PartView, Writer};
 use crate::first_type::first_type_of;
@@ -215,12 +215,10 @@ impl Draft {
         alloc: Global,
         nodes: &[TermNode],
         part: &[usize],
-        around: &[usize],
         posing: &Posing,
         laid: LaidOut,
         at: &TypeAt,
     ) -> Result<usize, Memory> {
-        let scopes = scopes_of(alloc, nodes, part, around)?;
         let root = *part.last().ok_or(Memory)?;
         let mut writer = Writer {
             laid,
@@ -229,7 +227,6 @@ impl Draft {
         };
         let view = PartView {
             posing,
-            scopes: &scopes,
             known: &self.known,
             globals: &self.globals,
             firsts: &self.firsts,
@@ -284,7 +281,7 @@ impl Draft {
             None => self.whole_type(alloc, read)?,
         };
         let laid = self.laid_out(alloc, &posing, solution, root, around, &at)?;
-        let step = self.write(alloc, nodes, list, around, &posing, laid, &at)?;
+        let step = self.write(alloc, nodes, list, &posing, laid, &at)?;
         match part.of_let {
             Some(k) => self.add_first(alloc, k, step, variable, at),
             None => Ok(()),

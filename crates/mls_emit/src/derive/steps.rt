@@ -1,21 +1,25 @@
 //! The steps of a section, as they are written.
 
+use crate::derive::chosen::chosen_of;
+use crate::derive::puts::Puts;
 use crate::lines::{push_pairs, push_puts};
 use crate::pairs::{Pairs, pair_list};
 use mls_base::list::List;
 use mls_base::memory::Memory;
 use mls_book::book::{Book, NodeId};
-use mls_deriv::claim::{Pair, Put};
+use mls_deriv::claim::Pair;
 use mls_deriv::derivation::{BinderNode, BinderNodes, Mode, SectionLine, SectionLines};
 use mls_deriv::derivation::{StepLine, StepRule};
 use std::alloc::Global;
 
-/// What a step concludes: its number, its type, and what it needs of binders.
+/// What a step concludes: its number, its type, and what it needs of binders. Where variables of its type still have to
+/// be put in, `puts` are their nodes.
 #[derive(Drop)]
 pub(crate) struct Conclusion {
     pub(crate) step: usize,
     pub(crate) root: NodeId,
     pub(crate) env: BinderNodes,
+    pub(crate) puts: Puts,
 }
 
 /// The lines of a section so far, and how many steps they have.
@@ -100,33 +104,31 @@ impl Steps {
             step,
             root,
             env: copied(alloc, env)?,
+            puts: Puts::new(alloc),
         })
     }
 
-    /// Writes a step by pairs, where variables stand for nodes.
-    ///
-    /// # Errors
-    ///
-    /// `Memory` where memory is wanting.
-    pub(crate) fn sub(
+    // Writes a step by pairs.
+    fn sub(
         &mut self,
         alloc: Global,
         book: &Book,
         node: usize,
         from: &Conclusion,
-        puts: &[Put],
         env: &[BinderNode],
         root: NodeId,
     ) -> Result<Conclusion, Memory> {
+        let puts = from.puts.as_slice();
         let wanted = asked(alloc, from, env, root)?;
-        let pairs = pair_list(alloc, book, puts, wanted.as_slice())?;
+        let all = pair_list(alloc, book, puts, wanted.as_slice())?;
+        let pairs = chosen_of(alloc, book, puts, &all, wanted.as_slice())?;
         let to = self.step(alloc, node, StepRule::Sub(from.step), env, root)?;
         push_puts(&mut self.lines, puts)?;
         push_pairs(&mut self.lines, pairs.as_slice())?;
         Ok(to)
     }
 
-    /// Goes over to another type and environment, where they differ.
+    /// Goes over to another type and environment, where they differ, and puts in what variables stand for.
     ///
     /// # Errors
     ///
@@ -140,10 +142,10 @@ impl Steps {
         env: &[BinderNode],
         root: NodeId,
     ) -> Result<Conclusion, Memory> {
-        if from.root == root && from.env.as_slice() == env {
+        if from.puts.is_empty() && from.root == root && from.env.as_slice() == env {
             return Ok(from);
         }
-        self.sub(alloc, book, node, &from, &[], env, root)
+        self.sub(alloc, book, node, &from, env, root)
     }
 
     /// Writes that the name of a let has the type of a step.

@@ -1,9 +1,9 @@
 //! The lines of a part, written node by node: each has the step of its rule, behind those that bring its parts to the
 //! types that the rule asks for.
 
+use crate::derive::binders::{add_binders, both, keys};
 use crate::derive::known::{FirstPart, FirstParts, Globals};
 use crate::derive::puts::{Puts, global_puts, let_puts};
-use crate::derive::scopes::Scopes;
 use crate::derive::steps::{Conclusion, Steps};
 use crate::layout::LaidOut;
 use crate::pose::{KnownTypes, Posing};
@@ -16,11 +16,10 @@ use mls_term::term::{Part, TermForm, TermNode};
 use std::alloc::Global;
 use std::collections::BTreeMap;
 
-/// What is known of a part: its constraint, the binders around its nodes, and the types of names.
+/// What is known of a part: its constraint, and the types of names.
 #[derive(Clone, Copy)]
 pub(crate) struct PartView<'a> {
     pub(crate) posing: &'a Posing,
-    pub(crate) scopes: &'a Scopes,
     pub(crate) known: &'a KnownTypes,
     pub(crate) globals: &'a Globals,
     pub(crate) firsts: &'a FirstParts,
@@ -53,6 +52,42 @@ fn field_at(fields: &[Field], label: &Name) -> Result<NodeId, Memory> {
         Some(field) => Ok(field.node),
         None => Err(Memory),
     }
+}
+
+// An environment in which this binder has this node, and the others are as before.
+fn with(
+    alloc: Global,
+    env: &[BinderNode],
+    binder: usize,
+    node: NodeId,
+) -> Result<BinderNodes, Memory> {
+    let own = BinderNode { binder, node };
+    let mut longer = BinderNodes::new(alloc);
+    let mut is_there = false;
+    for entry in env {
+        if entry.binder >= binder && !is_there {
+            longer.push(own)?;
+            is_there = true;
+        }
+        if entry.binder != binder {
+            longer.push(*entry)?;
+        }
+    }
+    if !is_there {
+        longer.push(own)?;
+    }
+    Ok(longer)
+}
+
+// An environment without this binder.
+fn without(alloc: Global, env: &[BinderNode], binder: usize) -> Result<BinderNodes, Memory> {
+    let mut shorter = BinderNodes::new(alloc);
+    for entry in env {
+        if entry.binder != binder {
+            shorter.push(*entry)?;
+        }
+    }
+    Ok(shorter)
 }
 
 impl Writer {
@@ -105,29 +140,24 @@ impl Writer {
         Ok(env)
     }
 
-    // The nodes of the binders around a node.
-    fn around(&self, alloc: Global, view: &PartView, node: usize) -> Result<BinderNodes, Memory> {
-        self.env(alloc, view, view.scopes.around(node))
+    // The binders of what a node concludes, with their nodes.
+    fn env_of(&self, alloc: Global, view: &PartView, node: usize) -> Result<BinderNodes, Memory> {
+        let of = self.concluded.get(&node).ok_or(Memory)?;
+        let binders = both(alloc, of.env.as_slice(), &[])?;
+        self.env(alloc, view, binders.as_slice())
     }
 
-    // The nodes of the binders around a node, of which this one has another node.
-    fn around_with(
+    // The binders of an environment and of what a node concludes, with their nodes.
+    fn env_with(
         &self,
         alloc: Global,
         view: &PartView,
+        env: &[BinderNode],
         node: usize,
-        binder: usize,
-        other: NodeId,
     ) -> Result<BinderNodes, Memory> {
-        let mut env = BinderNodes::new(alloc);
-        for x in view.scopes.around(node) {
-            let place = self.place(view.posing.binder(*x));
-            env.push(BinderNode {
-                binder: *x,
-                node: if *x == binder { other } else { place },
-            })?;
-        }
-        Ok(env)
+        let of = self.concluded.get(&node).ok_or(Memory)?;
+        let binders = both(alloc, env, of.env.as_slice())?;
+        self.env(alloc, view, binders.as_slice())
     }
 
     // What a node concludes; it is asked for once.
@@ -169,7 +199,7 @@ impl Writer {
         self.steps.step(alloc, node, StepRule::Var, env.as_slice(), place)
     }
 
-    // A name of the environment, at the copy of its type.
+    // A name of the environment, whose variables stand for nodes of the copy of its type.
     fn global(
         &mut self,
         alloc: Global,
@@ -187,9 +217,9 @@ impl Writer {
             first,
         )?;
         let rule = StepRule::Name(NodeId(global.first));
-        let own = self.steps.step(alloc, node, rule, &[], global.root)?;
-        let root = self.place(view.posing.root(node));
-        self.steps.sub(alloc, &self.laid.book, node, &own, puts.as_slice(), &[], root)
+        let mut own = self.steps.step(alloc, node, rule, &[], global.root)?;
+        own.puts = puts;
+        Ok(own)
     }
 
     // What the variables of a let's first part stand for at a node with a copy of its type.
@@ -213,24 +243,7 @@ impl Writer {
         )
     }
 
-    // The binders of a let's first part, with their own nodes.
-    fn binders_of_let(
-        &self,
-        alloc: Global,
-        view: &PartView,
-        part: &FirstPart,
-    ) -> Result<BinderNodes, Memory> {
-        let mut env = BinderNodes::new(alloc);
-        for entry in part.env.as_slice() {
-            env.push(BinderNode {
-                binder: entry.binder,
-                node: self.place(view.posing.binder(entry.binder)),
-            })?;
-        }
-        Ok(env)
-    }
-
-    // A let-bound name, at the copy of its type.
+    // A let-bound name, whose variables stand for nodes of the copy of its type.
     fn inner(
         &mut self,
         alloc: Global,
@@ -241,18 +254,9 @@ impl Writer {
         let part = view.firsts.get(&k).ok_or(Memory)?;
         let puts = self.puts_of_let(alloc, view, node, k, part)?;
         let rule = StepRule::Use(part.step);
-        let own = self.steps.step(alloc, node, rule, part.env.as_slice(), part.root)?;
-        let env = self.binders_of_let(alloc, view, part)?;
-        let root = self.place(view.posing.root(node));
-        self.steps.sub(
-            alloc,
-            &self.laid.book,
-            node,
-            &own,
-            puts.as_slice(),
-            env.as_slice(),
-            root,
-        )
+        let mut own = self.steps.step(alloc, node, rule, part.env.as_slice(), part.root)?;
+        own.puts = puts;
+        Ok(own)
     }
 
     fn fun(
@@ -264,9 +268,10 @@ impl Writer {
         body: usize,
     ) -> Result<Conclusion, Memory> {
         let (arrow, from, to) = self.function(view.posing.root(node))?;
-        let inner = self.around_with(alloc, view, body, x, from)?;
+        let own = self.env_of(alloc, view, body)?;
+        let inner = with(alloc, own.as_slice(), x, from)?;
         let step = self.adapted(alloc, body, inner.as_slice(), to)?;
-        let env = self.around(alloc, view, node)?;
+        let env = without(alloc, own.as_slice(), x)?;
         self.steps.step(alloc, node, StepRule::Fun(step), env.as_slice(), arrow)
     }
 
@@ -280,7 +285,8 @@ impl Writer {
     ) -> Result<Conclusion, Memory> {
         let upper = behind(view.posing.root(node), 2)?;
         let (arrow, from, to) = self.function(upper)?;
-        let env = self.around(alloc, view, node)?;
+        let upper = self.env_of(alloc, view, function)?;
+        let env = self.env_with(alloc, view, upper.as_slice(), argument)?;
         let first = self.adapted(alloc, function, env.as_slice(), arrow)?;
         let second = self.adapted(alloc, argument, env.as_slice(), from)?;
         self.steps.step(
@@ -308,6 +314,22 @@ impl Writer {
         Ok(steps)
     }
 
+    // The binders of what the parts of a record conclude, with their nodes.
+    fn env_of_parts(
+        &self,
+        alloc: Global,
+        view: &PartView,
+        parts: &[Part],
+    ) -> Result<BinderNodes, Memory> {
+        let mut met = BTreeMap::new(alloc);
+        for part in parts {
+            let of = self.concluded.get(&part.child).ok_or(Memory)?;
+            add_binders(&mut met, of.env.as_slice())?;
+        }
+        let binders = keys(alloc, &met)?;
+        self.env(alloc, view, binders.as_slice())
+    }
+
     fn make(
         &mut self,
         alloc: Global,
@@ -316,11 +338,7 @@ impl Writer {
         parts: &[Part],
     ) -> Result<Conclusion, Memory> {
         let record = self.record(view.posing.root(node))?;
-        let binders = match parts.is_empty() {
-            true => &[],
-            false => view.scopes.around(node),
-        };
-        let env = self.env(alloc, view, binders)?;
+        let env = self.env_of_parts(alloc, view, parts)?;
         let steps = self.parts(alloc, record, env.as_slice(), parts)?;
         self.steps.step(alloc, node, StepRule::Make(steps), env.as_slice(), record)
     }
@@ -336,7 +354,7 @@ impl Writer {
         let upper = behind(view.posing.root(node), 2)?;
         let record = self.record(upper)?;
         let field = self.field(record, label)?;
-        let env = self.around(alloc, view, node)?;
+        let env = self.env_of(alloc, view, body)?;
         let step = self.adapted(alloc, body, env.as_slice(), record)?;
         self.steps.step(alloc, node, StepRule::Proj(step), env.as_slice(), field)
     }
@@ -352,7 +370,9 @@ impl Writer {
     ) -> Result<Conclusion, Memory> {
         let into = self.place(behind(view.posing.root(node), 1)?);
         let truth = self.laid.boolean;
-        let env = self.around(alloc, view, node)?;
+        let lower = self.env_of(alloc, view, condition)?;
+        let middle = self.env_with(alloc, view, lower.as_slice(), first)?;
+        let env = self.env_with(alloc, view, middle.as_slice(), second)?;
         let asked = self.adapted(alloc, condition, env.as_slice(), truth)?;
         let yes = self.adapted(alloc, first, env.as_slice(), into)?;
         let no = self.adapted(alloc, second, env.as_slice(), into)?;
@@ -360,21 +380,24 @@ impl Writer {
         self.steps.step(alloc, node, rule, env.as_slice(), into)
     }
 
-    // The environment of a let: the binders that its first part needs have meets of both nodes.
+    // The environment of a let: the binders that both parts need have meets of both nodes.
     fn meets(
         &mut self,
         alloc: Global,
-        part: &FirstPart,
-        env: &[BinderNode],
+        first: &[BinderNode],
+        second: &[BinderNode],
     ) -> Result<BinderNodes, Memory> {
         let mut met = BinderNodes::new(alloc);
-        for entry in env {
-            let node = match node_at(part.env.as_slice(), entry.binder) {
-                Some(other) => self.meet(other, entry.node)?,
-                None => entry.node,
+        let binders = both(alloc, first, second)?;
+        for binder in binders.as_slice() {
+            let node = match (node_at(first, *binder), node_at(second, *binder)) {
+                (Some(left), Some(right)) => self.meet(left, right)?,
+                (Some(left), None) => left,
+                (None, Some(right)) => right,
+                (None, None) => return Err(Memory),
             };
             met.push(BinderNode {
-                binder: entry.binder,
+                binder: *binder,
                 node,
             })?;
         }
@@ -390,7 +413,7 @@ impl Writer {
         self.laid.book.push(node)
     }
 
-    // A let: back from the meets to the nodes of the binders.
+    // A let, whose binders go back to their nodes where its first part needs some.
     fn let_in(
         &mut self,
         alloc: Global,
@@ -400,25 +423,16 @@ impl Writer {
         second: usize,
     ) -> Result<Conclusion, Memory> {
         let part = view.firsts.get(&k).ok_or(Memory)?;
-        let env = self.around(alloc, view, node)?;
+        let env = self.env_of(alloc, view, second)?;
         let root = self.place(view.posing.root(second));
         let step = self.adapted(alloc, second, env.as_slice(), root)?;
-        let met = self.meets(alloc, part, env.as_slice())?;
+        let met = self.meets(alloc, part.env.as_slice(), env.as_slice())?;
         let rule = StepRule::Let(part.step, step);
-        let own = self.steps.step(alloc, node, rule, met.as_slice(), root)?;
-        if part.env.is_empty() {
-            return Ok(own);
+        let mut own = self.steps.step(alloc, node, rule, met.as_slice(), root)?;
+        if !part.env.is_empty() {
+            own.puts = self.puts_of_let(alloc, view, node, k, part)?;
         }
-        let puts = self.puts_of_let(alloc, view, node, k, part)?;
-        self.steps.sub(
-            alloc,
-            &self.laid.book,
-            node,
-            &own,
-            puts.as_slice(),
-            env.as_slice(),
-            root,
-        )
+        Ok(own)
     }
 
     fn recursion(
@@ -430,9 +444,10 @@ impl Writer {
         body: usize,
     ) -> Result<Conclusion, Memory> {
         let root = self.place(view.posing.root(body));
-        let inner = self.around_with(alloc, view, body, x, root)?;
+        let own = self.env_of(alloc, view, body)?;
+        let inner = with(alloc, own.as_slice(), x, root)?;
         let step = self.adapted(alloc, body, inner.as_slice(), root)?;
-        let env = self.around(alloc, view, node)?;
+        let env = without(alloc, own.as_slice(), x)?;
         self.steps.step(alloc, node, StepRule::Rec(step), env.as_slice(), root)
     }
 
