@@ -112,6 +112,9 @@ refuse() {
 for module in pairs church counter main; do
   refuse infer $module
   refuse check $module
+  refuse derive $module
+  "$program" derive $module >$module.mld
+  refuse verify $module
 done
 refuse infer bad
 refuse check absent

@@ -1,9 +1,10 @@
 //! Derivations of the types of a signature.
-ghost use Rattle.std.specs.Prelude.{length, All, IfOk};
+ghost use Rattle.std.specs.Prelude.{◌≡◌, length, All, IfOk};
 ghost use Rattle.mls_deriv.specs.Laws.{AreTerms};
 ghost use Rattle.mls_infer.specs.Inference.{AreNames};
+ghost use Rattle.mls_iface.specs.Matches.{IsRead};
 ghost use Rattle.mls_iface.specs.Signatures.{IsEntry};
-ghost use Rattle.mls_emit.specs.Derived.{AreDerivations};
+ghost use Rattle.mls_emit.specs.Derived.{AreDerivations, entry_names, entry_texts, section_names, section_texts};
 
 mod binders;
 mod chosen;
@@ -17,6 +18,7 @@ mod writer;
 
 use mls_base::list::List;
 use mls_base::memory::Memory;
+use mls_book::name::Name;
 use mls_deriv::derivation::{Derivation, Section, Sections};
 use mls_deriv::verify::{Verified, verify};
 use mls_iface::signature::{SigEntry, Signature};
@@ -25,8 +27,18 @@ use mls_typetext::scheme::{Names, ReadScheme};
 use section::written;
 use std::alloc::Global;
 
-// A copy of bytes.
-fn copy_bytes(alloc: Global, bytes: &[u8]) -> Result<List<u8>, Memory> {
+// The same name once more.
+fn copied_name(name: &Name) -> Result<Name, Memory>
+    ensures { IfOk result (λ copy. copy ≡ name.now) }
+{
+    let copy = name.clone()?;
+    Ok(copy)
+}
+
+// The same bytes once more.
+fn copied_bytes(alloc: Global, bytes: &[u8]) -> Result<List<u8>, Memory>
+    ensures { IfOk result (λ copy. copy ≡ bytes.now) }
+{
     let mut copy = List::new(alloc);
     for byte in bytes {
         copy.push(*byte)?;
@@ -34,22 +46,25 @@ fn copy_bytes(alloc: Global, bytes: &[u8]) -> Result<List<u8>, Memory> {
     Ok(copy)
 }
 
-// The section of a binding with this entry, where names mean these types.
+// The section of a binding with this entry, where names mean what is declared and what the entries say.
 fn section_of(
     alloc: Global,
-    environment: &[&ReadScheme],
+    declared: &[ReadScheme],
+    entries: &[SigEntry],
     binding: &ResolvedBinding,
     entry: &SigEntry,
-) -> Result<Section, Memory> {
-    let written = written(
-        alloc,
-        environment,
-        binding.term.nodes.as_slice(),
-        &entry.scheme,
-    )?;
+) -> Result<Section, Memory>
+    requires declared { All IsRead declared.now }
+    requires entries { All IsEntry entries.now }
+    requires entry { IsEntry entry.now }
+    ensures name { IfOk result (λ s. s.name ≡ entry.now.name) }
+    ensures text { IfOk result (λ s. s.text ≡ entry.now.text) }
+{
+    let nodes = binding.term.nodes.as_slice();
+    let written = written(alloc, declared, entries, nodes, &entry.scheme)?;
     Ok(Section {
-        name: entry.name.clone()?,
-        text: copy_bytes(alloc, entry.text.as_slice())?,
+        name: copied_name(&entry.name)?,
+        text: copied_bytes(alloc, entry.text.as_slice())?,
         nodes: written.book,
         lines: written.lines,
     })
@@ -61,16 +76,16 @@ fn sections_of(
     bindings: &[ResolvedBinding],
     declared: &[ReadScheme],
     entries: &[SigEntry],
-) -> Result<Sections, Memory> {
-    let mut environment = Vec::new(alloc);
-    for read in declared {
-        environment.push(read)?;
-    }
+) -> Result<Sections, Memory>
+    requires declared { All IsRead declared.now }
+    requires entries { All IsEntry entries.now }
+    ensures names { IfOk result (λ sections. section_names sections ≡ entry_names entries.now) }
+    ensures texts { IfOk result (λ sections. section_texts sections ≡ entry_texts entries.now) }
+{
     let mut sections = Sections::new(alloc);
     for entry in entries {
         let binding = bindings.get(sections.len()).ok_or(Memory)?;
-        sections.push(section_of(alloc, environment.as_slice(), binding, entry)?)?;
-        environment.push(&entry.scheme)?;
+        sections.push(section_of(alloc, declared, entries, binding, entry)?)?;
     }
     Ok(sections)
 }

@@ -35,11 +35,7 @@ fn meet_needed(met: &mut Met, lets: &BTreeMap<usize, Scheme>, k: usize) -> Resul
     Ok(())
 }
 
-fn meet_form(
-    met: &mut Met,
-    lets: &BTreeMap<usize, Scheme>,
-    form: &TermForm,
-) -> Result<(), Memory> {
+fn meet_form(met: &mut Met, lets: &BTreeMap<usize, Scheme>, form: &TermForm) -> Result<(), Memory> {
     match form {
         TermForm::Bound(x) => meet_named(met, *x),
         TermForm::Inner(k) | TermForm::Let(k, _, _) => meet_needed(met, lets, *k),
@@ -100,10 +96,7 @@ pub(crate) fn both(
 /// # Errors
 ///
 /// `Memory` where memory is wanting.
-pub(crate) fn add_binders(
-    met: &mut BTreeMap<usize, ()>,
-    env: &[BinderNode],
-) -> Result<(), Memory> {
+pub(crate) fn add_binders(met: &mut BTreeMap<usize, ()>, env: &[BinderNode]) -> Result<(), Memory> {
     for entry in env {
         met.insert(entry.binder, ())?;
     }

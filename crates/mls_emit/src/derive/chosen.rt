@@ -219,7 +219,11 @@ fn by_member(
         }
     }
     if let Node::Meet(l, r) = left {
-        let (first, second) = if r.0 == pair.right { (*r, *l) } else { (*l, *r) };
+        let (first, second) = if r.0 == pair.right {
+            (*r, *l)
+        } else {
+            (*l, *r)
+        };
         return push_either(
             reason,
             table,

@@ -4,8 +4,7 @@ use crate::derive::split::Numbers;
 use mls_base::memory::Memory;
 use mls_book::book::{Book, Field, Fields, Node, NodeId};
 use std::alloc::Global;
-use std::collections::BTreeMap;
-use std::collections::BTreeSet;
+use std::collections::{BTreeMap, BTreeSet};
 
 fn raised(id: NodeId, up: usize) -> Result<NodeId, Memory> {
     let number = id.0.checked_add(up).ok_or(Memory)?;

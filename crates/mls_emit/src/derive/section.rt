@@ -1,4 +1,9 @@
 //! The section of a binding, part by part.
+ghost use Rattle.std.specs.Prelude.{All, IfSome};
+ghost use Rattle.mls_automaton.specs.Models.{IsClosed};
+ghost use Rattle.mls_biunify.specs.Rooms.{HoldsStates};
+ghost use Rattle.mls_iface.specs.Matches.{IsRead};
+ghost use Rattle.mls_iface.specs.Signatures.{IsEntry};
 
 use crate::derive::binders::binders_of;
 use crate::derive::copies::push_book;
@@ -19,6 +24,7 @@ use mls_automaton::state_set::StateId;
 use mls_base::memory::Memory;
 use mls_book::book::{Book, Node, NodeId};
 use mls_deriv::derivation::{BinderNode, BinderNodes, SectionLines};
+use mls_iface::signature::SigEntry;
 use mls_scheme::read::scheme_of_read;
 use mls_term::term::{TermForm, TermNode};
 use mls_typetext::scheme::ReadScheme;
@@ -48,6 +54,25 @@ struct Draft {
 struct TypeAt {
     scheme: Scheme,
     places: Places,
+}
+
+// What a name of the environment means: something declared, or the type of an entry.
+fn read_at<'a>(
+    declared: &'a [ReadScheme],
+    entries: &'a [SigEntry],
+    g: usize,
+) -> Option<&'a ReadScheme>
+    requires declared { All IsRead declared.now }
+    requires entries { All IsEntry entries.now }
+    ensures { IfSome result (λ read. IsRead read.now) }
+{
+    if g < declared.len() {
+        return Some(&declared[g]);
+    }
+    match entries.get(g - declared.len()) {
+        Some(entry) => Some(&entry.scheme),
+        None => None,
+    }
 }
 
 // The nodes of a book, each as its own state.
@@ -121,13 +146,17 @@ impl Draft {
     fn add_global(
         &mut self,
         alloc: Global,
-        environment: &[&ReadScheme],
+        declared: &[ReadScheme],
+        entries: &[SigEntry],
         g: usize,
-    ) -> Result<(), Memory> {
+    ) -> Result<(), Memory>
+        requires declared { All IsRead declared.now }
+        requires entries { All IsEntry entries.now }
+    {
         if self.globals.contains_key(&g) {
             return Ok(());
         }
-        let read = *environment.get(g).ok_or(Memory)?;
+        let read = read_at(declared, entries, g).ok_or(Memory)?;
         let scheme = scheme_of_read(alloc, read)?;
         let global = put_global(alloc, &mut self.book, read, &scheme)?;
         self.globals.insert(g, global)?;
@@ -139,12 +168,16 @@ impl Draft {
     fn add_globals(
         &mut self,
         alloc: Global,
-        environment: &[&ReadScheme],
+        declared: &[ReadScheme],
+        entries: &[SigEntry],
         nodes: &[TermNode],
-    ) -> Result<(), Memory> {
+    ) -> Result<(), Memory>
+        requires declared { All IsRead declared.now }
+        requires entries { All IsEntry entries.now }
+    {
         for node in nodes {
             if let TermForm::Global(g) = &node.form {
-                self.add_global(alloc, environment, *g)?;
+                self.add_global(alloc, declared, entries, *g)?;
             }
         }
         Ok(())
@@ -172,7 +205,9 @@ impl Draft {
     }
 
     // The type of the whole term: its nodes are the first of the book.
-    fn whole_type(&mut self, alloc: Global, read: &ReadScheme) -> Result<TypeAt, Memory> {
+    fn whole_type(&mut self, alloc: Global, read: &ReadScheme) -> Result<TypeAt, Memory>
+        requires { IsRead read.now }
+    {
         let past = self.book.push(Node::Bot)?;
         let places = own_places(alloc, read.book.len(), past)?;
         let scheme = scheme_of_read(alloc, read)?;
@@ -188,7 +223,10 @@ impl Draft {
         root: usize,
         around: &[usize],
         at: &TypeAt,
-    ) -> Result<LaidOut, Memory> {
+    ) -> Result<LaidOut, Memory>
+        requires closed { IsClosed posing.now.automaton }
+        requires related { HoldsStates posing.now.automaton solution.found }
+    {
         let general = Scheme {
             automaton: solution.automaton,
             env: env_of(alloc, posing, around)?,
@@ -268,7 +306,9 @@ impl Draft {
         nodes: &[TermNode],
         part: &TermPart,
         read: &ReadScheme,
-    ) -> Result<(), Memory> {
+    ) -> Result<(), Memory>
+        requires { IsRead read.now }
+    {
         let list = part.nodes.as_slice();
         let binders = binders_of(alloc, nodes, list, &self.known.lets)?;
         let around = binders.around.as_slice();
@@ -306,13 +346,18 @@ fn replace_steps(steps: &mut Steps, alloc: Global) -> Steps {
 /// `Memory` where memory is wanting.
 pub(crate) fn written(
     alloc: Global,
-    environment: &[&ReadScheme],
+    declared: &[ReadScheme],
+    entries: &[SigEntry],
     nodes: &[TermNode],
     read: &ReadScheme,
-) -> Result<Written, Memory> {
+) -> Result<Written, Memory>
+    requires declared { All IsRead declared.now }
+    requires entries { All IsEntry entries.now }
+    requires read { IsRead read.now }
+{
     let parts = parts_of(alloc, nodes)?;
     let mut draft = Draft::new(alloc, read)?;
-    draft.add_globals(alloc, environment, nodes)?;
+    draft.add_globals(alloc, declared, entries, nodes)?;
     for (_, part) in parts.iter() {
         draft.add_part(alloc, nodes, part, read)?;
     }

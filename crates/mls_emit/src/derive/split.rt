@@ -77,12 +77,7 @@ fn owners_of(alloc: Global, nodes: &[TermNode]) -> Result<Owners, Memory> {
 }
 
 // Adds a node to the part with this root.
-fn add_node(
-    alloc: Global,
-    parts: &mut TermParts,
-    root: usize,
-    node: usize,
-) -> Result<(), Memory> {
+fn add_node(alloc: Global, parts: &mut TermParts, root: usize, node: usize) -> Result<(), Memory> {
     if !parts.contains_key(&root) {
         parts.insert(
             root,

@@ -8,8 +8,9 @@ use mls_base::list::List;
 use mls_base::memory::Memory;
 use mls_book::book::{Book, NodeId};
 use mls_deriv::claim::Pair;
-use mls_deriv::derivation::{BinderNode, BinderNodes, Mode, SectionLine, SectionLines};
-use mls_deriv::derivation::{StepLine, StepRule};
+use mls_deriv::derivation::{
+    BinderNode, BinderNodes, Mode, SectionLine, SectionLines, StepLine, StepRule,
+};
 use std::alloc::Global;
 
 /// What a step concludes: its number, its type, and what it needs of binders. Where variables of its type still have to

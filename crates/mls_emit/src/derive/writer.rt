@@ -129,7 +129,12 @@ impl Writer {
     }
 
     // The nodes of binders.
-    fn env(&self, alloc: Global, view: &PartView, binders: &[usize]) -> Result<BinderNodes, Memory> {
+    fn env(
+        &self,
+        alloc: Global,
+        view: &PartView,
+        binders: &[usize],
+    ) -> Result<BinderNodes, Memory> {
         let mut env = BinderNodes::new(alloc);
         for binder in binders {
             env.push(BinderNode {
@@ -178,7 +183,9 @@ impl Writer {
         root: NodeId,
     ) -> Result<usize, Memory> {
         let from = self.take(node)?;
-        let to = self.steps.adapt(alloc, &self.laid.book, node, from, env, root)?;
+        let to = self
+            .steps
+            .adapt(alloc, &self.laid.book, node, from, env, root)?;
         Ok(to.step)
     }
 
@@ -196,7 +203,8 @@ impl Writer {
             binder: x,
             node: place,
         })?;
-        self.steps.step(alloc, node, StepRule::Var, env.as_slice(), place)
+        self.steps
+            .step(alloc, node, StepRule::Var, env.as_slice(), place)
     }
 
     // A name of the environment, whose variables stand for nodes of the copy of its type.
@@ -209,13 +217,7 @@ impl Writer {
     ) -> Result<Conclusion, Memory> {
         let global = view.globals.get(&g).ok_or(Memory)?;
         let first = *view.posing.copies.get(&node).ok_or(Memory)?;
-        let puts = global_puts(
-            alloc,
-            &mut self.laid.book,
-            &self.laid.places,
-            global,
-            first,
-        )?;
+        let puts = global_puts(alloc, &mut self.laid.book, &self.laid.places, global, first)?;
         let rule = StepRule::Name(NodeId(global.first));
         let mut own = self.steps.step(alloc, node, rule, &[], global.root)?;
         own.puts = puts;
@@ -254,7 +256,9 @@ impl Writer {
         let part = view.firsts.get(&k).ok_or(Memory)?;
         let puts = self.puts_of_let(alloc, view, node, k, part)?;
         let rule = StepRule::Use(part.step);
-        let mut own = self.steps.step(alloc, node, rule, part.env.as_slice(), part.root)?;
+        let mut own = self
+            .steps
+            .step(alloc, node, rule, part.env.as_slice(), part.root)?;
         own.puts = puts;
         Ok(own)
     }
@@ -272,7 +276,8 @@ impl Writer {
         let inner = with(alloc, own.as_slice(), x, from)?;
         let step = self.adapted(alloc, body, inner.as_slice(), to)?;
         let env = without(alloc, own.as_slice(), x)?;
-        self.steps.step(alloc, node, StepRule::Fun(step), env.as_slice(), arrow)
+        self.steps
+            .step(alloc, node, StepRule::Fun(step), env.as_slice(), arrow)
     }
 
     fn apply(
@@ -340,7 +345,8 @@ impl Writer {
         let record = self.record(view.posing.root(node))?;
         let env = self.env_of_parts(alloc, view, parts)?;
         let steps = self.parts(alloc, record, env.as_slice(), parts)?;
-        self.steps.step(alloc, node, StepRule::Make(steps), env.as_slice(), record)
+        self.steps
+            .step(alloc, node, StepRule::Make(steps), env.as_slice(), record)
     }
 
     fn project(
@@ -356,7 +362,8 @@ impl Writer {
         let field = self.field(record, label)?;
         let env = self.env_of(alloc, view, body)?;
         let step = self.adapted(alloc, body, env.as_slice(), record)?;
-        self.steps.step(alloc, node, StepRule::Proj(step), env.as_slice(), field)
+        self.steps
+            .step(alloc, node, StepRule::Proj(step), env.as_slice(), field)
     }
 
     fn choice(
@@ -448,7 +455,8 @@ impl Writer {
         let inner = with(alloc, own.as_slice(), x, root)?;
         let step = self.adapted(alloc, body, inner.as_slice(), root)?;
         let env = without(alloc, own.as_slice(), x)?;
-        self.steps.step(alloc, node, StepRule::Rec(step), env.as_slice(), root)
+        self.steps
+            .step(alloc, node, StepRule::Rec(step), env.as_slice(), root)
     }
 
     // The step of a node's rule, with what leads to it.
