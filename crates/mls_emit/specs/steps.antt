@@ -7,3 +7,4 @@ pub mod Results
 pub mod Planned
 pub mod Sources
 pub mod Owned
+pub mod Posable
