@@ -8,3 +8,4 @@ pub mod Planned
 pub mod Sources
 pub mod Owned
 pub mod Posable
+pub mod Twins

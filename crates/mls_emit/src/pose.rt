@@ -76,8 +76,8 @@ fn raised(state: usize, up: usize) -> Result<usize, Memory>
     Ok(raised)
 }
 
-// The same head once more.
-fn copied_head(head: &Head) -> Result<Head, Memory>
+/// The same head once more.
+pub(crate) fn copied_head(head: &Head) -> Result<Head, Memory>
     ensures { IfOk result (λ copy. copy ≡ head.now) }
 {
     let copy = head.clone()?;
