@@ -9,3 +9,4 @@ pub mod Sources
 pub mod Owned
 pub mod Posable
 pub mod Twins
+pub mod TypeNodes

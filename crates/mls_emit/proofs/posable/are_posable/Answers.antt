@@ -19,9 +19,9 @@ loop-node-preserved c i f there e =
     let node : TermNode = c.index-nodes-node.result in
     let yes : IsTrue c.in_ok-is_posable.field-0 = search rules in
     let last : get_or part k 0 ≡ i → IsPosable c.args.binders.now c.args.known.now.globals c.args.known.now.lets f = λ same.
-        let is : form_at c.args.nodes.now (get_or part k 0) ≡ Some (get_or c.args.nodes.now (get_or part k 0) node).form = form_there c.args.nodes.now (get_or part k 0) node (c.requires k 0 c.loop-node-test.true) in
-        subst (IsPosable c.args.binders.now c.args.known.now.globals c.args.known.now.lets) (some_is (sym is ∙ (ap (form_at c.args.nodes.now) same ∙ e)))
-        (c.in_ok-is_posable.ensures yes c.args.binders.now c.in_ok-around.ensures) in
+    let is : form_at c.args.nodes.now (get_or part k 0) ≡ Some (get_or c.args.nodes.now (get_or part k 0) node).form = form_there c.args.nodes.now (get_or part k 0) node (c.requires k 0 c.loop-node-test.true) in
+    subst (IsPosable c.args.binders.now c.args.known.now.globals c.args.known.now.lets) (some_is (sym is ∙ (ap (form_at c.args.nodes.now) same ∙ e)))
+    (c.in_ok-is_posable.ensures yes c.args.binders.now c.in_ok-around.ensures) in
     elim (Contains-push_cases (take k part) (get_or part k 0) i (subst (λ (xs : List ℕ). Contains xs i) (take_more part k 0 c.loop-node-test.true) there)) [
       | inl before ↦ c.loop-node.invariant i f before e
       | inr same ↦ last same

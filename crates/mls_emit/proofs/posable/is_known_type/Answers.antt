@@ -17,6 +17,6 @@ returns c =
     IfOk-weaker c.are_separate.result (λ is. IsTrue is → AreSeparate c.args.known.now)
     (λ is. IsTrue is → (binders : List ℕ) → HasJust nat_cmp binders c.args.around.now → IsKnownType binders c.args.known.now)
     (λ is apart yes binders just.
-        known_type binders c.args.around.now c.args.known.now (c.is_scheme.ensures scheme) c.as_slice.ensures.rise
-        (subst (All (λ (entry : EnvEntry). Has c.args.around.now entry.binder)) env (c.has_binders_in.ensures within)) (apart yes) just)
+    known_type binders c.args.around.now c.args.known.now (c.is_scheme.ensures scheme) c.as_slice.ensures.rise
+    (subst (All (λ (entry : EnvEntry). Has c.args.around.now entry.binder)) env (c.has_binders_in.ensures within)) (apart yes) just)
     c.are_separate.ensures
