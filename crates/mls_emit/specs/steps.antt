@@ -10,3 +10,4 @@ pub mod Owned
 pub mod Posable
 pub mod Twins
 pub mod TypeNodes
+pub mod Walking
