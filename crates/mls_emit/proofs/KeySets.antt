@@ -19,9 +19,7 @@ use Rattle.std.proofs.lemmas.List.Elements.{Contains-get_or, Contains-append_lef
 use Rattle.std.proofs.lemmas.Map.Text.{is_eq-slice_cmp}
 use Rattle.std.proofs.lemmas.Slice.Eq.{bytes_eq-Decides}
 use Rattle.mls_emit.specs.steps.Posable.{HasJust}
-
-nothing : {X : Type 0} (x : X) → Contains [] x → ⊥
-nothing x there = let low : there.0 < 0 = there.1 in absurd (omega arith)
+use Rattle.mls_emit.proofs.WorkedParts.{nothing}
 
 module _ {K : Type 0} (cmp : K → K → Ordering) (same : (x y : K) → is_eq (cmp x y) ≡ true → x ≡ y) (self : (x : K) → is_eq (cmp x x) ≡ true) where
   pub just_none : (set : BTreeSet K) → IsEmpty set → HasJust cmp [] set

@@ -23,9 +23,7 @@ use Rattle.mls_emit.specs.MetCopies.{AreSeparate, IsOfNoBinder}
 use Rattle.mls_emit.specs.PosedParts.{IsKnownType}
 use Rattle.mls_emit.specs.steps.Posable.{AreApart, Has, HasJust, IsFree}
 use Rattle.mls_emit.proofs.KeySets.{just_none, just_more, number_same, number_self}
-
-nothing : {X : Type 0} (x : X) → Contains [] x → ⊥
-nothing x there = absurd (let low = there.1 in omega arith)
+use Rattle.mls_emit.proofs.WorkedParts.{nothing}
 
 abbrev number : EnvEntry → ℕ
 number entry = entry.state.0
