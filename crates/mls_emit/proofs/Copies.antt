@@ -153,10 +153,10 @@ module _ (p : Posing) (known : Scheme) where
             subst (λ s. IsState m.automaton Negative s) (sym (ap (λ bs. number_at bs entry.binder) it.binders))
             (longer p.automaton m.automaton (map (renamed_state (λ k. n + k)) known.automaton.states) Negative (binder_in p entry.binder) it.states old)
 
-pub copy_posed : (p m : Posing) (i : ℕ) (roots : BTreeMap ℕ ℕ) (known : Scheme) (root other : ℕ) → AddsCopy p m (size p) known known.env
+pub copy_posed : (p m : Posing) (i : ℕ) (roots copies : BTreeMap ℕ ℕ) (known : Scheme) (root other : ℕ) → AddsCopy p m (size p) known known.env
     → Updates nat_cmp m.roots roots i (Some root) → root ≡ other
-    → Adds p (record m { roots = roots }) i (copy_added (size p) known other) (IsCopiedEdge (size p) (binder_in p) known known.env)
-copy_posed p m i roots known root other it updates same = record {
+    → Adds p (record m { roots = roots; copies = copies }) i (copy_added (size p) known other) (IsCopiedEdge (size p) (binder_in p) known known.env)
+copy_posed p m i roots copies known root other it updates same = record {
   states = it.states;
   flows = it.flows;
   goals = it.goals ∙ sym (nil_behind p.goals);

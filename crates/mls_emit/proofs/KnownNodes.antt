@@ -4,6 +4,7 @@
 --     part_low                        the nodes of parts stand before the trees
 --     noted, not_noted                a node is added to the list of a state
 --     partners_none, partners_next    the partners by one pair more
+--     parts_below                     those of parts stand before the trees
 --     sources_below                   all known nodes stand before the trees
 --     all_low                         places are low
 use Rattle.std.proofs.Common.{◌≡◌, ◌⊎◌, inl, inr, ℕ, zero, suc, ◌+◌, ◌<◌, ◌≤◌, Bool, true, false, List, [], ◌∷◌, ◌++◌, length, take, refl, sym, ap, ◌∙◌, subst, arith, length-append, add-one}
@@ -191,28 +192,36 @@ partners_next pairs type_place n k p id lists new low is of it size added = reco
           (added s i (inside s h)).1 (inr (ap (λ (q : StatePair). q.general.0) that, of ∙ (ap (λ (q : StatePair). type_place q.special.0) that ∙ w.2)))
     ]
 
+-- those of parts stand before the trees
+pub parts_below : (a : Automaton) (leaves : Leaves) (start n end : ℕ) (parts : List (List NodeId)) → AreParted a leaves start n end parts → leaves.boolean.0 < start → leaves.integer.0 < start
+    → (s i : ℕ) → IsNodeIn (get_or parts s []) i → i < end
+parts_below a leaves start n end parts it boolean integer s i there = go (below_or_more s n)
+  where
+    longer : start ≤ end
+    longer = let e : end ≡ start + own_before a n = it.counted in omega (arith, e)
+
+    go : (s < n) ⊎ ((j : ℕ) × (s ≡ n + j)) → i < end
+    go (inl low) =
+        let own : own_before a s + own_count (head_at a s) ≤ own_before a n = own_within a s n low in
+        let e : end ≡ start + own_before a n = it.counted in
+        part_low leaves (start + own_before a s) end (head_at a s) (omega (arith, boolean, longer)) (omega (arith, integer, longer)) (omega (arith, own, e)) i
+        (subst (λ (ids : List NodeId). IsNodeIn ids i) (it.are s low) there)
+    go (inr (j, e)) =
+        let all : length parts ≡ n = it.size in
+        absurd (nothing (record { 0 = i }) (subst (λ (ids : List NodeId). IsNodeIn ids i) (get_or_past parts s [] (omega (arith, all, e))) there))
+
 -- all of them stand before the trees
 pub sources_below : (a : Automaton) (leaves : Leaves) (start n end : ℕ) (pairs : List StatePair) (type_place : ℕ → ℕ) (sources : Sources) → AreParted a leaves start n end sources.parts
     → ArePartners pairs type_place n sources.partners.items → sources.nothing ≡ leaves.nothing → leaves.boolean.0 < start → leaves.integer.0 < start → leaves.nothing.0 < start
     → ((s : ℕ) → type_place s < start) → AreBelow sources end
 sources_below a leaves start n end pairs type_place sources parts partners none boolean integer nothing_low types = record {
-  parts = λ s i it. part s i it (below_or_more s n);
+  parts = parts_below a leaves start n end sources.parts parts boolean integer;
   partners = λ s i it. partner s i it (below_or_more s n);
   nothing = let same : sources.nothing.0 ≡ leaves.nothing.0 = ap (λ (id : NodeId). id.0) none in omega (arith, same, nothing_low, longer);
 }
   where
     longer : start ≤ end
     longer = let e : end ≡ start + own_before a n = parts.counted in omega (arith, e)
-
-    part : (s i : ℕ) → IsNodeIn (parts_in sources s) i → (s < n) ⊎ ((j : ℕ) × (s ≡ n + j)) → i < end
-    part s i it (inl low) =
-        let own : own_before a s + own_count (head_at a s) ≤ own_before a n = own_within a s n low in
-        let e : end ≡ start + own_before a n = parts.counted in
-        part_low leaves (start + own_before a s) end (head_at a s) (omega (arith, boolean, longer)) (omega (arith, integer, longer)) (omega (arith, own, e)) i
-        (subst (λ (ids : List NodeId). IsNodeIn ids i) (parts.are s low) it)
-    part s i it (inr (j, e)) =
-        let all : length sources.parts ≡ n = parts.size in
-        absurd (nothing (record { 0 = i }) (subst (λ (ids : List NodeId). IsNodeIn ids i) (get_or_past sources.parts s [] (omega (arith, all, e))) it))
 
     partner : (s i : ℕ) → IsNodeIn (partners_in sources s) i → (s < n) ⊎ ((j : ℕ) × (s ≡ n + j)) → i < end
     partner s i it (inl low) =

@@ -85,3 +85,8 @@ pub mod KnownNodes
 pub mod OwnNodes
 pub mod HeadParts
 pub mod PartsLaidOut
+mod KeySets
+mod PartLists
+mod PosableTypes
+mod Twins
+mod TypeNodes

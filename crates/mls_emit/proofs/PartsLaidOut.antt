@@ -1,4 +1,6 @@
 -- A part that is laid out: its leaves, then the functions and records, and then the planned trees.
+--     trees_closed        trees name nodes that are there
+--     leaves_book         the leaves keep it a book
 --     closed_made         the book is closed
 --     places_below        places stand before the end of what is planned
 --     known_below         the known nodes stand before the trees
@@ -57,14 +59,14 @@ tree_children i n (node.Join j k) low is ordered = let one : j.0 < i = ordered.0
 tree_children i n (node.Meet j k) low is ordered = let one : j.0 < i = ordered.0 in let two : k.0 < i = ordered.1 in (omega (arith, one, low), omega (arith, two, low))
 
 -- the trees behind a book name nodes that are there
-trees_closed : (nodes more : List Node) → IsBook (nodes ++ more) → All IsOfTree more → All (HasChildrenBelow (length (nodes ++ more))) more
+pub trees_closed : (nodes more : List Node) → IsBook (nodes ++ more) → All IsOfTree more → All (HasChildrenBelow (length (nodes ++ more))) more
 trees_closed nodes more book are k d low =
     let all : length (nodes ++ more) ≡ length nodes + length more = length-append nodes more in
     tree_children (length nodes + k) (length (nodes ++ more)) (get_or more k d) (omega (arith, all, low)) (are k d low)
     (subst (IsOrdered (length nodes + k)) (get_or-append-add nodes more k node.Bot ∙ get_or_default more k node.Bot d low) (book (length nodes + k)))
 
 -- the leaves keep it a book
-leaves_book : (old : List Node) → IsBook old → IsBook (old ++ node.Bool ∷ node.Int ∷ node.Bot ∷ [])
+pub leaves_book : (old : List Node) → IsBook old → IsBook (old ++ node.Bool ∷ node.Int ∷ node.Bot ∷ [])
 leaves_book old book =
     let one = book_pushed old node.Bool book tt in
     let two = book_pushed (old ++ node.Bool ∷ []) node.Int one tt in

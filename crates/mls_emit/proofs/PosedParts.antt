@@ -25,27 +25,13 @@ use Rattle.mls_emit.specs.PosedParts.{HasKnownType, HavePosed, IsBegun, IsPosabl
 use Rattle.mls_emit.specs.Posings.{AddsNode, CanPose, HasKnown, binder_in, known_in, or_zero, root_in}
 use Rattle.mls_emit.proofs.BegunPosings.{begun_good}
 use Rattle.mls_emit.proofs.GoodPosings.{node_good}
+use Rattle.mls_emit.proofs.PartLists.{parts_more}
 use Rattle.mls_emit.proofs.PosedByNode.{node_extends, node_posed, node_root}
 use Rattle.mls_emit.proofs.PosedKept.{extends_all, extends_self, posed_kept}
 use Rattle.mls_emit.proofs.PosedModels.{node_model}
 
 some_is : {X : Type 0} {x y : X} → Some x ≡ Some y → x ≡ y
 some_is e = cc
-
--- what holds of each part of a node
-parts_more : (P Q : ℕ → Type 0) → ((j : ℕ) → P j → Q j) → (f : TermForm) → HasPartsIn P f → HasPartsIn Q f
-parts_more P Q more (form.Bound x) it = tt
-parts_more P Q more (form.Inner k) it = tt
-parts_more P Q more (form.Global g) it = tt
-parts_more P Q more (form.Number value) it = tt
-parts_more P Q more (form.Truth value) it = tt
-parts_more P Q more (form.Fun x j) it = more j it
-parts_more P Q more (form.Apply j k) it = (more j it.0, more k it.1)
-parts_more P Q more (form.Make parts) it = λ part there. more part.child (it part there)
-parts_more P Q more (form.Project j label) it = more j it
-parts_more P Q more (form.If j k l) it = (more j it.0, more k it.1, more l it.2)
-parts_more P Q more (form.Let k j l) it = more l it
-parts_more P Q more (form.Rec x j) it = more j it
 
 -- a node may be posed behind others
 module _ (binders : List ℕ) (globals lets : BTreeMap ℕ Scheme) (begun p : Posing) (it : IsBegun binders begun) (extends : Extends begun p) (good : IsGood p) where

@@ -7,3 +7,7 @@ pub mod Results
 pub mod Planned
 pub mod Sources
 pub mod Owned
+pub mod Posable
+pub mod Twins
+pub mod TypeNodes
+pub mod Walking

@@ -1,7 +1,16 @@
 //! The type of the first part of a let.
-ghost use Rattle.std.specs.Prelude.{IfOk};
+ghost use Rattle.std.specs.Prelude.{◌≡◌, ◌<◌, ◌++◌, ◌∷◌, ℕ, [], All, IfOk, OnOk, IsTrue};
+ghost use Rattle.mls_automaton.specs.declared.automaton.Polarity.{Polarity};
+ghost use Rattle.mls_automaton.specs.declared.automaton.Polarity.TheVariants.{Negative, Positive};
+ghost use Rattle.mls_automaton.specs.declared.scheme.EnvEntry.{EnvEntry};
+ghost use Rattle.mls_automaton.specs.Automata.{IsState};
+ghost use Rattle.mls_automaton.specs.Environments.{BindersRise};
+ghost use Rattle.mls_automaton.specs.Models.{IsClosed};
+ghost use Rattle.mls_automaton.specs.Schemes.{IsScheme};
+ghost use Rattle.mls_emit.specs.steps.Twins.{IsWider};
 
 use crate::posable::is_scheme;
+use crate::pose::copied_head;
 use mls_automaton::automaton::{Automaton, Polarity};
 use mls_automaton::scheme::{Env, EnvEntry, Scheme};
 use mls_automaton::state_set::{StateId, StateSet};
@@ -10,12 +19,17 @@ use mls_shape::simplify::simplify;
 use std::alloc::Global;
 
 // Whether a binder is higher than all of these, which rise.
-fn is_next(env: &[EnvEntry], binder: usize) -> bool {
+fn is_next(env: &[EnvEntry], binder: usize) -> bool
+    requires { BindersRise env.now }
+    ensures { IsTrue result → All (λ (other : EnvEntry). other.binder < binder) env.now }
+{
     env.is_empty() || env[env.len() - 1].binder < binder
 }
 
 // Adds a binder, which is to be higher than those that are there.
-fn push_binder(env: &mut Env, binder: usize, state: StateId) -> Result<(), Memory> {
+fn push_binder(env: &mut Env, binder: usize, state: StateId) -> Result<(), Memory>
+    ensures { OnOk result (env.new ≡ env.old ++ record { binder = binder; state = state } ∷ []) }
+{
     if !is_next(env.as_slice(), binder) {
         return Err(Memory);
     }
@@ -33,24 +47,45 @@ fn env_of(alloc: Global, binders: &[(usize, usize)]) -> Result<Env, Memory> {
 }
 
 // Adds an edge from a state to each of these, all of which are to be there.
-fn push_edges(automaton: &mut Automaton, from: StateId, ends: &[usize]) -> Result<(), Memory> {
+fn push_edges(automaton: &mut Automaton, from: StateId, ends: &[usize]) -> Result<(), Memory>
+    requires closed { IsClosed automaton.old }
+    requires from { IsState automaton.old Negative from.0 }
+    requires ends { All (IsState automaton.old Positive) ends.now }
+    ensures { OnOk result (IsWider automaton.old automaton.new) }
+{
     for end in ends {
         automaton.add_flow(from, StateId(*end))?;
     }
     Ok(())
 }
 
+// The same set once more.
+fn copied_set(set: &StateSet) -> Result<StateSet, Memory>
+    ensures { IfOk result (λ copy. copy ≡ set.now) }
+{
+    let copy = set.clone()?;
+    Ok(copy)
+}
+
 // Adds a state with the head and the edges of this one.
-fn push_twin(automaton: &mut Automaton, state: StateId) -> Result<StateId, Memory> {
-    let head = automaton.head(state).clone()?;
-    let ends = automaton.partners(state).clone()?;
+fn push_twin(automaton: &mut Automaton, state: StateId) -> Result<StateId, Memory>
+    requires closed { IsClosed automaton.old }
+    requires state { IsState automaton.old Negative state.0 }
+    ensures wider { OnOk result (IsWider automaton.old automaton.new) }
+    ensures twin { IfOk result (λ twin. IsState automaton.new Negative twin.0) }
+{
+    let head = copied_head(automaton.head(state))?;
+    let ends = copied_set(automaton.partners(state))?;
     let twin = automaton.state(Polarity::Negative, head)?;
     push_edges(automaton, twin, ends.as_slice())?;
     Ok(twin)
 }
 
 // The same type, where each binder has a state of its own behind those that are there.
-fn with_own_states(alloc: Global, scheme: Scheme) -> Result<Scheme, Memory> {
+fn with_own_states(alloc: Global, scheme: Scheme) -> Result<Scheme, Memory>
+    requires { IsScheme scheme }
+    ensures { IfOk result IsScheme }
+{
     let mut automaton = scheme.automaton;
     let mut env = Env::new(alloc);
     for entry in scheme.env.as_slice() {
@@ -77,7 +112,9 @@ pub(crate) fn first_type_of(
     solved: &Automaton,
     root: usize,
     binders: &[(usize, usize)],
-) -> Result<Scheme, Memory> {
+) -> Result<Scheme, Memory>
+    ensures { IfOk result IsScheme }
+{
     let scheme = Scheme {
         automaton: solved.copy()?,
         env: env_of(alloc, binders)?,
@@ -87,5 +124,6 @@ pub(crate) fn first_type_of(
         return Err(Memory);
     }
     let simple = simplify(alloc, &scheme)?;
-    with_own_states(alloc, simple)
+    let own = with_own_states(alloc, simple)?;
+    Ok(own)
 }

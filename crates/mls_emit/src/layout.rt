@@ -9,10 +9,10 @@ mod distinct;
 pub(crate) mod leaves;
 pub mod numbers;
 pub(crate) mod owned;
-mod partners;
+pub(crate) mod partners;
 pub(crate) mod parts;
 pub(crate) mod planned;
-mod sources;
+pub(crate) mod sources;
 mod states;
 pub(crate) mod values;
 
@@ -111,8 +111,9 @@ pub fn lay_out(
 {
     let mut book = book;
     let leaves = push_leaves(&mut book)?;
-    let own = owned_of(alloc, a, book.len())?;
-    let sources = sources_of(alloc, a, leaves, pairs, type_places, book.len())?;
+    let start = book.len();
+    let own = owned_of(alloc, a, start)?;
+    let sources = sources_of(alloc, a, leaves, pairs, type_places, start)?;
     let mut trees = PlannedTrees::new(alloc, sources.end);
     let values = plan_values(alloc, &mut trees, a, found, &sources)?;
     let places = plan_states(alloc, &mut trees, a, &sources, &values)?;

@@ -76,8 +76,8 @@ fn raised(state: usize, up: usize) -> Result<usize, Memory>
     Ok(raised)
 }
 
-// The same head once more.
-fn copied_head(head: &Head) -> Result<Head, Memory>
+/// The same head once more.
+pub(crate) fn copied_head(head: &Head) -> Result<Head, Memory>
     ensures { IfOk result (λ copy. copy ≡ head.now) }
 {
     let copy = head.clone()?;
@@ -381,8 +381,8 @@ impl Posing {
     {
         let first = self.push_copy(known)?;
         let root = raised(known.root.0, first)?;
-        self.copies.insert(node, first)?;
         self.roots.insert(node, root)?;
+        self.copies.insert(node, first)?;
         Ok(())
     }
 
@@ -395,8 +395,8 @@ impl Posing {
     {
         let first = self.push_copy(known)?;
         let root = self.root(second);
-        self.copies.insert(node, first)?;
         self.roots.insert(node, root)?;
+        self.copies.insert(node, first)?;
         Ok(())
     }
 
@@ -510,8 +510,8 @@ fn push_field(
     Ok(())
 }
 
-// The same label once more.
-fn copied_label(label: &Name) -> Result<Name, Memory>
+/// The same label once more.
+pub(crate) fn copied_label(label: &Name) -> Result<Name, Memory>
     ensures { IfOk result (λ copy. copy ≡ label.now) }
 {
     let copy = label.clone()?;

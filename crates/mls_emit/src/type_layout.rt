@@ -1,19 +1,28 @@
 //! The nodes of a type.
-ghost use Rattle.std.specs.Prelude.{IfOk};
+ghost use Rattle.std.specs.Prelude.{◌≡◌, ◌<◌, ◌+◌, ◌++◌, ℕ, [], length, get_or, IfOk, OnOk};
+ghost use Rattle.mls_book.specs.Books.{IsClosedBook};
+ghost use Rattle.mls_automaton.specs.Automata.{polarity_at};
+ghost use Rattle.mls_emit.specs.LaidOut.{place_of};
+ghost use Rattle.mls_emit.specs.Trees.{IsNodeIn};
+ghost use Rattle.mls_emit.specs.steps.Owned.{HaveTrees};
+ghost use Rattle.mls_emit.specs.steps.Planned.{Extends};
+ghost use Rattle.mls_emit.specs.steps.Sources.{AreBelow, parts_in, partners_in};
+ghost use Rattle.mls_emit.specs.steps.TypeNodes.{AddsVariables, IsOfType};
 
 use crate::layout::Places;
 use crate::layout::leaves::push_leaves;
 use crate::layout::owned::push_own;
+use crate::layout::partners::{add, no_partners};
 use crate::layout::parts::parts_of;
 use crate::layout::planned::{PlannedTrees, after};
+use crate::layout::sources::Sources;
 use crate::layout::values::add_all;
 use crate::tree::NodeIds;
 use mls_automaton::automaton::{Automaton, Flow};
 use mls_automaton::scheme::Scheme;
 use mls_automaton::state_set::StateId;
-use mls_base::list::List;
 use mls_base::memory::Memory;
-use mls_book::book::{Book, Node, NodeId};
+use mls_book::book::{Book, Node};
 use std::alloc::Global;
 
 /// A book with the nodes of a type, the nodes of the type's states, and the number behind its last variable.
@@ -24,24 +33,6 @@ pub(crate) struct TypeLaidOut {
     pub(crate) variables: usize,
 }
 
-// Adds a node to the list of a state, where there is such a state.
-fn add_variable(lists: &mut Vec<NodeIds>, s: StateId, id: NodeId) -> Result<(), Memory> {
-    if s.0 >= lists.len() {
-        return Ok(());
-    }
-    lists[s.0].push(id)?;
-    Ok(())
-}
-
-// So many empty lists.
-fn no_variables(alloc: Global, states: usize) -> Result<Vec<NodeIds>, Memory> {
-    let mut lists = Vec::with_capacity(alloc, states)?;
-    for _ in 0..states {
-        lists.push(NodeIds::new(alloc))?;
-    }
-    Ok(lists)
-}
-
 // Adds a variable for each edge, numbered from this one on, and answers for each of so many states the nodes of the
 // variables of its edges.
 fn push_variables(
@@ -50,49 +41,52 @@ fn push_variables(
     states: usize,
     flows: &[Flow],
     first: usize,
-) -> Result<Vec<NodeIds>, Memory> {
-    let mut lists = no_variables(alloc, states)?;
+) -> Result<Vec<NodeIds>, Memory>
+    ensures { IfOk result (λ lists. AddsVariables states book.old book.new lists.items) }
+{
+    let mut lists = no_partners(alloc, states)?;
     let mut variable = first;
     for flow in flows {
         let id = book.push(Node::Var(variable))?;
-        add_variable(&mut lists, flow.negative, id)?;
-        add_variable(&mut lists, flow.positive, id)?;
+        add(&mut lists, flow.negative.0, id)?;
+        add(&mut lists, flow.positive.0, id)?;
         variable = after(variable, 1)?;
     }
     Ok(lists)
 }
 
-// The nodes of a state in a list of them.
-fn nodes_at<'a>(lists: &'a [NodeIds], s: usize) -> &'a [NodeId] {
-    match lists.get(s) {
-        Some(ids) => ids.as_slice(),
-        None => &[],
-    }
-}
-
 // What a state is the tree of: the parts of its head, and the variables of its edges.
-fn members_of(alloc: Global, parts: &[NodeId], variables: &[NodeId]) -> Result<NodeIds, Memory> {
+fn members_of(alloc: Global, sources: &Sources, s: usize) -> Result<NodeIds, Memory>
+    ensures { IfOk result (λ ids. ids ≡ parts_in sources.now s ++ partners_in sources.now s) }
+{
     let mut ids = NodeIds::new(alloc);
-    add_all(&mut ids, parts)?;
-    add_all(&mut ids, variables)?;
+    add_all(&mut ids, sources.parts(s))?;
+    add_all(&mut ids, sources.partners(s))?;
     Ok(ids)
 }
 
 // Plans the nodes of all states: joins and meets of the parts of their heads and of variables.
-fn plan_states(
+fn plan_types(
     alloc: Global,
     trees: &mut PlannedTrees,
     a: &Automaton,
-    parts: &[NodeIds],
-    variables: &[NodeIds],
-    past: NodeId,
-) -> Result<Places, Memory> {
+    sources: &Sources,
+) -> Result<Places, Memory>
+    requires { AreBelow sources.now trees.old.start }
+    ensures extends { OnOk result (Extends trees.old trees.new) }
+    ensures past { IfOk result (λ places. places.past ≡ sources.now.nothing) }
+    ensures trees { IfOk result (λ places. HaveTrees trees.new (polarity_at a.now) (IsOfType sources.now)
+        (length a.now.states) places.nodes) }
+{
     let mut nodes = NodeIds::new(alloc);
     for s in 0..a.len() {
-        let members = members_of(alloc, nodes_at(parts, s), nodes_at(variables, s))?;
+        let members = members_of(alloc, sources, s)?;
         nodes.push(trees.plan(alloc, a.polarity(StateId(s)), &members)?)?;
     }
-    Ok(Places { nodes, past })
+    Ok(Places {
+        nodes,
+        past: sources.nothing,
+    })
 }
 
 /// The nodes of the states of a type, behind those of the book. Each edge is a variable, numbered from this one on in
@@ -106,7 +100,11 @@ pub(crate) fn lay_out_type(
     book: Book,
     scheme: &Scheme,
     first_variable: usize,
-) -> Result<TypeLaidOut, Memory> {
+) -> Result<TypeLaidOut, Memory>
+    ensures closed { IfOk result (λ laid. IsClosedBook book → IsClosedBook laid.book) }
+    ensures places { IfOk result (λ laid. (s : ℕ) → place_of laid.places s < length laid.book) }
+    ensures variables { IfOk result (λ laid. laid.variables ≡ first_variable + length scheme.now.automaton.flows) }
+{
     let a = &scheme.automaton;
     if !a.is_closed() {
         return Err(Memory);
@@ -117,15 +115,14 @@ pub(crate) fn lay_out_type(
     let variables = push_variables(alloc, &mut book, a.len(), a.flows(), first_variable)?;
     let leaves = push_leaves(&mut book)?;
     let parts = parts_of(alloc, a, leaves, book.len())?;
-    let mut trees = PlannedTrees::new(alloc, parts.end);
-    let places = plan_states(
-        alloc,
-        &mut trees,
-        a,
-        parts.nodes.as_slice(),
-        variables.as_slice(),
-        leaves.nothing,
-    )?;
+    let sources = Sources {
+        parts: parts.nodes,
+        partners: variables,
+        nothing: leaves.nothing,
+        end: parts.end,
+    };
+    let mut trees = PlannedTrees::new(alloc, sources.end);
+    let places = plan_types(alloc, &mut trees, a, &sources)?;
     push_own(alloc, &mut book, &mut trees, a, &places)?;
     trees.push_onto(&mut book)?;
     Ok(TypeLaidOut {

@@ -1,4 +1,6 @@
 //! The pairs of states of two types that a walk from their roots and binders meets.
+ghost use Rattle.std.specs.Prelude.{◌≡◌, ◌<◌, [], All, IfOk, IsTrue, OnOk, length};
+ghost use Rattle.mls_emit.specs.steps.Walking.{AddsAtMost, AreAlike, IsPairAlike};
 
 use mls_automaton::automaton::{Arms, Automaton, FieldSet, FieldSets, Head};
 use mls_automaton::scheme::{EnvEntry, Scheme};
@@ -21,7 +23,9 @@ struct Met {
 
 impl Met {
     // No pair.
-    fn new(alloc: Global) -> Met {
+    fn new(alloc: Global) -> Met
+        ensures { result.pairs ≡ [] }
+    {
         Met {
             pairs: List::new(alloc),
             marked: BTreeSet::new(alloc),
@@ -29,12 +33,16 @@ impl Met {
     }
 
     // How many pairs there are.
-    fn len(&self) -> usize {
+    fn len(&self) -> usize
+        ensures { result ≡ length self.now.pairs }
+    {
         self.pairs.len()
     }
 
     // Adds a pair, unless it is there.
-    fn add(&mut self, pair: (usize, usize)) -> Result<(), Memory> {
+    fn add(&mut self, pair: (usize, usize)) -> Result<(), Memory>
+        ensures { OnOk result (AddsAtMost self.old.pairs self.new.pairs pair) }
+    {
         if self.marked.contains(&pair) {
             return Ok(());
         }
@@ -53,7 +61,10 @@ impl Met {
         general: &Automaton,
         special: &Automaton,
         pairs: &Numbers,
-    ) -> Result<(), Memory> {
+    ) -> Result<(), Memory>
+        requires { All (IsPairAlike general.now special.now) self.old.pairs }
+        ensures { OnOk result (All (IsPairAlike general.now special.now) self.new.pairs) }
+    {
         for pair in pairs.as_slice() {
             if are_alike(general, special, *pair) {
                 self.add(*pair)?;
@@ -64,7 +75,9 @@ impl Met {
 }
 
 // Whether both states are there and have one polarity.
-fn are_alike(general: &Automaton, special: &Automaton, pair: (usize, usize)) -> bool {
+fn are_alike(general: &Automaton, special: &Automaton, pair: (usize, usize)) -> bool
+    ensures { IsTrue result → AreAlike general.now special.now pair.0 pair.1 }
+{
     let (g, s) = pair;
     g < general.len()
         && s < special.len()
@@ -142,22 +155,18 @@ fn behind(
     alloc: Global,
     general: &Automaton,
     special: &Automaton,
-    met: &Met,
+    met: &[StatePair],
     place: usize,
-) -> Result<Numbers, Memory> {
-    match met.pairs.as_slice().get(place) {
-        None => Ok(Numbers::new(alloc)),
-        Some(pair) => {
-            if !are_alike(general, special, (pair.general.0, pair.special.0)) {
-                return Ok(Numbers::new(alloc));
-            }
-            named_by(
-                alloc,
-                general.head(pair.general),
-                special.head(pair.special),
-            )
-        }
-    }
+) -> Result<Numbers, Memory>
+    requires place { place < length met.now }
+    requires alike { All (IsPairAlike general.now special.now) met.now }
+{
+    let pair = met[place];
+    named_by(
+        alloc,
+        general.head(pair.general),
+        special.head(pair.special),
+    )
 }
 
 // The states of binders by their numbers.
@@ -193,7 +202,9 @@ pub(crate) fn walk_of(
     alloc: Global,
     general: &Scheme,
     special: &Scheme,
-) -> Result<List<StatePair>, Memory> {
+) -> Result<List<StatePair>, Memory>
+    ensures { IfOk result (All (IsPairAlike general.now.automaton special.now.automaton)) }
+{
     let mut met = Met::new(alloc);
     let ends = ends_of(alloc, general, special)?;
     met.add_alike(&general.automaton, &special.automaton, &ends)?;
@@ -201,7 +212,13 @@ pub(crate) fn walk_of(
         if place >= met.len() {
             return Ok(met.pairs);
         }
-        let named = behind(alloc, &general.automaton, &special.automaton, &met, place)?;
+        let named = behind(
+            alloc,
+            &general.automaton,
+            &special.automaton,
+            met.pairs.as_slice(),
+            place,
+        )?;
         met.add_alike(&general.automaton, &special.automaton, &named)?;
     }
     Err(Memory)

@@ -11,8 +11,8 @@ use mls_book::book::NodeId;
 use mls_subsume::verdict::StatePair;
 use std::alloc::Global;
 
-// So many empty lists.
-fn no_partners(alloc: Global, states: usize) -> Result<Vec<NodeIds>, Memory>
+/// So many empty lists.
+pub(crate) fn no_partners(alloc: Global, states: usize) -> Result<Vec<NodeIds>, Memory>
     ensures length { IfOk result (λ lists. length lists.items ≡ states) }
     ensures none { IfOk result (λ lists. (s : ℕ) → get_or lists.items s [] ≡ []) }
 {
@@ -23,8 +23,8 @@ fn no_partners(alloc: Global, states: usize) -> Result<Vec<NodeIds>, Memory>
     Ok(lists)
 }
 
-// Adds a node to the list of a state, where there is such a state.
-fn add(lists: &mut Vec<NodeIds>, s: usize, id: NodeId) -> Result<(), Memory>
+/// Adds a node to the list of a state, where there is such a state.
+pub(crate) fn add(lists: &mut Vec<NodeIds>, s: usize, id: NodeId) -> Result<(), Memory>
     ensures length { OnOk result (length lists.new.items ≡ length lists.old.items) }
     ensures added { OnOk result ((t i : ℕ) → t < length lists.old.items → IsNodeIn (get_or lists.new.items t []) i
         ↔ IsNodeIn (get_or lists.old.items t []) i ⊎ ((s ≡ t) × (id.0 ≡ i))) }

@@ -13,7 +13,7 @@ plan_values-requires-clause-low c =
     subst (λ (plan : Planned). AreBelow c.in_ok-sources.sources plan.start) (sym c.new-trees.ensures)
     (known_below c.args.book c.push_leaves.new.book c.args.a.now c.in_ok-leaves.leaves c.in_ok-sources.sources c.args.pairs.now (place_of c.args.type_places.now) c.in_ok-sources.sources.end
     c.requires.places c.in_ok-leaves.ensures
-    (subst (λ n. AreParted c.args.a.now c.in_ok-leaves.leaves n (length c.args.a.now.states) c.in_ok-sources.sources.end c.in_ok-sources.sources.parts) c.len.ensures.len c.in_ok-sources.ensures.parts)
+    (subst (λ n. AreParted c.args.a.now c.in_ok-leaves.leaves n (length c.args.a.now.states) c.in_ok-sources.sources.end c.in_ok-sources.sources.parts) c.len-start.ensures.len c.in_ok-sources.ensures.parts)
     c.in_ok-sources.ensures.partners c.in_ok-sources.ensures.nothing)
 
 pub plan_states-requires-clause-low : goal.plan_states-requires-clause-low
@@ -21,7 +21,7 @@ plan_states-requires-clause-low c =
     subst (AreBelow c.in_ok-sources.sources) (sym (c.in_ok-values.ensures.extends.start ∙ ap (λ (plan : Planned). plan.start) c.new-trees.ensures))
     (known_below c.args.book c.push_leaves.new.book c.args.a.now c.in_ok-leaves.leaves c.in_ok-sources.sources c.args.pairs.now (place_of c.args.type_places.now) c.in_ok-sources.sources.end
     c.requires.places c.in_ok-leaves.ensures
-    (subst (λ n. AreParted c.args.a.now c.in_ok-leaves.leaves n (length c.args.a.now.states) c.in_ok-sources.sources.end c.in_ok-sources.sources.parts) c.len.ensures.len c.in_ok-sources.ensures.parts)
+    (subst (λ n. AreParted c.args.a.now c.in_ok-leaves.leaves n (length c.args.a.now.states) c.in_ok-sources.sources.end c.in_ok-sources.sources.parts) c.len-start.ensures.len c.in_ok-sources.ensures.parts)
     c.in_ok-sources.ensures.partners c.in_ok-sources.ensures.nothing)
 
 pub plan_states-requires-clause-values : goal.plan_states-requires-clause-values
@@ -30,7 +30,7 @@ plan_states-requires-clause-values c =
     let below =
     known_below c.args.book c.push_leaves.new.book c.args.a.now c.in_ok-leaves.leaves c.in_ok-sources.sources c.args.pairs.now (place_of c.args.type_places.now) c.in_ok-sources.sources.end
     c.requires.places c.in_ok-leaves.ensures
-    (subst (λ n. AreParted c.args.a.now c.in_ok-leaves.leaves n (length c.args.a.now.states) c.in_ok-sources.sources.end c.in_ok-sources.sources.parts) c.len.ensures.len c.in_ok-sources.ensures.parts)
+    (subst (λ n. AreParted c.args.a.now c.in_ok-leaves.leaves n (length c.args.a.now.states) c.in_ok-sources.sources.end c.in_ok-sources.sources.parts) c.len-start.ensures.len c.in_ok-sources.ensures.parts)
     c.in_ok-sources.ensures.partners c.in_ok-sources.ensures.nothing in
     places_below c.plan_values.new.trees (λ s. Positive) (λ s. IsEntering c.args.a.now (Holds c.args.found.now) c.in_ok-sources.sources (polarity_at c.args.a.now s) s) (length c.args.a.now.states)
     c.in_ok-values.values c.in_ok-values.ensures.trees
@@ -42,7 +42,7 @@ push_own-requires-clause-low c =
     let below =
     known_below c.args.book c.push_leaves.new.book c.args.a.now c.in_ok-leaves.leaves c.in_ok-sources.sources c.args.pairs.now (place_of c.args.type_places.now) c.in_ok-sources.sources.end
     c.requires.places c.in_ok-leaves.ensures
-    (subst (λ n. AreParted c.args.a.now c.in_ok-leaves.leaves n (length c.args.a.now.states) c.in_ok-sources.sources.end c.in_ok-sources.sources.parts) c.len.ensures.len c.in_ok-sources.ensures.parts)
+    (subst (λ n. AreParted c.args.a.now c.in_ok-leaves.leaves n (length c.args.a.now.states) c.in_ok-sources.sources.end c.in_ok-sources.sources.parts) c.len-start.ensures.len c.in_ok-sources.ensures.parts)
     c.in_ok-sources.ensures.partners c.in_ok-sources.ensures.nothing in
     places_below c.plan_states.new.trees (polarity_at c.args.a.now) (λ s. IsPlaced c.args.a.now c.in_ok-sources.sources (place_of c.in_ok-values.values) (polarity_at c.args.a.now s) s) (length c.args.a.now.states)
     c.in_ok-places.places c.in_ok-places.ensures.trees
@@ -53,14 +53,14 @@ push_onto-requires c =
     let starts = c.in_ok-push_own.ensures.extends.start ∙ (c.in_ok-places.ensures.extends.start ∙ (c.in_ok-values.ensures.extends.start ∙ ap (λ (plan : Planned). plan.start) c.new-trees.ensures)) in
     starts
     ∙ (c.in_ok-sources.ensures.parts.counted
-    ∙ (ap (λ n. n + own_before c.args.a.now (length c.args.a.now.states)) c.len.ensures.len ∙ sym c.in_ok-push_own.ensures.adds.size))
+    ∙ (ap (λ n. n + own_before c.args.a.now (length c.args.a.now.states)) c.len-start.ensures.len ∙ sym c.in_ok-push_own.ensures.adds.size))
 
 pub returns : goal.returns
 returns c =
     laid_out c.args.book c.push_leaves.new.book c.push_own.new.book c.push_onto.new.book c.args.a.now c.in_ok-leaves.leaves c.in_ok-sources.sources c.args.found.now c.args.pairs.now
     (place_of c.args.type_places.now) c.in_ok-sources.sources.end c.plan_values.new.trees c.plan_states.new.trees c.push_own.new.trees c.in_ok-values.values c.in_ok-places.places
     c.requires.book c.requires.closed c.requires.places c.in_ok-leaves.ensures
-    (subst (λ n. AreParted c.args.a.now c.in_ok-leaves.leaves n (length c.args.a.now.states) c.in_ok-sources.sources.end c.in_ok-sources.sources.parts) c.len.ensures.len c.in_ok-sources.ensures.parts)
+    (subst (λ n. AreParted c.args.a.now c.in_ok-leaves.leaves n (length c.args.a.now.states) c.in_ok-sources.sources.end c.in_ok-sources.sources.parts) c.len-start.ensures.len c.in_ok-sources.ensures.parts)
     c.in_ok-sources.ensures.partners c.in_ok-sources.ensures.nothing
     (c.in_ok-values.ensures.extends.start ∙ ap (λ (plan : Planned). plan.start) c.new-trees.ensures) c.in_ok-values.ensures.trees c.in_ok-values.ensures.past
     c.in_ok-places.ensures.extends c.in_ok-places.ensures.trees c.in_ok-places.ensures.past
