@@ -102,12 +102,11 @@ pub fn lay_out(
     pairs: &[StatePair],
     type_places: &Places,
 ) -> Result<LaidOut, Memory>
-    requires book { IsClosedBook book }
     requires closed { IsClosed a.now }
     requires related { HoldsStates a.now found.now }
     requires places { (s : ℕ) → place_of type_places.now s < length book }
-    ensures { IfOk result (λ laid. LaysOut book a.now found.now pairs.now (place_of type_places.now) laid.book
-        (place_of laid.places)) }
+    ensures { IfOk result (λ laid. IsClosedBook book
+        → LaysOut book a.now found.now pairs.now (place_of type_places.now) laid.book (place_of laid.places)) }
 {
     let mut book = book;
     let leaves = push_leaves(&mut book)?;

@@ -62,9 +62,10 @@ fn own_children(owners: &mut Owners, form: &TermForm, root: usize) {
 
 // The root of the part of each node: parents stand behind their children, so they are looked at before them.
 fn owners_of(alloc: Global, nodes: &[TermNode]) -> Result<Owners, Memory> {
+    let last = nodes.len().saturating_sub(1);
     let mut owners = Owners::new(alloc);
-    for _ in 0..nodes.len() {
-        owners.push(nodes.len() - 1)?;
+    for _ in nodes {
+        owners.push(last)?;
     }
     for back in 0..nodes.len() {
         let i = nodes.len() - 1 - back;

@@ -38,8 +38,8 @@ fn copied(alloc: Global, env: &[BinderNode]) -> Result<BinderNodes, Memory> {
     Ok(copy)
 }
 
-// The node of a binder, where binders rise.
-fn node_of(env: &[BinderNode], binder: usize) -> Option<NodeId> {
+/// The node of a binder, where binders rise.
+pub(crate) fn node_of(env: &[BinderNode], binder: usize) -> Option<NodeId> {
     match env.binary_search_by(|entry| entry.binder.cmp(&binder)) {
         Ok(at) => Some(env[at].node),
         Err(_) => None,

@@ -4,7 +4,7 @@
 use crate::derive::binders::{add_binders, both, keys};
 use crate::derive::known::{FirstPart, FirstParts, Globals};
 use crate::derive::puts::{Puts, global_puts, let_puts};
-use crate::derive::steps::{Conclusion, Steps};
+use crate::derive::steps::{Conclusion, Steps, node_of};
 use crate::layout::LaidOut;
 use crate::pose::{KnownTypes, Posing};
 use mls_base::list::List;
@@ -36,14 +36,6 @@ pub(crate) struct Writer {
 // The number behind this one, by so many.
 fn behind(number: usize, by: usize) -> Result<usize, Memory> {
     number.checked_add(by).ok_or(Memory)
-}
-
-// The node of a binder, where it has one.
-fn node_at(env: &[BinderNode], binder: usize) -> Option<NodeId> {
-    match env.binary_search_by(|entry| entry.binder.cmp(&binder)) {
-        Ok(at) => Some(env[at].node),
-        Err(_) => None,
-    }
 }
 
 // The node of the field with this label.
@@ -397,7 +389,7 @@ impl Writer {
         let mut met = BinderNodes::new(alloc);
         let binders = both(alloc, first, second)?;
         for binder in binders.as_slice() {
-            let node = match (node_at(first, *binder), node_at(second, *binder)) {
+            let node = match (node_of(first, *binder), node_of(second, *binder)) {
                 (Some(left), Some(right)) => self.meet(left, right)?,
                 (Some(left), None) => left,
                 (None, Some(right)) => right,

@@ -56,10 +56,10 @@ push_onto-requires c =
     ∙ (ap (λ n. n + own_before c.args.a.now (length c.args.a.now.states)) c.len-start.ensures.len ∙ sym c.in_ok-push_own.ensures.adds.size))
 
 pub returns : goal.returns
-returns c =
+returns c = λ closed_book.
     laid_out c.args.book c.push_leaves.new.book c.push_own.new.book c.push_onto.new.book c.args.a.now c.in_ok-leaves.leaves c.in_ok-sources.sources c.args.found.now c.args.pairs.now
     (place_of c.args.type_places.now) c.in_ok-sources.sources.end c.plan_values.new.trees c.plan_states.new.trees c.push_own.new.trees c.in_ok-values.values c.in_ok-places.places
-    c.requires.book c.requires.closed c.requires.places c.in_ok-leaves.ensures
+    closed_book c.requires.closed c.requires.places c.in_ok-leaves.ensures
     (subst (λ n. AreParted c.args.a.now c.in_ok-leaves.leaves n (length c.args.a.now.states) c.in_ok-sources.sources.end c.in_ok-sources.sources.parts) c.len-start.ensures.len c.in_ok-sources.ensures.parts)
     c.in_ok-sources.ensures.partners c.in_ok-sources.ensures.nothing
     (c.in_ok-values.ensures.extends.start ∙ ap (λ (plan : Planned). plan.start) c.new-trees.ensures) c.in_ok-values.ensures.trees c.in_ok-values.ensures.past
