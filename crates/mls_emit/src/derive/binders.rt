@@ -88,30 +88,16 @@ pub(crate) fn both(
     let mut met = BTreeMap::new(alloc);
     add_binders(&mut met, first)?;
     add_binders(&mut met, second)?;
-    keys(alloc, &met)
-}
-
-/// Adds the binders of an environment.
-///
-/// # Errors
-///
-/// `Memory` where memory is wanting.
-pub(crate) fn add_binders(met: &mut BTreeMap<usize, ()>, env: &[BinderNode]) -> Result<(), Memory> {
-    for entry in env {
-        met.insert(entry.binder, ())?;
-    }
-    Ok(())
-}
-
-/// The keys, in rising order.
-///
-/// # Errors
-///
-/// `Memory` where memory is wanting.
-pub(crate) fn keys(alloc: Global, met: &BTreeMap<usize, ()>) -> Result<Numbers, Memory> {
     let mut binders = Numbers::new(alloc);
     for (binder, _) in met.iter() {
         binders.push(*binder)?;
     }
     Ok(binders)
+}
+
+fn add_binders(met: &mut BTreeMap<usize, ()>, env: &[BinderNode]) -> Result<(), Memory> {
+    for entry in env {
+        met.insert(entry.binder, ())?;
+    }
+    Ok(())
 }

@@ -344,7 +344,7 @@ fn replace_steps(steps: &mut Steps, alloc: Global) -> Steps {
 /// # Errors
 ///
 /// `Memory` where memory is wanting.
-pub(crate) fn written(
+pub(crate) fn write_section(
     alloc: Global,
     declared: &[ReadScheme],
     entries: &[SigEntry],

@@ -30,7 +30,12 @@ pub(crate) struct Steps {
     pub(crate) count: usize,
 }
 
-fn copied(alloc: Global, env: &[BinderNode]) -> Result<BinderNodes, Memory> {
+/// The same environment once more.
+///
+/// # Errors
+///
+/// `Memory` where memory is wanting.
+pub(crate) fn copied(alloc: Global, env: &[BinderNode]) -> Result<BinderNodes, Memory> {
     let mut copy = BinderNodes::new(alloc);
     for entry in env {
         copy.push(*entry)?;

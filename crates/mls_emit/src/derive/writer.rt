@@ -1,10 +1,10 @@
 //! The lines of a part, written node by node: each has the step of its rule, behind those that bring its parts to the
 //! types that the rule asks for.
 
-use crate::derive::binders::{add_binders, both, keys};
+use crate::derive::binders::both;
 use crate::derive::known::{FirstPart, FirstParts, Globals};
 use crate::derive::puts::{Puts, global_puts, let_puts};
-use crate::derive::steps::{Conclusion, Steps, node_of};
+use crate::derive::steps::{Conclusion, Steps, copied, node_of};
 use crate::layout::LaidOut;
 use crate::pose::{KnownTypes, Posing};
 use mls_base::list::List;
@@ -30,7 +30,14 @@ pub(crate) struct PartView<'a> {
 pub(crate) struct Writer {
     pub(crate) laid: LaidOut,
     pub(crate) steps: Steps,
-    pub(crate) concluded: BTreeMap<usize, Conclusion>,
+    pub(crate) concluded: BTreeMap<usize, Concluded>,
+}
+
+/// What a node concludes: a binder may have any type, and another node has a step.
+#[derive(Drop)]
+pub(crate) enum Concluded {
+    Bound(usize),
+    Step(Conclusion),
 }
 
 // The number behind this one, by so many.
@@ -44,6 +51,12 @@ fn field_at(fields: &[Field], label: &Name) -> Result<NodeId, Memory> {
         Some(field) => Ok(field.node),
         None => Err(Memory),
     }
+}
+
+// A step as what a node concludes.
+fn stepped(own: Result<Conclusion, Memory>) -> Result<Concluded, Memory> {
+    let own = own?;
+    Ok(Concluded::Step(own))
 }
 
 // An environment in which this binder has this node, and the others are as before.
@@ -120,46 +133,65 @@ impl Writer {
         }
     }
 
-    // The nodes of binders.
-    fn env(
-        &self,
-        alloc: Global,
-        view: &PartView,
-        binders: &[usize],
-    ) -> Result<BinderNodes, Memory> {
-        let mut env = BinderNodes::new(alloc);
-        for binder in binders {
-            env.push(BinderNode {
-                binder: *binder,
-                node: self.place(view.posing.binder(*binder)),
-            })?;
-        }
-        Ok(env)
-    }
-
-    // The binders of what a node concludes, with their nodes.
-    fn env_of(&self, alloc: Global, view: &PartView, node: usize) -> Result<BinderNodes, Memory> {
-        let of = self.concluded.get(&node).ok_or(Memory)?;
-        let binders = both(alloc, of.env.as_slice(), &[])?;
-        self.env(alloc, view, binders.as_slice())
-    }
-
-    // The binders of an environment and of what a node concludes, with their nodes.
-    fn env_with(
+    // These binders with their own nodes.
+    fn placed(
         &self,
         alloc: Global,
         view: &PartView,
         env: &[BinderNode],
-        node: usize,
     ) -> Result<BinderNodes, Memory> {
-        let of = self.concluded.get(&node).ok_or(Memory)?;
-        let binders = both(alloc, env, of.env.as_slice())?;
-        self.env(alloc, view, binders.as_slice())
+        let mut placed = BinderNodes::new(alloc);
+        for entry in env {
+            placed.push(BinderNode {
+                binder: entry.binder,
+                node: self.place(view.posing.binder(entry.binder)),
+            })?;
+        }
+        Ok(placed)
     }
 
-    // What a node concludes; it is asked for once.
-    fn take(&mut self, node: usize) -> Result<Conclusion, Memory> {
-        self.concluded.remove(&node).ok_or(Memory)
+    // The environment in which a node has this type with least effort: a binder may have it itself, and what still
+    // puts variables in goes to the own nodes of its binders.
+    fn offered(
+        &self,
+        alloc: Global,
+        view: &PartView,
+        node: usize,
+        root: NodeId,
+    ) -> Result<BinderNodes, Memory> {
+        match self.concluded.get(&node).ok_or(Memory)? {
+            Concluded::Bound(x) => with(alloc, &[], *x, root),
+            Concluded::Step(of) => match of.puts.is_empty() {
+                true => copied(alloc, of.env.as_slice()),
+                false => self.placed(alloc, view, of.env.as_slice()),
+            },
+        }
+    }
+
+    // Both environments in one: where a binder has two nodes, it goes to its own.
+    fn joined(
+        &self,
+        alloc: Global,
+        view: &PartView,
+        first: &[BinderNode],
+        second: &[BinderNode],
+    ) -> Result<BinderNodes, Memory> {
+        let mut env = BinderNodes::new(alloc);
+        let binders = both(alloc, first, second)?;
+        for binder in binders.as_slice() {
+            let node = match (node_of(first, *binder), node_of(second, *binder)) {
+                (Some(left), Some(right)) if left == right => left,
+                (Some(_), Some(_)) => self.place(view.posing.binder(*binder)),
+                (Some(left), None) => left,
+                (None, Some(right)) => right,
+                (None, None) => return Err(Memory),
+            };
+            env.push(BinderNode {
+                binder: *binder,
+                node,
+            })?;
+        }
+        Ok(env)
     }
 
     /// The step of a node that has this type and environment.
@@ -174,29 +206,18 @@ impl Writer {
         env: &[BinderNode],
         root: NodeId,
     ) -> Result<usize, Memory> {
-        let from = self.take(node)?;
+        let from = match self.concluded.remove(&node).ok_or(Memory)? {
+            Concluded::Bound(x) => {
+                let own = with(alloc, &[], x, root)?;
+                self.steps
+                    .step(alloc, node, StepRule::Var, own.as_slice(), root)?
+            }
+            Concluded::Step(from) => from,
+        };
         let to = self
             .steps
             .adapt(alloc, &self.laid.book, node, from, env, root)?;
         Ok(to.step)
-    }
-
-    // A use of a binder: the type is its own node.
-    fn bound(
-        &mut self,
-        alloc: Global,
-        view: &PartView,
-        node: usize,
-        x: usize,
-    ) -> Result<Conclusion, Memory> {
-        let place = self.place(view.posing.binder(x));
-        let mut env = BinderNodes::new(alloc);
-        env.push(BinderNode {
-            binder: x,
-            node: place,
-        })?;
-        self.steps
-            .step(alloc, node, StepRule::Var, env.as_slice(), place)
     }
 
     // A name of the environment, whose variables stand for nodes of the copy of its type.
@@ -255,6 +276,11 @@ impl Writer {
         Ok(own)
     }
 
+    // A number or a truth value.
+    fn literal(&mut self, alloc: Global, node: usize, root: NodeId) -> Result<Conclusion, Memory> {
+        self.steps.step(alloc, node, StepRule::Lit, &[], root)
+    }
+
     fn fun(
         &mut self,
         alloc: Global,
@@ -264,7 +290,7 @@ impl Writer {
         body: usize,
     ) -> Result<Conclusion, Memory> {
         let (arrow, from, to) = self.function(view.posing.root(node))?;
-        let own = self.env_of(alloc, view, body)?;
+        let own = self.offered(alloc, view, body, to)?;
         let inner = with(alloc, own.as_slice(), x, from)?;
         let step = self.adapted(alloc, body, inner.as_slice(), to)?;
         let env = without(alloc, own.as_slice(), x)?;
@@ -282,8 +308,9 @@ impl Writer {
     ) -> Result<Conclusion, Memory> {
         let upper = behind(view.posing.root(node), 2)?;
         let (arrow, from, to) = self.function(upper)?;
-        let upper = self.env_of(alloc, view, function)?;
-        let env = self.env_with(alloc, view, upper.as_slice(), argument)?;
+        let left = self.offered(alloc, view, function, arrow)?;
+        let right = self.offered(alloc, view, argument, from)?;
+        let env = self.joined(alloc, view, left.as_slice(), right.as_slice())?;
         let first = self.adapted(alloc, function, env.as_slice(), arrow)?;
         let second = self.adapted(alloc, argument, env.as_slice(), from)?;
         self.steps.step(
@@ -311,20 +338,21 @@ impl Writer {
         Ok(steps)
     }
 
-    // The binders of what the parts of a record conclude, with their nodes.
+    // The environment of the parts of a record.
     fn env_of_parts(
         &self,
         alloc: Global,
         view: &PartView,
+        record: NodeId,
         parts: &[Part],
     ) -> Result<BinderNodes, Memory> {
-        let mut met = BTreeMap::new(alloc);
+        let mut env = BinderNodes::new(alloc);
         for part in parts {
-            let of = self.concluded.get(&part.child).ok_or(Memory)?;
-            add_binders(&mut met, of.env.as_slice())?;
+            let field = self.field(record, &part.label)?;
+            let offered = self.offered(alloc, view, part.child, field)?;
+            env = self.joined(alloc, view, env.as_slice(), offered.as_slice())?;
         }
-        let binders = keys(alloc, &met)?;
-        self.env(alloc, view, binders.as_slice())
+        Ok(env)
     }
 
     fn make(
@@ -335,7 +363,7 @@ impl Writer {
         parts: &[Part],
     ) -> Result<Conclusion, Memory> {
         let record = self.record(view.posing.root(node))?;
-        let env = self.env_of_parts(alloc, view, parts)?;
+        let env = self.env_of_parts(alloc, view, record, parts)?;
         let steps = self.parts(alloc, record, env.as_slice(), parts)?;
         self.steps
             .step(alloc, node, StepRule::Make(steps), env.as_slice(), record)
@@ -352,7 +380,7 @@ impl Writer {
         let upper = behind(view.posing.root(node), 2)?;
         let record = self.record(upper)?;
         let field = self.field(record, label)?;
-        let env = self.env_of(alloc, view, body)?;
+        let env = self.offered(alloc, view, body, record)?;
         let step = self.adapted(alloc, body, env.as_slice(), record)?;
         self.steps
             .step(alloc, node, StepRule::Proj(step), env.as_slice(), field)
@@ -369,9 +397,11 @@ impl Writer {
     ) -> Result<Conclusion, Memory> {
         let into = self.place(behind(view.posing.root(node), 1)?);
         let truth = self.laid.boolean;
-        let lower = self.env_of(alloc, view, condition)?;
-        let middle = self.env_with(alloc, view, lower.as_slice(), first)?;
-        let env = self.env_with(alloc, view, middle.as_slice(), second)?;
+        let left = self.offered(alloc, view, condition, truth)?;
+        let middle = self.offered(alloc, view, first, into)?;
+        let right = self.offered(alloc, view, second, into)?;
+        let upper = self.joined(alloc, view, left.as_slice(), middle.as_slice())?;
+        let env = self.joined(alloc, view, upper.as_slice(), right.as_slice())?;
         let asked = self.adapted(alloc, condition, env.as_slice(), truth)?;
         let yes = self.adapted(alloc, first, env.as_slice(), into)?;
         let no = self.adapted(alloc, second, env.as_slice(), into)?;
@@ -422,8 +452,8 @@ impl Writer {
         second: usize,
     ) -> Result<Conclusion, Memory> {
         let part = view.firsts.get(&k).ok_or(Memory)?;
-        let env = self.env_of(alloc, view, second)?;
         let root = self.place(view.posing.root(second));
+        let env = self.offered(alloc, view, second, root)?;
         let step = self.adapted(alloc, second, env.as_slice(), root)?;
         let met = self.meets(alloc, part.env.as_slice(), env.as_slice())?;
         let rule = StepRule::Let(part.step, step);
@@ -443,7 +473,7 @@ impl Writer {
         body: usize,
     ) -> Result<Conclusion, Memory> {
         let root = self.place(view.posing.root(body));
-        let own = self.env_of(alloc, view, body)?;
+        let own = self.offered(alloc, view, body, root)?;
         let inner = with(alloc, own.as_slice(), x, root)?;
         let step = self.adapted(alloc, body, inner.as_slice(), root)?;
         let env = without(alloc, own.as_slice(), x)?;
@@ -451,33 +481,33 @@ impl Writer {
             .step(alloc, node, StepRule::Rec(step), env.as_slice(), root)
     }
 
-    // The step of a node's rule, with what leads to it.
+    // What a node concludes by its rule, behind what its rule asks for.
     fn write_form(
         &mut self,
         alloc: Global,
         view: &PartView,
         node: usize,
         form: &TermForm,
-    ) -> Result<Conclusion, Memory> {
-        let integer = self.laid.integer;
-        let boolean = self.laid.boolean;
+    ) -> Result<Concluded, Memory> {
         match form {
-            TermForm::Bound(x) => self.bound(alloc, view, node, *x),
-            TermForm::Inner(k) => self.inner(alloc, view, node, *k),
-            TermForm::Global(g) => self.global(alloc, view, node, *g),
-            TermForm::Number(_) => self.steps.step(alloc, node, StepRule::Lit, &[], integer),
-            TermForm::Truth(_) => self.steps.step(alloc, node, StepRule::Lit, &[], boolean),
-            TermForm::Fun(x, body) => self.fun(alloc, view, node, *x, *body),
+            TermForm::Bound(x) => Ok(Concluded::Bound(*x)),
+            TermForm::Inner(k) => stepped(self.inner(alloc, view, node, *k)),
+            TermForm::Global(g) => stepped(self.global(alloc, view, node, *g)),
+            TermForm::Number(_) => stepped(self.literal(alloc, node, self.laid.integer)),
+            TermForm::Truth(_) => stepped(self.literal(alloc, node, self.laid.boolean)),
+            TermForm::Fun(x, body) => stepped(self.fun(alloc, view, node, *x, *body)),
             TermForm::Apply(function, argument) => {
-                self.apply(alloc, view, node, *function, *argument)
+                stepped(self.apply(alloc, view, node, *function, *argument))
             }
-            TermForm::Make(parts) => self.make(alloc, view, node, parts.as_slice()),
-            TermForm::Project(body, label) => self.project(alloc, view, node, *body, label),
+            TermForm::Make(parts) => stepped(self.make(alloc, view, node, parts.as_slice())),
+            TermForm::Project(body, label) => {
+                stepped(self.project(alloc, view, node, *body, label))
+            }
             TermForm::If(condition, first, second) => {
-                self.choice(alloc, view, node, *condition, *first, *second)
+                stepped(self.choice(alloc, view, node, *condition, *first, *second))
             }
-            TermForm::Let(k, _, second) => self.let_in(alloc, view, node, *k, *second),
-            TermForm::Rec(x, body) => self.recursion(alloc, view, node, *x, *body),
+            TermForm::Let(k, _, second) => stepped(self.let_in(alloc, view, node, *k, *second)),
+            TermForm::Rec(x, body) => stepped(self.recursion(alloc, view, node, *x, *body)),
         }
     }
 
