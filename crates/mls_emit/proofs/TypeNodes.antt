@@ -22,7 +22,7 @@ use Rattle.mls_emit.specs.Trees.{IsNodeIn}
 use Rattle.mls_emit.specs.steps.Owned.{HaveTrees, AddsStates}
 use Rattle.mls_emit.specs.steps.Planned.{Planned, Extends, AddsPlanned, end_of}
 use Rattle.mls_emit.specs.steps.Sources.{AddsLeaves, AreBelow, AreParted, own_before, parts_in, partners_in}
-use Rattle.mls_emit.specs.steps.TypeNodes.{AddsVariables, IsOfType, IsVariable}
+use Rattle.mls_emit.specs.steps.TypeNodes.{AddsSources, AddsVariables, IsOfType, IsVariable}
 use Rattle.mls_emit.proofs.KnownNodes.{parts_below}
 use Rattle.mls_emit.proofs.OwnNodes.{all_children_more}
 use Rattle.mls_emit.proofs.PartsLaidOut.{leaves_book, past_below, places_below, trees_closed}
@@ -115,11 +115,24 @@ variables_book old (x ∷ more) book are =
     (variables_book (old ++ x ∷ []) more (book_pushed old x book (variable_ordered (length old) x (All-head IsVariable x more are))) (All-tail IsVariable x more are))
 
 -- a type that is laid out: variables, leaves, functions and records, and then the planned trees
-module _ (old zero one two new : List Node) (a : Automaton) (leaves : Leaves) (sources : Sources) (start : ℕ) (first plan : Planned) (places : Places)
-    (varied : AddsVariables (length a.states) old zero sources.partners.items) (leaved : AddsLeaves zero one leaves)
-    (parted : AreParted a leaves (length one) (length a.states) start sources.parts) (unnamed : sources.nothing ≡ leaves.nothing) where
-  N : ℕ
-  N = length a.states
+module _ (old one two new : List Node) (a : Automaton) (sources : Sources) (first plan : Planned) (places : Places) (it : AddsSources a old one sources) where
+  abbrev zero : List Node
+  zero = it.between
+
+  abbrev leaves : Leaves
+  leaves = it.leaves
+
+  abbrev start : ℕ
+  start = sources.end
+
+  varied : AddsVariables (length a.states) old zero sources.partners.items
+  varied = it.variables
+
+  leaved : AddsLeaves zero one leaves
+  leaved = it.added
+
+  parted : AreParted a leaves (length one) (length a.states) start sources.parts
+  parted = it.parts
 
   size_one : length one ≡ length zero + 3
   size_one = ap length leaved.longer ∙ length-append zero (node.Bool ∷ node.Int ∷ node.Bot ∷ [])
@@ -130,9 +143,9 @@ module _ (old zero one two new : List Node) (a : Automaton) (leaves : Leaves) (s
         parts_below a leaves (length one) (length a.states) start sources.parts parted
         (let is : leaves.boolean.0 ≡ length zero = leaved.boolean in omega (arith, is, size_one))
         (let is : leaves.integer.0 ≡ length zero + 1 = leaved.integer in omega (arith, is, size_one));
-    partners = λ s i it. partner s i it (below_or_more s (length a.states));
+    partners = λ s i there. partner s i there (below_or_more s (length a.states));
     nothing =
-        let same : sources.nothing.0 ≡ leaves.nothing.0 = ap (λ (id : NodeId). id.0) unnamed in
+        let same : sources.nothing.0 ≡ leaves.nothing.0 = ap (λ (id : NodeId). id.0) it.nothing in
         let is : leaves.nothing.0 ≡ length zero + 2 = leaved.nothing in
         omega (arith, same, is, size_one, longer);
   }
@@ -141,10 +154,10 @@ module _ (old zero one two new : List Node) (a : Automaton) (leaves : Leaves) (s
       longer = let e : start ≡ length one + own_before a (length a.states) = parted.counted in omega (arith, e)
 
       partner : (s i : ℕ) → IsNodeIn (partners_in sources s) i → (s < length a.states) ⊎ ((j : ℕ) × (s ≡ length a.states + j)) → i < start
-      partner s i it (inl low) = let h : i < length zero = varied.low s i low it in omega (arith, h, size_one, longer)
-      partner s i it (inr (j, e)) =
+      partner s i there (inl low) = let h : i < length zero = varied.low s i low there in omega (arith, h, size_one, longer)
+      partner s i there (inr (j, e)) =
           let all : length sources.partners.items ≡ length a.states = varied.size in
-          absurd (nothing (record { 0 = i }) (subst (λ (ids : List NodeId). IsNodeIn ids i) (get_or_past sources.partners.items s [] (omega (arith, all, e))) it))
+          absurd (nothing (record { 0 = i }) (subst (λ (ids : List NodeId). IsNodeIn ids i) (get_or_past sources.partners.items s [] (omega (arith, all, e))) there))
 
   module _ (starts : first.start ≡ start) (placed : HaveTrees first (polarity_at a) (IsOfType sources) (length a.states) places.nodes) (past : places.past ≡ sources.nothing) where
     pub first_places : (s : ℕ) → place_of places s < end_of first
@@ -199,11 +212,11 @@ module _ (old zero one two new : List Node) (a : Automaton) (leaves : Leaves) (s
       leaves_low = All-cons Low node.Bool (node.Int ∷ node.Bot ∷ []) tt (All-cons Low node.Int (node.Bot ∷ []) tt (All-cons Low node.Bot [] tt (All-nil Low)))
 
       pub type_closed : IsClosedBook old → IsClosedBook new
-      type_closed it = record {
-        book = book_new it.book;
+      type_closed is = record {
+        book = book_new is.book;
         closed =
             subst (All Low) (sym all_longer)
-            (All-append Low old (varied.more ++ (leaf_nodes ++ (owned.more ++ planned.more))) (olds it.closed)
+            (All-append Low old (varied.more ++ (leaf_nodes ++ (owned.more ++ planned.more))) (olds is.closed)
             (All-append Low varied.more (leaf_nodes ++ (owned.more ++ planned.more)) (All-weaker IsVariable Low (variable_children (length new)) varied.more varied.are)
-            (All-append Low leaf_nodes (owned.more ++ planned.more) leaves_low (All-append Low owned.more planned.more owns (trees it.book)))));
+            (All-append Low leaf_nodes (owned.more ++ planned.more) leaves_low (All-append Low owned.more planned.more owns (trees is.book)))));
       }

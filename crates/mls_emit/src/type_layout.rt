@@ -7,7 +7,7 @@ ghost use Rattle.mls_emit.specs.Trees.{IsNodeIn};
 ghost use Rattle.mls_emit.specs.steps.Owned.{HaveTrees};
 ghost use Rattle.mls_emit.specs.steps.Planned.{Extends};
 ghost use Rattle.mls_emit.specs.steps.Sources.{AreBelow, parts_in, partners_in};
-ghost use Rattle.mls_emit.specs.steps.TypeNodes.{AddsVariables, IsOfType};
+ghost use Rattle.mls_emit.specs.steps.TypeNodes.{AddsSources, AddsVariables, IsOfType};
 
 use crate::layout::Places;
 use crate::layout::leaves::push_leaves;
@@ -89,6 +89,28 @@ fn plan_types(
     })
 }
 
+// Adds the variables and the leaves. Functions and records get the numbers behind these.
+fn push_sources(
+    alloc: Global,
+    book: &mut Book,
+    a: &Automaton,
+    first_variable: usize,
+) -> Result<Sources, Memory>
+    ensures { IfOk result (AddsSources a.now book.old book.new) }
+{
+    let states = a.len();
+    let variables = push_variables(alloc, book, states, a.flows(), first_variable)?;
+    let leaves = push_leaves(book)?;
+    let start = book.len();
+    let parts = parts_of(alloc, a, leaves, start)?;
+    Ok(Sources {
+        parts: parts.nodes,
+        partners: variables,
+        nothing: leaves.nothing,
+        end: parts.end,
+    })
+}
+
 /// The nodes of the states of a type, behind those of the book. Each edge is a variable, numbered from this one on in
 /// the order of the edges. A state is the join of the parts of its head and of the variables of its edges, or their
 /// meet where it is negative.
@@ -111,16 +133,8 @@ pub(crate) fn lay_out_type(
     }
     let alloc = scheme.env.allocator();
     let mut book = book;
-    let behind = after(first_variable, a.flows().len())?;
-    let variables = push_variables(alloc, &mut book, a.len(), a.flows(), first_variable)?;
-    let leaves = push_leaves(&mut book)?;
-    let parts = parts_of(alloc, a, leaves, book.len())?;
-    let sources = Sources {
-        parts: parts.nodes,
-        partners: variables,
-        nothing: leaves.nothing,
-        end: parts.end,
-    };
+    let variables = after(first_variable, a.flows().len())?;
+    let sources = push_sources(alloc, &mut book, a, first_variable)?;
     let mut trees = PlannedTrees::new(alloc, sources.end);
     let places = plan_types(alloc, &mut trees, a, &sources)?;
     push_own(alloc, &mut book, &mut trees, a, &places)?;
@@ -128,6 +142,6 @@ pub(crate) fn lay_out_type(
     Ok(TypeLaidOut {
         book,
         places,
-        variables: behind,
+        variables,
     })
 }
