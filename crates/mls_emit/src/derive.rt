@@ -24,7 +24,7 @@ use mls_deriv::verify::{Verified, verify};
 use mls_iface::signature::{SigEntry, Signature};
 use mls_term::term::{Resolved, ResolvedBinding};
 use mls_typetext::scheme::{Names, ReadScheme};
-use section::write_section;
+use section::{scheme_of, write_section};
 use std::alloc::Global;
 
 // The same name once more.
@@ -61,7 +61,7 @@ fn section_of(
     ensures text { IfOk result (λ s. s.text ≡ entry.now.text) }
 {
     let nodes = binding.term.nodes.as_slice();
-    let written = write_section(alloc, declared, entries, nodes, &entry.scheme)?;
+    let written = write_section(alloc, declared, entries, nodes, scheme_of(entry))?;
     Ok(Section {
         name: copied_name(&entry.name)?,
         text: copied_bytes(alloc, entry.text.as_slice())?,

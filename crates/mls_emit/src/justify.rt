@@ -1,11 +1,13 @@
-//! Whether a pair of nodes is shown by one look at both, and by other pairs, in any book: its labels need not rise.
+//! Whether a pair of nodes is shown by one look at both, and by other pairs, in any book: its labels need not rise, but
+//! they are looked up by halves where they do.
 ghost use Rattle.std.specs.Prelude.{◌≡◌, ◌↔◌, ◌⊎◌, IsTrue, All};
-ghost use Rattle.mls_book.specs.Books.{node_at};
+ghost use Rattle.mls_book.specs.Books.{AreRising, node_at};
 ghost use Rattle.mls_deriv.specs.Pairs.{exchanged};
 ghost use Rattle.mls_deriv.specs.inner.PairRules.{ByLeft, ByRight, ByBoth, ByNodes, LabelFits, AllLabelsFit};
 ghost use Rattle.mls_deriv.specs.inner.PairRules.{left_node, right_node, IsShown};
 ghost use Rattle.mls_deriv.specs.inner.Tables.{Holds, put_in};
 
+use crate::labelled::labelled;
 use mls_book::book::{Book, Fields, Node, NodeId};
 use mls_book::name::Name;
 use mls_deriv::derivation::Mode;
@@ -67,12 +69,21 @@ fn by_right(table: &Table, mode: Mode, i: usize, right: &Node) -> bool
 }
 
 /// Whether the left record has this label with a lower field, if the right one has it.
-fn label_fits(table: &Table, mode: Mode, fields: &Fields, others: &Fields, label: &Name) -> bool
+fn label_fits(
+    table: &Table,
+    mode: Mode,
+    fields: &Fields,
+    others: &Fields,
+    are_rising: bool,
+    label: &Name,
+) -> bool
+    requires fields { IsTrue are_rising → AreRising fields.now }
+    requires others { IsTrue are_rising → AreRising others.now }
     ensures { IsTrue result ↔ LabelFits (Holds table.now) mode fields.now others.now label.now }
 {
-    match others.get(label) {
+    match labelled(others, are_rising, label) {
         None => true,
-        Some(k) => match fields.get(label) {
+        Some(k) => match labelled(fields, are_rising, label) {
             None => false,
             Some(m) => table.holds(mode, m.0, k.0),
         },
@@ -80,18 +91,28 @@ fn label_fits(table: &Table, mode: Mode, fields: &Fields, others: &Fields, label
 }
 
 /// Whether each field of the right record is in the left one and lower there.
-fn labels_fit(table: &Table, mode: Mode, fields: &Fields, others: &Fields) -> bool
+fn labels_fit(table: &Table, mode: Mode, fields: &Fields, others: &Fields, are_rising: bool) -> bool
+    requires fields { IsTrue are_rising → AreRising fields.now }
+    requires others { IsTrue are_rising → AreRising others.now }
     ensures { IsTrue result ↔ All (λ field. LabelFits
         (Holds table.now) mode fields.now others.now field.label) others.now }
 {
-    others.as_slice().iter().all(|field| label_fits(table, mode, fields, others, &field.label))
+    others.as_slice().iter().all(|field| label_fits(
+        table,
+        mode,
+        fields,
+        others,
+        are_rising,
+        &field.label,
+    ))
 }
 
 /// Whether the left record is shown to be below the right one.
 fn records_fit(table: &Table, mode: Mode, fields: &Fields, others: &Fields) -> bool
     ensures { IsTrue result ↔ AllLabelsFit (Holds table.now) mode fields.now others.now }
 {
-    labels_fit(table, mode, fields, others)
+    let are_rising = fields.is_rising() && others.is_rising();
+    labels_fit(table, mode, fields, others, are_rising)
 }
 
 /// The mode with its sides exchanged.

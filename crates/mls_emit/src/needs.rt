@@ -1,12 +1,14 @@
 //! The pairs that the rules name for a pair of nodes.
-ghost use Rattle.std.specs.Prelude.{◌≡◌, ◌++◌, ◌∷◌, [], IfOk, OnOk};
+ghost use Rattle.std.specs.Prelude.{◌≡◌, ◌++◌, ◌∷◌, [], IfOk, IsTrue, OnOk};
 ghost use Rattle.std.specs.List.{flat_map};
+ghost use Rattle.mls_book.specs.Books.{AreRising};
 ghost use Rattle.mls_deriv.specs.Pairs.{exchanged};
 ghost use Rattle.mls_deriv.specs.inner.PairRules.{left_node, right_node};
 ghost use Rattle.mls_deriv.specs.inner.Tables.{put_in};
 ghost use Rattle.mls_emit.specs.PairLists.{pair_of};
 ghost use Rattle.mls_emit.specs.steps.Needs.{both_needs, field_needs, left_needs, needs_of, node_needs, right_needs};
 
+use crate::labelled::labelled;
 use crate::pairs::Pairs;
 use mls_base::memory::Memory;
 use mls_book::book::{Book, Field, Fields, Node, NodeId};
@@ -107,10 +109,17 @@ fn push_right(
 }
 
 // Adds the pair of a field of the right record, where the left one has its label.
-fn push_field(needs: &mut Pairs, mode: Mode, fields: &Fields, other: &Field) -> Result<(), Memory>
+fn push_field(
+    needs: &mut Pairs,
+    mode: Mode,
+    fields: &Fields,
+    is_rising: bool,
+    other: &Field,
+) -> Result<(), Memory>
+    requires { IsTrue is_rising → AreRising fields.now }
     ensures { OnOk result (needs.new ≡ needs.old ++ field_needs mode fields.now other.now) }
 {
-    match fields.get(&other.label) {
+    match labelled(fields, is_rising, &other.label) {
         None => Ok(()),
         Some(m) => push(needs, mode, m.0, other.node.0),
     }
@@ -125,8 +134,9 @@ pub(crate) fn push_fields(
 ) -> Result<(), Memory>
     ensures { OnOk result (needs.new ≡ needs.old ++ flat_map (field_needs mode fields.now) others.now) }
 {
+    let is_rising = fields.is_rising();
     for other in others.as_slice() {
-        push_field(needs, mode, fields, other)?;
+        push_field(needs, mode, fields, is_rising, other)?;
     }
     Ok(())
 }

@@ -1,8 +1,10 @@
 //! The pairs of states of two types that a walk from their roots and binders meets.
 ghost use Rattle.std.specs.Prelude.{◌≡◌, ◌<◌, [], All, IfOk, IsTrue, OnOk, length};
+ghost use Rattle.mls_automaton.specs.Heads.{AreRising};
 ghost use Rattle.mls_emit.specs.steps.Walking.{AddsAtMost, AreAlike, IsPairAlike};
 
 use mls_automaton::automaton::{Arms, Automaton, FieldSet, FieldSets, Head};
+use mls_automaton::lookup::set_of;
 use mls_automaton::scheme::{EnvEntry, Scheme};
 use mls_automaton::state_set::{StateId, StateSet};
 use mls_base::list::List;
@@ -107,8 +109,10 @@ fn push_arms(into: &mut Numbers, general: &Arms, special: &Arms) -> Result<(), M
 }
 
 // Adds what the fields with one label name, where the general record has that label.
-fn push_field(into: &mut Numbers, general: &FieldSets, special: &FieldSet) -> Result<(), Memory> {
-    match general.get(&special.label) {
+fn push_field(into: &mut Numbers, general: &FieldSets, special: &FieldSet) -> Result<(), Memory>
+    requires { AreRising general.now }
+{
+    match set_of(general.as_slice(), &special.label) {
         None => Ok(()),
         Some(set) => push_sets(into, set, &special.set),
     }
@@ -120,6 +124,9 @@ fn push_fields(
     general: &FieldSets,
     special: &[FieldSet],
 ) -> Result<(), Memory> {
+    if !general.is_rising() {
+        return Err(Memory);
+    }
     for field in special {
         push_field(into, general, field)?;
     }

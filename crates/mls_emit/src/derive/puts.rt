@@ -17,6 +17,18 @@ use std::collections::BTreeMap;
 /// Nodes for variables.
 pub(crate) type Puts = List<Put>;
 
+/// Adds nodes for variables.
+///
+/// # Errors
+///
+/// `Memory` where memory is wanting.
+pub(crate) fn add_puts(puts: &mut Puts, others: &[Put]) -> Result<(), Memory> {
+    for put in others {
+        puts.push(*put)?;
+    }
+    Ok(())
+}
+
 // The join of nodes of the book.
 fn joined(book: &mut Book, ids: &NodeIds) -> Result<NodeId, Memory> {
     let length = book.len();

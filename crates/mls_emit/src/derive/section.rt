@@ -1,5 +1,5 @@
 //! The section of a binding, part by part.
-ghost use Rattle.std.specs.Prelude.{All, IfSome};
+ghost use Rattle.std.specs.Prelude.{◌≡◌, All, IfSome};
 ghost use Rattle.mls_automaton.specs.Models.{IsClosed};
 ghost use Rattle.mls_biunify.specs.Rooms.{HoldsStates};
 ghost use Rattle.mls_iface.specs.Matches.{IsRead};
@@ -69,10 +69,19 @@ fn read_at<'a>(
     if g < declared.len() {
         return Some(&declared[g]);
     }
-    match entries.get(g - declared.len()) {
-        Some(entry) => Some(&entry.scheme),
-        None => None,
+    let behind = g - declared.len();
+    if behind < entries.len() {
+        return Some(scheme_of(&entries[behind]));
     }
+    None
+}
+
+/// What the text of an entry is read as.
+pub(crate) fn scheme_of(entry: &SigEntry) -> &ReadScheme
+    requires { IsEntry entry.now }
+    ensures { IsRead result.now }
+{
+    &entry.scheme
 }
 
 // The nodes of a book, each as its own state.
@@ -159,6 +168,10 @@ impl Draft {
         let read = read_at(declared, entries, g).ok_or(Memory)?;
         let scheme = scheme_of_read(alloc, read)?;
         let global = put_global(alloc, &mut self.book, read, &scheme)?;
+        // The variables of first parts come behind those of all names, since both may be put in at once.
+        if read.vars > self.variable {
+            self.variable = read.vars;
+        }
         self.globals.insert(g, global)?;
         self.known.globals.insert(g, scheme)?;
         Ok(())
@@ -233,10 +246,10 @@ impl Draft {
             root: StateId(root),
         };
         let pairs = walk_of(alloc, &general, &at.scheme)?;
-        if !at.places.are_below(self.book.len()) {
+        let book = replace_book(&mut self.book, alloc);
+        if !at.places.are_below(book.len()) {
             return Err(Memory);
         }
-        let book = replace_book(&mut self.book, alloc);
         lay_out(
             alloc,
             book,
@@ -273,8 +286,9 @@ impl Draft {
         let env = type_env(alloc, at)?;
         let type_root = at.places.node(at.scheme.root.0);
         let step = writer.adapted(alloc, root, env.as_slice(), type_root)?;
-        self.book = writer.laid.book;
+        let laid = writer.laid;
         self.steps = writer.steps;
+        self.book = laid.book;
         Ok(step)
     }
 
@@ -330,7 +344,9 @@ impl Draft {
 }
 
 // Takes the book out.
-fn replace_book(book: &mut Book, alloc: Global) -> Book {
+fn replace_book(book: &mut Book, alloc: Global) -> Book
+    ensures { result ≡ book.old }
+{
     std::mem::replace(book, Book::new(alloc))
 }
 

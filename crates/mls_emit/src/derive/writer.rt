@@ -3,13 +3,15 @@
 
 use crate::derive::binders::both;
 use crate::derive::known::{FirstPart, FirstParts, Globals};
-use crate::derive::puts::{Puts, global_puts, let_puts};
+use crate::derive::puts::{Puts, add_puts, global_puts, let_puts};
 use crate::derive::steps::{Conclusion, Steps, copied, node_of};
+use crate::labelled::labelled;
 use crate::layout::LaidOut;
 use crate::pose::{KnownTypes, Posing};
+use crate::tree::NodeIds;
 use mls_base::list::List;
 use mls_base::memory::Memory;
-use mls_book::book::{Field, Node, NodeId};
+use mls_book::book::{Fields, Node, NodeId};
 use mls_book::name::Name;
 use mls_deriv::derivation::{BinderNode, BinderNodes, StepRule};
 use mls_term::term::{Part, TermForm, TermNode};
@@ -46,11 +48,18 @@ fn behind(number: usize, by: usize) -> Result<usize, Memory> {
 }
 
 // The node of the field with this label.
-fn field_at(fields: &[Field], label: &Name) -> Result<NodeId, Memory> {
-    match fields.iter().find(|field| field.label == *label) {
-        Some(field) => Ok(field.node),
-        None => Err(Memory),
+fn field_at(fields: &Fields, label: &Name) -> Result<NodeId, Memory> {
+    labelled(fields, fields.is_rising(), label).ok_or(Memory)
+}
+
+// The nodes of the fields with the labels of these parts.
+fn fields_at(alloc: Global, fields: &Fields, parts: &[Part]) -> Result<NodeIds, Memory> {
+    let is_rising = fields.is_rising();
+    let mut nodes = NodeIds::new(alloc);
+    for part in parts {
+        nodes.push(labelled(fields, is_rising, &part.label).ok_or(Memory)?)?;
     }
+    Ok(nodes)
 }
 
 // A step as what a node concludes.
@@ -128,7 +137,7 @@ impl Writer {
             return Err(Memory);
         }
         match self.laid.book.node(record) {
-            Node::Rcd(fields) => field_at(fields.as_slice(), label),
+            Node::Rcd(fields) => field_at(fields, label),
             _ => Err(Memory),
         }
     }
@@ -322,17 +331,28 @@ impl Writer {
         )
     }
 
+    // The nodes of the fields of a record at the labels of these parts.
+    fn fields(&self, alloc: Global, record: NodeId, parts: &[Part]) -> Result<NodeIds, Memory> {
+        if record.0 >= self.laid.book.len() {
+            return Err(Memory);
+        }
+        match self.laid.book.node(record) {
+            Node::Rcd(fields) => fields_at(alloc, fields, parts),
+            _ => Err(Memory),
+        }
+    }
+
     // The steps of the parts of a record at the types of its fields.
     fn parts(
         &mut self,
         alloc: Global,
-        record: NodeId,
+        fields: &[NodeId],
         env: &[BinderNode],
         parts: &[Part],
     ) -> Result<List<usize>, Memory> {
         let mut steps = List::new(alloc);
-        for part in parts {
-            let field = self.field(record, &part.label)?;
+        for (number, part) in parts.iter().enumerate() {
+            let field = *fields.get(number).ok_or(Memory)?;
             steps.push(self.adapted(alloc, part.child, env, field)?)?;
         }
         Ok(steps)
@@ -343,12 +363,12 @@ impl Writer {
         &self,
         alloc: Global,
         view: &PartView,
-        record: NodeId,
+        fields: &[NodeId],
         parts: &[Part],
     ) -> Result<BinderNodes, Memory> {
         let mut env = BinderNodes::new(alloc);
-        for part in parts {
-            let field = self.field(record, &part.label)?;
+        for (number, part) in parts.iter().enumerate() {
+            let field = *fields.get(number).ok_or(Memory)?;
             let offered = self.offered(alloc, view, part.child, field)?;
             env = self.joined(alloc, view, env.as_slice(), offered.as_slice())?;
         }
@@ -363,8 +383,9 @@ impl Writer {
         parts: &[Part],
     ) -> Result<Conclusion, Memory> {
         let record = self.record(view.posing.root(node))?;
-        let env = self.env_of_parts(alloc, view, record, parts)?;
-        let steps = self.parts(alloc, record, env.as_slice(), parts)?;
+        let fields = self.fields(alloc, record, parts)?;
+        let env = self.env_of_parts(alloc, view, fields.as_slice(), parts)?;
+        let steps = self.parts(alloc, fields.as_slice(), env.as_slice(), parts)?;
         self.steps
             .step(alloc, node, StepRule::Make(steps), env.as_slice(), record)
     }
@@ -442,7 +463,20 @@ impl Writer {
         self.laid.book.push(node)
     }
 
-    // A let, whose binders go back to their nodes where its first part needs some.
+    // The step of a node's rule, whatever its type is; a binder has its own node.
+    fn plain(&mut self, alloc: Global, view: &PartView, node: usize) -> Result<Conclusion, Memory> {
+        match self.concluded.remove(&node).ok_or(Memory)? {
+            Concluded::Bound(x) => {
+                let place = self.place(view.posing.binder(x));
+                let own = with(alloc, &[], x, place)?;
+                self.steps
+                    .step(alloc, node, StepRule::Var, own.as_slice(), place)
+            }
+            Concluded::Step(from) => Ok(from),
+        }
+    }
+
+    // A let. Where its first part needs binders, its variables are put in with those of its second part.
     fn let_in(
         &mut self,
         alloc: Global,
@@ -452,14 +486,16 @@ impl Writer {
         second: usize,
     ) -> Result<Conclusion, Memory> {
         let part = view.firsts.get(&k).ok_or(Memory)?;
-        let root = self.place(view.posing.root(second));
-        let env = self.offered(alloc, view, second, root)?;
-        let step = self.adapted(alloc, second, env.as_slice(), root)?;
-        let met = self.meets(alloc, part.env.as_slice(), env.as_slice())?;
-        let rule = StepRule::Let(part.step, step);
-        let mut own = self.steps.step(alloc, node, rule, met.as_slice(), root)?;
+        let inner = self.plain(alloc, view, second)?;
+        let met = self.meets(alloc, part.env.as_slice(), inner.env.as_slice())?;
+        let rule = StepRule::Let(part.step, inner.step);
+        let mut own = self
+            .steps
+            .step(alloc, node, rule, met.as_slice(), inner.root)?;
+        own.puts = inner.puts;
         if !part.env.is_empty() {
-            own.puts = self.puts_of_let(alloc, view, node, k, part)?;
+            let puts = self.puts_of_let(alloc, view, node, k, part)?;
+            add_puts(&mut own.puts, puts.as_slice())?;
         }
         Ok(own)
     }
