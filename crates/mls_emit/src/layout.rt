@@ -4,6 +4,7 @@ ghost use Rattle.mls_book.specs.Books.{IsClosedBook};
 ghost use Rattle.mls_automaton.specs.Models.{IsClosed};
 ghost use Rattle.mls_biunify.specs.Rooms.{HoldsStates};
 ghost use Rattle.mls_emit.specs.LaidOut.{LaysOut, node_of, place_of};
+ghost use Rattle.mls_emit.specs.steps.OwnNumbers.{node_in};
 
 mod distinct;
 pub(crate) mod leaves;
@@ -77,12 +78,16 @@ pub struct LaidOut {
 
 impl LaidOut {
     /// The node of the function of a state.
-    pub fn function(&self, s: usize) -> Option<NodeId> {
+    pub fn function(&self, s: usize) -> Option<NodeId>
+        ensures { result ≡ node_in self.now.own.functions s }
+    {
         self.own.function(s)
     }
 
     /// The node of the record of a state.
-    pub fn record(&self, s: usize) -> Option<NodeId> {
+    pub fn record(&self, s: usize) -> Option<NodeId>
+        ensures { result ≡ node_in self.now.own.records s }
+    {
         self.own.record(s)
     }
 }
