@@ -1,5 +1,5 @@
 //! The numbers of the nodes of functions and records.
-ghost use Rattle.std.specs.Prelude.{◌≡◌, [], IfOk, OnOk};
+ghost use Rattle.std.specs.Prelude.{◌≡◌, [], get_or, IfOk, None, OnOk};
 ghost use Rattle.mls_emit.specs.steps.OwnNumbers.{AddsNumbers, AreOwned, node_if, node_in};
 
 use crate::layout::parts::{behind, behind_own};
@@ -41,14 +41,14 @@ impl Owned {
 
     /// The node of the function of a state.
     pub fn function(&self, s: usize) -> Option<NodeId>
-        ensures { result ≡ node_in self.now.functions s }
+        ensures { result ≡ get_or self.now.functions s None }
     {
         node_in(self.functions.as_slice(), s)
     }
 
     /// The node of the record of a state.
     pub fn record(&self, s: usize) -> Option<NodeId>
-        ensures { result ≡ node_in self.now.records s }
+        ensures { result ≡ get_or self.now.records s None }
     {
         node_in(self.records.as_slice(), s)
     }
