@@ -34,7 +34,8 @@ impl Owned {
         ensures { OnOk result (AddsNumbers self.old self.new first head.now) }
     {
         let second = behind(first, head.function.is_some())?;
-        self.functions.push(node_if(head.function.is_some(), first))?;
+        self.functions
+            .push(node_if(head.function.is_some(), first))?;
         self.records.push(node_if(head.fields.is_some(), second))?;
         Ok(())
     }
