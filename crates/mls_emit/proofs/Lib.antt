@@ -90,3 +90,4 @@ mod PartLists
 mod PosableTypes
 mod Twins
 mod TypeNodes
+mod OwnNumbers

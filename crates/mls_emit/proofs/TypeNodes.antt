@@ -115,7 +115,7 @@ variables_book old (x ∷ more) book are =
     (variables_book (old ++ x ∷ []) more (book_pushed old x book (variable_ordered (length old) x (All-head IsVariable x more are))) (All-tail IsVariable x more are))
 
 -- a type that is laid out: variables, leaves, functions and records, and then the planned trees
-module _ (old one two new : List Node) (a : Automaton) (sources : Sources) (first plan : Planned) (places : Places) (it : AddsSources a old one sources) where
+module _ (old one : List Node) (a : Automaton) (sources : Sources) (it : AddsSources a old one sources) where
   abbrev zero : List Node
   zero = it.between
 
@@ -159,11 +159,11 @@ module _ (old one two new : List Node) (a : Automaton) (sources : Sources) (firs
           let all : length sources.partners.items ≡ length a.states = varied.size in
           absurd (nothing (record { 0 = i }) (subst (λ (ids : List NodeId). IsNodeIn ids i) (get_or_past sources.partners.items s [] (omega (arith, all, e))) there))
 
-  module _ (starts : first.start ≡ start) (placed : HaveTrees first (polarity_at a) (IsOfType sources) (length a.states) places.nodes) (past : places.past ≡ sources.nothing) where
+  module _ (first : Planned) (places : Places) (starts : first.start ≡ start) (placed : HaveTrees first (polarity_at a) (IsOfType sources) (length a.states) places.nodes) (past : places.past ≡ sources.nothing) where
     pub first_places : (s : ℕ) → place_of places s < end_of first
     first_places = places_below first (polarity_at a) (IsOfType sources) (length a.states) places placed (past_below sources start first places type_below starts past)
 
-    module _ (longer : Extends first plan) (owned : AddsStates plan (place_of places) a (length a.states) one two) (planned : AddsPlanned plan two new) where
+    module _ (two new : List Node) (plan : Planned) (longer : Extends first plan) (owned : AddsStates plan (place_of places) a (length a.states) one two) (planned : AddsPlanned plan two new) where
       pub type_places : (s : ℕ) → place_of places s < length new
       type_places s =
           let low : place_of places s < end_of plan =

@@ -11,3 +11,4 @@ pub mod Posable
 pub mod Twins
 pub mod TypeNodes
 pub mod Walking
+pub mod OwnNumbers

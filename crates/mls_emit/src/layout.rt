@@ -1,5 +1,5 @@
 //! The nodes of a part, laid out behind those of its type.
-ghost use Rattle.std.specs.Prelude.{◌≡◌, ◌↔◌, ℕ, ◌<◌, length, All, IfOk, IsTrue};
+ghost use Rattle.std.specs.Prelude.{◌≡◌, ◌↔◌, ℕ, ◌<◌, length, get_or, All, IfOk, IsTrue, None};
 ghost use Rattle.mls_book.specs.Books.{IsClosedBook};
 ghost use Rattle.mls_automaton.specs.Models.{IsClosed};
 ghost use Rattle.mls_biunify.specs.Rooms.{HoldsStates};
@@ -77,12 +77,16 @@ pub struct LaidOut {
 
 impl LaidOut {
     /// The node of the function of a state.
-    pub fn function(&self, s: usize) -> Option<NodeId> {
+    pub fn function(&self, s: usize) -> Option<NodeId>
+        ensures { result ≡ get_or self.now.own.functions s None }
+    {
         self.own.function(s)
     }
 
     /// The node of the record of a state.
-    pub fn record(&self, s: usize) -> Option<NodeId> {
+    pub fn record(&self, s: usize) -> Option<NodeId>
+        ensures { result ≡ get_or self.now.own.records s None }
+    {
         self.own.record(s)
     }
 }

@@ -1,4 +1,6 @@
 //! The numbers of the nodes of functions and records.
+ghost use Rattle.std.specs.Prelude.{◌≡◌, [], get_or, IfOk, None, OnOk};
+ghost use Rattle.mls_emit.specs.steps.OwnNumbers.{AddsNumbers, AreOwned, node_if, node_in};
 
 use crate::layout::parts::{behind, behind_own};
 use mls_automaton::automaton::{Automaton, Head};
@@ -17,7 +19,10 @@ pub struct Owned {
 
 impl Owned {
     // No state.
-    fn new(alloc: Global) -> Owned {
+    fn new(alloc: Global) -> Owned
+        ensures functions { result.functions ≡ [] }
+        ensures records { result.records ≡ [] }
+    {
         Owned {
             functions: List::new(alloc),
             records: List::new(alloc),
@@ -25,28 +30,45 @@ impl Owned {
     }
 
     // Adds those of a head, of which its own nodes have the numbers from this one on.
-    fn push(&mut self, first: usize, head: &Head) -> Result<(), Memory> {
+    fn push(&mut self, first: usize, head: &Head) -> Result<(), Memory>
+        ensures { OnOk result (AddsNumbers self.old self.new first head.now) }
+    {
         let second = behind(first, head.function.is_some())?;
         self.functions
-            .push(head.function.is_some().then_some(NodeId(first)))?;
-        self.records
-            .push(head.fields.is_some().then_some(NodeId(second)))?;
+            .push(node_if(head.function.is_some(), first))?;
+        self.records.push(node_if(head.fields.is_some(), second))?;
         Ok(())
     }
 
     /// The node of the function of a state.
-    pub fn function(&self, s: usize) -> Option<NodeId> {
+    pub fn function(&self, s: usize) -> Option<NodeId>
+        ensures { result ≡ get_or self.now.functions s None }
+    {
         node_in(self.functions.as_slice(), s)
     }
 
     /// The node of the record of a state.
-    pub fn record(&self, s: usize) -> Option<NodeId> {
+    pub fn record(&self, s: usize) -> Option<NodeId>
+        ensures { result ≡ get_or self.now.records s None }
+    {
         node_in(self.records.as_slice(), s)
     }
 }
 
+// The node of this number, where it is there.
+fn node_if(is_there: bool, number: usize) -> Option<NodeId>
+    ensures { result ≡ node_if is_there number }
+{
+    match is_there {
+        true => Some(NodeId(number)),
+        false => None,
+    }
+}
+
 // The node of a state.
-fn node_in(nodes: &[Option<NodeId>], s: usize) -> Option<NodeId> {
+fn node_in(nodes: &[Option<NodeId>], s: usize) -> Option<NodeId>
+    ensures { result ≡ node_in nodes.now s }
+{
     match nodes.get(s) {
         Some(node) => *node,
         None => None,
@@ -54,7 +76,9 @@ fn node_in(nodes: &[Option<NodeId>], s: usize) -> Option<NodeId> {
 }
 
 /// The nodes of the functions and records of all states, which get the numbers from `start` on.
-pub(crate) fn owned_of(alloc: Global, a: &Automaton, start: usize) -> Result<Owned, Memory> {
+pub(crate) fn owned_of(alloc: Global, a: &Automaton, start: usize) -> Result<Owned, Memory>
+    ensures { IfOk result (AreOwned a.now start) }
+{
     let mut owned = Owned::new(alloc);
     let mut end = start;
     for s in 0..a.len() {
