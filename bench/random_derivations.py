@@ -3,8 +3,8 @@
     python3 bench/random_derivations.py FOLDER SEED COUNT
 
 Each module mI.ml has a derivation mI.mld, and some an import mIk. A term and its steps are built together, from the type
-that is wanted: each step is one of the rules, and a subsumption takes its pairs from a structural walk. Types have no
-recursion. All forms of expressions and all rules stand in them.
+that is wanted: each step is one of the rules, and a subsumption takes its pairs from a structural walk. All forms of
+expressions and all rules stand in them. Types of sections may be recursive where the term is a name or a bare recursion.
 """
 
 import os
@@ -45,10 +45,33 @@ def type_of(pick, depth, positive, variables, is_polar=True):
     return ("join" if joins else "meet", inner(positive), inner(positive))
 
 
+def recursive_type_of(pick, depth, positive, around=()):
+    """A polar type that may be recursive; `around` has the recursive names, their signs and whether they are guarded."""
+    if depth <= 0 or pick.random() < 0.1:
+        innermost = {name: (sign, is_guarded) for name, sign, is_guarded in around}
+        names = [("name", name) for name, what in innermost.items() if what == (positive, True)]
+        return pick.choice([INT, BOOL, rcd({}), ("var", "a"), ("var", "b"), BOT if positive else TOP, *names * 4])
+    guarded = [(name, sign, True) for name, sign, _ in around]
+    chance = pick.random()
+    if chance < 0.25:
+        return fn(recursive_type_of(pick, depth - 1, not positive, guarded),
+                  recursive_type_of(pick, depth - 1, positive, guarded))
+    if chance < 0.55:
+        labels = pick.sample(LABELS, pick.randrange(4))
+        return ("rcd", tuple((label, recursive_type_of(pick, depth - 1, positive, guarded)) for label in labels))
+    if chance < 0.75:
+        return ("join" if positive else "meet", recursive_type_of(pick, depth - 1, positive, around),
+                recursive_type_of(pick, depth - 1, positive, around))
+    name = pick.choice("rs")
+    return ("rec", name, recursive_type_of(pick, depth - 1, positive, [*around, (name, positive, False)]))
+
+
 def text_of(read):
     kind = read[0]
-    if kind == "var":
+    if kind in ("var", "name"):
         return read[1]
+    if kind == "rec":
+        return f"(rec {read[1]}. {text_of(read[2])})"
     if kind == "fn":
         return f"({text_of(read[1])}) -> {text_of(read[2])}"
     if kind == "rcd":
@@ -65,35 +88,42 @@ def numbered(read, numbers):
         return ("var", numbers.setdefault(read[1], len(numbers)))
     if kind == "rcd":
         return ("rcd", tuple((label, numbered(part, numbers)) for label, part in read[1]))
+    if kind in ("name", "rec"):
+        return (*read[:2], *(numbered(part, numbers) for part in read[2:]))
     return (kind, *(numbered(part, numbers) for part in read[1:]))
 
 
 def book_of(read):
     """The nodes of a type by layers, and the root."""
-    nodes = []
+    nodes, bodies = [], []
 
-    def layer(part, waiting):
+    def layer(part, scope, waiting):
+        if part[0] == "name":
+            return bodies[scope[part[1]]]
+        if part[0] == "rec":
+            bodies.append(None)
+            number = len(bodies) - 1
+            bodies[number] = layer(part[2], {**scope, part[1]: number}, waiting)
+            return bodies[number]
         if part[0] in ("join", "meet"):
-            children = layer(part[1], waiting), layer(part[2], waiting)
-            nodes.append((part[0], *children))
-            return len(nodes) - 1
+            part = (part[0], layer(part[1], scope, waiting), layer(part[2], scope, waiting))
         nodes.append(part)
         if part[0] in ("fn", "rcd"):
-            waiting.append(len(nodes) - 1)
+            waiting.append((len(nodes) - 1, scope))
         return len(nodes) - 1
 
-    def place(part):
+    def place(part, scope):
         waiting = []
-        root = layer(part, waiting)
-        for number in waiting:
+        root = layer(part, scope, waiting)
+        for number, around in waiting:
             tree = nodes[number]
             if tree[0] == "fn":
-                nodes[number] = ("fn", place(tree[1]), place(tree[2]))
+                nodes[number] = ("fn", place(tree[1], around), place(tree[2], around))
             else:
-                nodes[number] = ("rcd", tuple((label, place(field)) for label, field in tree[1]))
+                nodes[number] = ("rcd", tuple(sorted((label, place(field, around)) for label, field in tree[1])))
         return root
 
-    root = place(read)
+    root = place(read, {})
     return nodes, root
 
 
@@ -428,16 +458,43 @@ class Section:
         return [*map(line_of, self.nodes), *self.lines, "end"]
 
 
-def stated(pick):
-    """The text of a type, with the type."""
-    read = type_of(pick, pick.randrange(4), True, ["a", "b"])
+def stated(pick, is_recursive=False):
+    """The text of a type, with the type and its variables."""
+    depth = pick.randrange(4)
+    read = recursive_type_of(pick, depth + 2, True) if is_recursive else type_of(pick, depth, True, ["a", "b"])
     numbers = {}
     read, text = numbered(read, numbers), text_of(read)
     return text, read, sorted(numbers.values())
 
 
+def recursive_module(pick, name):
+    """The files of a module whose types may be recursive."""
+    files, lines, text = {}, ["derivation 1"], f"import {name}k\n"
+    declared = [stated(pick, True) for _ in range(pick.randrange(1, 4))]
+    files[f"{name}k.mli"] = "".join(f"val d{each} : {what[0]}\n" for each, what in enumerate(declared))
+    for number in range(pick.randrange(1, 4)):
+        if pick.random() < 0.5:
+            shown, read, free = stated(pick, True)
+            section = Section(pick, read, len(free))
+            step = section.step(section.term(), "var", {0: section.root}, section.root)
+            step = section.step(section.term(), f"rec {step.number}", {}, section.root)
+            text += f"let v{number} = rec x -> x\n"
+        else:
+            each = pick.randrange(len(declared))
+            shown, read, free = declared[each]
+            section = Section(pick, read, len(free))
+            up = len(section.nodes)
+            section.nodes.extend(moved(node, up) for node in section.nodes[:up])
+            step = section.step(section.term(), f"name {up}", {}, up + section.root)
+            text += f"let v{number} = d{each}\n"
+        lines += [f"val v{number} : {shown}", *section.ended(step)]
+    return {**files, f"{name}.ml": text, f"{name}.mld": "".join(line + "\n" for line in lines)}
+
+
 def module(pick, name):
     """The files of a module."""
+    if pick.random() < 0.25:
+        return recursive_module(pick, name)
     files, names, lines, text = {}, {}, ["derivation 1"], ""
     if pick.random() < 0.5:
         declared = {each: stated(pick) for each in pick.sample(["f", "d", "e"], pick.randrange(1, 4))}
