@@ -1,11 +1,11 @@
-"""Prints a table of processor seconds of `infer`, `derive` and `verify` on modules, and how large their derivations are.
+"""Prints a table of processor seconds of `infer`, `derive` and `verify` on modules, and the sizes of their derivations.
 
     python3 bench/derive_times.py PROGRAM MODULE.ml ..
     python3 bench/derive_times.py write FOLDER
 
-A time is the least of three runs, or of one that took more than ten seconds. A run is ended after ten minutes of processor
-or 8 GB of memory, and the row tells its status. The interfaces that a module imports lie beside it. `write` makes modules
-of some kinds, each in four sizes that double; there are more of `infer-bench write`.
+A time is the least of three runs, or of one that took more than ten seconds. A run is ended after ten minutes of a
+processor or 8 GB of memory, and the row tells its status. The interfaces that a module imports lie beside it. `write`
+makes modules of some kinds, each in four sizes that double; there are more of `infer-bench write`.
 """
 
 import os
@@ -45,9 +45,10 @@ KINDS = {
                                                f"y{size}")),
     "lets_of_functions": (20, lambda size: nested(size, "let y0 = fun z -> z in ",
                                                   lambda each: f"fun z -> y{each} (y{each} z)", f"y{size}")),
-    "bindings": (500, lambda size: "let v0 = fun x -> x\n" + joined(size, lambda each: f"let v{each + 1} = v{each} v{each}",
-                                                                    "\n")),
-    "church": (50, lambda size: "let n0 = fun f -> fun x -> f x\nlet add = fun m -> fun n -> fun f -> fun x -> m f (n f x)\n"
+    "bindings": (500, lambda size: "let v0 = fun x -> x\n"
+                 + joined(size, lambda each: f"let v{each + 1} = v{each} v{each}", "\n")),
+    "church": (50, lambda size: "let n0 = fun f -> fun x -> f x\n"
+               + "let add = fun m -> fun n -> fun f -> fun x -> m f (n f x)\n"
                + joined(size, lambda each: f"let n{each + 1} = add n{each} n0", "\n")),
 }
 
@@ -107,7 +108,7 @@ def main():
     if sys.argv[1] == "write":
         return write(sys.argv[2])
     program = os.path.abspath(sys.argv[1])
-    print("| Module | Bytes | `infer`, s (MB) | `derive`, s (MB) | `verify`, s (MB) | Bytes of the derivation | Lines |")
+    print("| Module | Bytes | `infer`, s (MB) | `derive`, s (MB) | `verify`, s (MB) | Bytes derived | Lines |")
     print("|---|---|---|---|---|---|---|")
     done = [row(program, pathlib.Path(path)) for path in sys.argv[2:]]
     return 0 if all(done) else 1

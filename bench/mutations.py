@@ -2,10 +2,11 @@
 
     python3 bench/mutations.py PROGRAM PLAIN FOLDER SEED COUNT [KEPT]
 
-The folder, or its subfolders, have modules NAME.ml with derivations NAME.mld, and the interfaces of their imports. COUNT
-times a derivation gets one to three changes, and both programs are asked to `verify` it. It ends with 1 where status or output differ, and
-then such modules are kept in the folder KEPT (by default a new one, which is told). It tells how many texts had a bad
-line, a step that is not allowed, or were allowed. Either program may have words behind it.
+The folder, or its subfolders, have modules NAME.ml with derivations NAME.mld, and the interfaces of their imports.
+COUNT times a derivation gets one to three changes, and both programs are asked to `verify` it. It ends with 1 where
+status or output differ, and then such modules are kept in the folder KEPT (by default a new one, which is told). It
+tells how many texts had a bad line, a step that is not allowed, or were allowed. Either program may have words behind
+it.
 """
 
 import collections
@@ -17,8 +18,8 @@ import subprocess
 import sys
 import tempfile
 
-RULES = {"var": 0, "use": 1, "name": 1, "lit": 0, "fun": 1, "app": 2, "make": None, "proj": 1, "if": 3, "let": 2, "rec": 1,
-         "sub": 1}
+RULES = {"var": 0, "use": 1, "name": 1, "lit": 0, "fun": 1, "app": 2, "make": None, "proj": 1, "if": 3, "let": 2,
+         "rec": 1, "sub": 1}
 NODES = ["bot", "top", "var", "bool", "int", "fn", "rcd", "join", "meet"]
 KINDS = [list(RULES), NODES, ["lr", "rl", "pp"], ["let", "step", "put", "pair", "node", "end", "val"], ["env", "type"]]
 HUGE = ["4294967295", "4294967296", "9223372036854775807", "9223372036854775808", "18446744073709551615",
@@ -276,7 +277,7 @@ class Changes:
             return text[:self.pick.randrange(len(text))]
         if chance == 2:
             return self.ended(lines[:self.pick.randrange(len(lines))])
-        return text + self.pick.choice(["\n", "end\n", " ", "derivation 1\n", "val a : int\nnode int\n", "step 0 lit env type 0\n"])
+        return text + self.pick.choice(["\n", "end\n", " ", "derivation 1\n", "val a : int\nnode int\n", "let 0 0\n"])
 
     def change_all(self, lines):
         return self.ended(self.pick.choice(self.others))

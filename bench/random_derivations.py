@@ -2,9 +2,9 @@
 
     python3 bench/random_derivations.py FOLDER SEED COUNT
 
-Each module mI.ml has a derivation mI.mld, and some an import mIk. A term and its steps are built together, from the type
-that is wanted: each step is one of the rules, and a subsumption takes its pairs from a structural walk. All forms of
-expressions and all rules stand in them. Types of sections may be recursive where the term is a name or a bare recursion.
+Each module mI.ml has a derivation mI.mld, and some an import mIk. A term and its steps are built together, from the
+type that is wanted: each step is one of the rules, and a subsumption takes its pairs from a structural walk. All forms
+of expressions and all rules stand in them. Stated types may be recursive where the term is a name or a bare recursion.
 """
 
 import os
@@ -46,7 +46,7 @@ def type_of(pick, depth, positive, variables, is_polar=True):
 
 
 def recursive_type_of(pick, depth, positive, around=()):
-    """A polar type that may be recursive; `around` has the recursive names, their signs and whether they are guarded."""
+    """A polar type; `around` has the recursive names, their signs and whether they are guarded."""
     if depth <= 0 or pick.random() < 0.1:
         innermost = {name: (sign, is_guarded) for name, sign, is_guarded in around}
         names = [("name", name) for name, what in innermost.items() if what == (positive, True)]
@@ -327,7 +327,7 @@ class Section:
         if kind == "rcd":
             return self.record(wanted, scope, depth)
         if kind in ("top", "join"):
-            part = self.pick.choice(wanted[1:]) if kind == "join" else self.pick.choice([INT, BOOL, rcd({}), fn(BOT, INT)])
+            part = self.pick.choice(wanted[1:] if kind == "join" else [INT, BOOL, rcd({}), fn(BOT, INT)])
             text, step = self.build(part, scope, depth)
             made = self.sub(step, step.env, self.node(wanted))
             assert made
@@ -345,9 +345,10 @@ class Section:
         operator = self.step(self.term(), f"name {up}", {}, up + root)
         operator = self.widen(operator, scope, fn(INT, fn(INT, wanted)))
         left, one = self.whole(INT, scope, depth)
-        half = self.step(self.term(), f"app {operator.number} {one.number}", self.env(scope), self.node(fn(INT, wanted)))
+        env = self.env(scope)
+        half = self.step(self.term(), f"app {operator.number} {one.number}", env, self.node(fn(INT, wanted)))
         right, two = self.whole(INT, scope, depth)
-        both = self.step(self.term(), f"app {half.number} {two.number}", self.env(scope), self.node(wanted))
+        both = self.step(self.term(), f"app {half.number} {two.number}", env, self.node(wanted))
         return f"({left}) {sign} ({right})", both
 
     def inside(self, scope, name, meaning, binders=()):
