@@ -134,7 +134,7 @@ def answer(program, command):
 
 
 def trial(program, plain):
-    """What became of the module in the current folder, the size of its derivation, and whether all is as it should be."""
+    """What became of the module in the current folder, its size, and whether all is as it should be."""
     inferred, derived = answer(program, "infer"), answer(program, "derive")
     if inferred[1] != derived[1]:
         return f"infer ends with {inferred[1]}, derive with {derived[1]}", 0, False
