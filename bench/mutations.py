@@ -12,6 +12,7 @@ it.
 import collections
 import os
 import random
+import re
 import shlex
 import shutil
 import subprocess
@@ -83,6 +84,16 @@ class Changes:
 
         return self.words(lines, change, "step")
 
+    def change_exchange(self, lines):
+        """Two numbers of a line change places."""
+        def change(words):
+            found = [at for at, word in enumerate(words) if word.isdigit()]
+            if len(found) > 1:
+                at, other = self.pick.sample(found, 2)
+                words[at], words[other] = words[other], words[at]
+
+        return self.words(lines, change, *self.pick.choice([["node"], ["step"], ["pair"], ["let", "put"]]))
+
     def change_word(self, lines):
         def change(words):
             at = self.pick.randrange(len(words))
@@ -148,8 +159,10 @@ class Changes:
             entries = [words[at:at + 2] for at in range(first, last, 2)]
             chance = self.pick.randrange(5)
             if chance == 0 or not entries:
-                entries.append([str(self.pick.randrange(5)), str(self.pick.randrange(12))])
-                entries.sort(key=lambda entry: len(entry[0]))
+                taken = {entry[0] for entry in entries}
+                free = [str(binder) for binder in range(6) if str(binder) not in taken]
+                entries.append([self.pick.choice(free or ["0"]), str(self.pick.randrange(12))])
+                entries.sort(key=lambda entry: (len(entry[0]), entry[0]))
             elif chance == 1:
                 entries.remove(self.pick.choice(entries))
             elif chance == 2:
@@ -162,6 +175,20 @@ class Changes:
             words[first:last] = [word for entry in entries for word in entry]
 
         return self.words(lines, change, "step")
+
+    def change_conclusion(self, lines):
+        """The environment, the type or both of another step of the section."""
+        at = self.place(lines, "step")
+        if at is None:
+            return self.ended(lines)
+        starts = [number for number, line in enumerate(lines) if line.startswith("val ")]
+        start = max([0, *(number for number in starts if number < at)])
+        stop = min([len(lines), *(number for number in starts if number > at)])
+        other = self.pick.choice([line for line in lines[start:stop] if line.startswith("step ")])
+        (rule, env, root), (_, env_of_other, root_of_other) = (
+            re.fullmatch(r"(.*?)( env.*?)?( type.*)?", line).groups(default="") for line in (lines[at], other))
+        ends = [env_of_other + root, env + root_of_other, env_of_other + root_of_other]
+        return self.ended([*lines[:at], rule + self.pick.choice(ends), *lines[at + 1:]])
 
     def change_by_twin(self, lines):
         """A node is doubled behind the others of its section, and one of its uses goes to the twin."""
@@ -347,4 +374,5 @@ def main():
     return 1 if differing else 0
 
 
-sys.exit(main())
+if __name__ == "__main__":
+    sys.exit(main())
