@@ -5,8 +5,8 @@
 PROGRAM is asked to `infer` each module and to `derive` it. Both answers have to have the same status, and the same text
 where it is a refusal. A derivation has to state the types of the signature, line by line, and PROGRAM and PLAIN have to
 say that it is verified. It ends with 1 where one of this is not so, and tells in which folder such modules are. The
-derivations that are verified are kept in the folder KEPT, each with its files, as texts for bench/mutations.py. LEVEL
-(by default 0) makes the expressions so much deeper. PLAIN may have words behind it.
+derivations that are verified are kept in the new folder KEPT, each with its files, as texts for bench/mutations.py.
+LEVEL (by default 0) makes the expressions so much deeper. PLAIN may have words behind it.
 """
 
 import collections
@@ -159,6 +159,8 @@ def main():
     pick = random.Random(int(sys.argv[3]))
     kept = os.path.abspath(sys.argv[5]) if len(sys.argv) > 5 else None
     level = int(sys.argv[6]) if len(sys.argv) > 6 else 0
+    if kept:
+        os.makedirs(kept)
     failures, work = tempfile.mkdtemp(), tempfile.mkdtemp()
     os.chdir(work)
     counts, wrong, largest, total = collections.Counter(), 0, (0, b""), 0
