@@ -85,13 +85,18 @@ class Changes:
         return self.words(lines, change, "step")
 
     def change_exchange(self, lines):
-        """Two numbers of a line change places."""
+        """Two numbers of a line change places, or the nodes of a meet."""
         def change(words):
             found = [at for at, word in enumerate(words) if word.isdigit()]
             if len(found) > 1:
                 at, other = self.pick.sample(found, 2)
                 words[at], words[other] = words[other], words[at]
 
+        meets = [at for at, line in enumerate(lines) if line.startswith("node meet ")]
+        if meets and self.pick.random() < 0.3:
+            at = self.pick.choice(meets)
+            words = lines[at].split(" ")
+            return self.ended([*lines[:at], " ".join([*words[:2], *reversed(words[2:])]), *lines[at + 1:]])
         return self.words(lines, change, *self.pick.choice([["node"], ["step"], ["pair"], ["let", "put"]]))
 
     def change_word(self, lines):
