@@ -1,10 +1,12 @@
-//! An unverified program that infers as `mlsub infer` does, to be measured beside it; and the texts for both.
+//! An unverified program that infers and verifies as `mlsub` does, to be measured beside it; and the texts for both.
 use bench_common::arguments;
 use std::io::Write as _;
 use std::{fs, process, thread};
 
 mod automaton;
 mod biunify;
+mod book;
+mod derivation;
 mod flow;
 mod generate;
 mod infer;
@@ -19,6 +21,7 @@ mod subsume;
 mod tests;
 mod texts;
 mod types;
+mod verify;
 
 use project::{Said, Ways};
 
@@ -76,8 +79,8 @@ fn generate_and_infer(seed: u32, count: usize, simplifies: bool) -> i32 {
     }
 }
 
-const USAGE: &str = "usage: infer-bench infer [--simplify] NAME | check [--simplify] [--slow] NAME | generate [--simplify] SEED COUNT
-    | module SEED COUNT | compare FILE FILE | write FOLDER\n";
+const USAGE: &str = "usage: infer-bench infer [--simplify] NAME | check [--simplify] [--slow] NAME | verify NAME
+    | generate [--simplify] SEED COUNT | module SEED COUNT | compare FILE FILE | write FOLDER\n";
 
 fn main() {
     let mut words = arguments();
@@ -86,7 +89,7 @@ fn main() {
     words.retain(|word| word != "--simplify" && word != "--slow");
     let numbers = |seed: &str, count: &str| Some((seed.parse().ok()?, count.parse().ok()?));
     let status = match words.iter().map(String::as_str).collect::<Vec<_>>()[..] {
-        [command @ ("infer" | "check"), name] => answer_files(command, name, Ways { simplifies, is_slow }),
+        [command @ ("infer" | "check" | "verify"), name] => answer_files(command, name, Ways { simplifies, is_slow }),
         ["compare", first, second] => compare_files(first, second),
         ["write", folder] => texts::write_texts(folder).map_or(1, |()| 0),
         ["generate", seed, count] => match numbers(seed, count) {

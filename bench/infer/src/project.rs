@@ -1,18 +1,24 @@
 //! The commands over files: a module, what it imports, and its interface.
 use crate::automaton::{Label, Scheme};
 use crate::biunify::{Clash, HeadKind};
+use crate::book::book_of;
+use crate::derivation::read_derivation;
 use crate::infer::{infer, Known, NoScheme, Operators};
 use crate::names::{resolve, Meaning};
 use crate::parse::{Binding, Parser};
 use crate::slow::subsumes_slowly;
 use crate::subsume::{first_failure, Reason, Step};
-use crate::types::{labels_of, numbered, read_interface, scheme_of, Declaration};
+use crate::types::{labels_of, numbered, read_interface, read_type, scheme_of, Declaration};
+use crate::verify::{first_refused, Known as KnownBooks};
 use crate::{print, simplify};
 use bench_common::{tokens, Fault, Token};
 use std::collections::{HashMap, HashSet};
 
-/// The most bytes that a text may have.
+/// The most bytes that the text of a module or an interface may have.
 const LIMIT: usize = 1_048_576;
+
+/// The most bytes that the text of a derivation may have.
+const DERIVATION_LIMIT: usize = 67_108_864;
 
 const TEXTS: [&str; 17] = [
     "",
@@ -47,13 +53,18 @@ struct Source {
 /// Where files are read from.
 pub type Files<'a> = &'a dyn Fn(&str) -> Option<Vec<u8>>;
 
+/// The bytes of a file, which live as long as the program.
+fn bytes_of(files: Files, file: &str, limit: usize) -> Result<&'static [u8], Said> {
+    let Some(text) = files(file) else { return Err(Said(format!("{file}: not found\n"), 4)) };
+    if text.len() > limit {
+        return Err(Said(format!("{file}: longer than {limit} bytes\n"), 11));
+    }
+    Ok(text.leak())
+}
+
 impl Source {
     fn read(files: Files, file: String) -> Result<Source, Said> {
-        let Some(text) = files(&file) else { return Err(Said(format!("{file}: not found\n"), 4)) };
-        if text.len() > LIMIT {
-            return Err(Said(format!("{file}: longer than {LIMIT} bytes\n"), 11));
-        }
-        let text: &'static [u8] = text.leak();
+        let text = bytes_of(files, &file, LIMIT)?;
         let source = Source { file, text, tokens: &[] };
         let tokens = tokens(text).map_err(|fault| source.faulty(fault))?.leak();
         Ok(Source { tokens, ..source })
@@ -256,10 +267,38 @@ fn check_module(files: Files, name: &str, ways: Ways) -> Result<String, Said> {
     Ok(format!("{name} matches {name}.mli\n"))
 }
 
-/// The answer of `infer` or `check`.
+/// The books of `int -> int -> int` and `int -> int -> bool`, and of the declarations.
+fn known_books(declarations: &[Declaration<'static>]) -> KnownBooks<'static> {
+    let operator = |text: &'static str| {
+        let found = tokens(text.as_bytes()).ok().expect("it has tokens").leak();
+        book_of(&read_type(text.as_bytes(), found).ok().expect("it is a type"))
+    };
+    KnownBooks {
+        to_integer: operator("int -> int -> int"),
+        to_boolean: operator("int -> int -> bool"),
+        declared: declarations.iter().map(|declaration| book_of(&declaration.read)).collect(),
+    }
+}
+
+/// Whether each step of a module's derivation is allowed.
+fn verify_module(files: Files, name: &str) -> Result<String, Said> {
+    let project = Project::read(files, name)?;
+    let file = format!("{name}.mld");
+    let text = bytes_of(files, &file, DERIVATION_LIMIT)?;
+    let sections =
+        read_derivation(text).map_err(|line| Said(format!("{file}:{line}: fault 19: bad line\n"), 3))?;
+    let known = known_books(&project.declarations);
+    match first_refused(&project.bindings, &project.uses, &known, &sections) {
+        None => Ok(format!("{name} is verified\n")),
+        Some(step) => Err(Said(format!("{name}: step {step} is not allowed\n"), 9)),
+    }
+}
+
+/// The answer of `infer`, `check` or `verify`.
 pub fn answer(files: Files, command: &str, name: &str, ways: Ways) -> Said {
     let found = match command {
         "check" => check_module(files, name, ways),
+        "verify" => verify_module(files, name),
         _ => infer_module(files, name, ways.simplifies),
     };
     match found {

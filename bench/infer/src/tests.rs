@@ -159,3 +159,114 @@ fn promises() {
         assert_eq!(checked(text, imported, own), said, "{text} {own}");
     }
 }
+
+const IDENTITY: &str = "let id = fun x -> x\n";
+
+const DERIVED: &str = "derivation 1
+val id : a -> a
+node fn 1 2
+node var 0
+node var 0
+node fn 1 1
+step 0 var env 0 1 type 1
+step 1 fun 0 env type 3
+step 1 sub 1 env type 0
+pair lr 3 0
+pair rl 1 1
+pair lr 1 2
+end
+";
+
+/// What is said of this derivation of a module over the interface `k`, and the status.
+fn verified(module: &str, derivation: &str) -> (String, i32) {
+    let files = [("id.ml", module), ("id.mld", derivation), ("k.mli", "val f : {l: int, k: bool} -> int\n")];
+    let read = |file: &str| files.iter().find(|each| each.0 == file).map(|each| each.1.as_bytes().to_vec());
+    let Said(said, status) = project::answer(&read, "verify", "id", Ways::default());
+    (said, status)
+}
+
+/// The derivation of the identity with other lines in place of one, counted from 1.
+fn with_lines(number: usize, lines: &str) -> String {
+    let old = DERIVED.split_inclusive('\n').enumerate();
+    old.map(|(at, line)| if at + 1 == number { lines } else { line }).collect()
+}
+
+#[test]
+fn derivations() {
+    let refused = |step: usize| (format!("id: step {step} is not allowed\n"), 9);
+    let bad = |line: usize| (format!("id.mld:{line}: fault 19: bad line\n"), 3);
+    let yes = || ("id is verified\n".to_string(), 0);
+    assert_eq!(verified(IDENTITY, DERIVED), yes());
+    assert_eq!(verified("", "derivation 1\n"), yes());
+    assert_eq!(verified("", ""), bad(1));
+    assert_eq!(verified("", "derivation 1"), bad(1));
+    assert_eq!(verified(IDENTITY, "derivation 1\n"), refused(0));
+    assert_eq!(verified("", DERIVED), refused(0));
+    let other = DERIVED.replace("a -> a", "a -> b").replace("var 0\nnode fn 1 1", "var 1\nnode fn 1 1");
+    assert_eq!(verified(IDENTITY, &other), refused(2));
+    let twice = DERIVED.to_string() + &DERIVED["derivation 1\n".len()..];
+    assert_eq!(verified(IDENTITY, &twice), refused(4));
+    for (line, lines, said) in [
+        (7, "step 0 var env 0 1 type 2\n", refused(0)),
+        (7, "step 0 var env 1 1 type 1\n", refused(0)),
+        (7, "step 9 var env 0 1 type 1\n", refused(0)),
+        (7, "step 0 var env 0 4 type 1\n", bad(7)),
+        (7, "step 0 var env 0 1 0 1 type 1\n", bad(7)),
+        (7, "step 00 var env 0 1 type 1\n", bad(7)),
+        (7, "step 18446744073709551615 var env 0 1 type 1\n", refused(0)),
+        (7, "step 18446744073709551616 var env 0 1 type 1\n", bad(7)),
+        (8, "step 1 fun 0 env type 0\n", refused(1)),
+        (8, "step 1 fun 1 env type 3\n", bad(8)),
+        (8, "step 1 fun  0 env type 3\n", bad(8)),
+        (10, "", refused(2)),
+        (10, "pair lr 3 0\nput 0 1\n", refused(2)),
+        (10, "pair lr 3 0\nput 0 1\npair pp 1 1\npair pp 1 2\n", yes()),
+        (10, "pair lr 3 0\nput 0 1\nput 0 1\n", bad(12)),
+        (10, "pair lr 3 0\nlet 0 0\n", bad(12)),
+        (9, "let 0 0\nlet 1 0\nstep 1 sub 1 env type 0\n", yes()),
+        (9, "let 0 0\nlet 0 0\nstep 1 sub 1 env type 0\n", bad(10)),
+        (13, "", bad(13)),
+        (13, "end\n\n", bad(14)),
+        (13, "end", bad(13)),
+        (6, "node join 3 0\n", bad(6)),
+        (6, "node fn 1 1\nnode rcd b 0 a 1\n", bad(7)),
+        (6, "node fn 1 1\nnode rcd a 0 b 4\n", yes()),
+        (6, "node fn 1 1\nnode rcd in 0\n", bad(7)),
+        (5, "", bad(5)),
+        (3, "node fn 1 4\n", bad(3)),
+        (2, "val id : a -> b\n", bad(5)),
+        (2, "val id :  (a) ->\ta # to itself\n", yes()),
+        (2, "val id : a ->\n", bad(2)),
+        (2, "val let : a -> a\n", bad(2)),
+        (2, "val other : a -> a\n", refused(3)),
+    ] {
+        assert_eq!(verified(IDENTITY, &with_lines(line, lines)), said, "{line} {lines}");
+    }
+}
+
+#[test]
+fn derivations_over_other_names() {
+    let module = "import k let a = f {l = 1, k = true}";
+    let derivation = "derivation 1
+val a : int
+node int
+node fn 2 5
+node rcd k 4 l 3
+node int
+node bool
+node int
+step 0 name 1 env type 1
+step 1 lit env type 3
+step 2 lit env type 4
+step 3 make 1 2 env type 2
+step 4 app 0 3 env type 5
+step 4 sub 4 env type 0
+pair lr 5 0
+end
+";
+    assert_eq!(verified(module, derivation), ("id is verified\n".to_string(), 0));
+    let other = module.replace("l = 1, k = true", "k = 1, l = true");
+    assert_eq!(verified(&other, derivation), ("id: step 3 is not allowed\n".to_string(), 9));
+    let known = module.replace("f {l = 1, k = true}", "a");
+    assert_eq!(verified(&known, derivation), ("id.ml:1:18: fault 6: unknown name\n".to_string(), 3));
+}

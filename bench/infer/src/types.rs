@@ -21,9 +21,9 @@ pub enum Type<'a> {
 
 /// A label with its place, and the type of the field.
 pub struct Member<'a> {
-    label: &'a [u8],
+    pub label: &'a [u8],
     at: usize,
-    part: Type<'a>,
+    pub part: Type<'a>,
 }
 
 /// A declaration: a name with its place, and its type.
@@ -226,6 +226,18 @@ pub fn read_interface<'a>(text: &'a [u8], tokens: &'a [Token]) -> Result<Vec<Dec
         }
     }
     Ok(declarations)
+}
+
+/// The type that a text is, or its first fault.
+pub fn read_type<'a>(text: &'a [u8], tokens: &'a [Token]) -> Result<Type<'a>, Fault> {
+    let mut reader = Reader { text, tokens, at: 0 };
+    let read = reader.whole()?;
+    if reader.at < tokens.len() {
+        return Err(reader.unexpected());
+    }
+    let mut faults = Faults::default();
+    faults.look(&read, Polarity::Positive);
+    faults.first.map_or(Ok(read), Err)
 }
 
 /// Gives each part of a type the states that stand for it. A recursive name has a state of its own, which at last gets
