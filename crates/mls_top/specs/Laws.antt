@@ -1,5 +1,5 @@
 -- The laws of answers.
-use Rattle.std.specs.Prelude.{◌≡◌, ◌≢◌, ◌⊎◌, ℕ, ◌≤◌, List, ◌∷◌, ◌++◌, length, All, codes, slice_get, Some, Ok, _,_}
+use Rattle.std.specs.Prelude.{◌≡◌, ◌≢◌, ◌⊎◌, ℕ, ◌≤◌, List, ◌∷◌, ◌++◌, length, All, codes, slice_get, Some, Ok}
 use Rattle.mls_base.specs.Files.{Files}
 use Rattle.mls_term.specs.declared.term.Resolved.{Resolved}
 use Rattle.mls_grammar.specs.declared.module.Module.{Module}
