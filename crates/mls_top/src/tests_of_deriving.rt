@@ -101,8 +101,8 @@ fn is_derived(rt: &impl Abort, alloc: Global, name: &str, files: &str) -> Result
     Ok(())
 }
 
-// The same for the module `main` that is this text alone.
-fn text_is_derived(rt: &impl Abort, alloc: Global, text: &str) -> Result<(), Memory> {
+/// The same for the module `main` that is this text alone.
+pub(crate) fn text_is_derived(rt: &impl Abort, alloc: Global, text: &str) -> Result<(), Memory> {
     let mut files = String::from_str(alloc, "main.ml ")?;
     files.push_str(text)?;
     is_derived(rt, alloc, "main", files.as_str())
