@@ -148,7 +148,9 @@ fn derives_over_what_imports_declare(rt: HostRuntime) -> Result<(), Fail> {
         "main.ml import j import k let a = x\nj.mli val x : int\nk.mli val x : bool",
         "main.ml import k let a = {l = id 1, m = id true}\nk.mli val id : a -> a",
         "main.ml import main let a = x\nmain.mli val x : a -> a",
-        "main.ml import k let a = f (f 1)\nk.mli val f : rec a. int | (top -> a) -> int",
+        "main.ml import k let a = (s.next {}).now let b = s\nk.mli val s : rec a. {next: {} -> a, now: int}",
+        "main.ml import k let a = fun b -> f b\nk.mli val f : bool -> bool | int",
+        "main.ml import k let a = t (fun x -> x)\nk.mli val t : (a | b -> a) -> b -> a",
     ] {
         is_derived(&rt, rt.alloc(), "main", files)?;
     }
