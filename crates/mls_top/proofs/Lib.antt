@@ -23,6 +23,7 @@ pub mod SameVerdicts
 pub mod SignedModules
 pub mod SitesTold
 pub mod SourcesRead
+pub mod StoredDerivations
 pub mod Telling
 pub mod VerifiedModules
 pub mod WordsFound

@@ -162,7 +162,8 @@ pub data Checks (files : Files) (x : List ℕ) : Outcome → Type 0 where
 
 -- The derivation has a section for each entry of the signature, with its name and the text of its type. Over the
 -- operators and what the imports declare each step of it is allowed for the bindings of the module; this shows that the
--- type that each section states is derivable for its binding. Which of the allowed derivations it is, is left open.
+-- type that each section states is derivable for its binding. Its text is read as it. Which of the allowed derivations
+-- it is, is left open.
 pub record IsDerivationOf (m : Module) (imports : List Interface) (s : Signature) (d : Derivation) : Type 0 where
   pub b : Resolved
   pub resolves : Resolves m (declared_names imports) b
@@ -170,6 +171,7 @@ pub record IsDerivationOf (m : Module) (imports : List Interface) (s : Signature
   pub mean : schemes_of known ≡ environment (declared_schemes imports) []
   pub derives : AreDerivations known b.bindings s.entries d.sections
   pub derivable : AreDerivable known b.bindings d.sections
+  pub text_of : IsTextOf (derivation_text d) d
 
 -- what is found where a derivation of the types of the module of this name over these files is asked for
 pub data Derives (files : Files) (x : List ℕ) : Outcome → Type 0 where

@@ -25,6 +25,8 @@ mod tests_of_clashes;
 #[cfg(test)]
 mod tests_of_comparing;
 #[cfg(test)]
+mod tests_of_deriving;
+#[cfg(test)]
 mod tests_of_failing;
 #[cfg(test)]
 mod tests_of_faults;
@@ -34,6 +36,8 @@ mod tests_of_forms;
 mod tests_of_generate;
 #[cfg(test)]
 mod tests_of_imports;
+#[cfg(test)]
+mod tests_of_refusing;
 #[cfg(test)]
 mod tests_of_signatures;
 #[cfg(test)]

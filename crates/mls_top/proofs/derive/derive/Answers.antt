@@ -20,4 +20,5 @@ derived-requires-clause-signature g c =
 
 pub returns-clause-answer : goal.returns-clause-answer
 returns-clause-answer g c =
-    asked_derivation c.args.name.now _ _ c.in_ok-found.found c.in_ok-found.ensures.signed c.as_slice.result.now c.as_slice.ensures c.in_ok-derivation.derivation c.in_ok-derivation.ensures _ refl c.in_ok-print_derivation.ensures
+    let it = c.in_ok-text.ensures in
+    asked_derivation c.args.name.now _ _ c.in_ok-found.found c.in_ok-found.ensures.signed c.as_slice.result.now c.as_slice.ensures it.0 it.2 _ refl it.1
