@@ -89,8 +89,12 @@ fn meant(alloc: Global, parsed: &Module, imports: &[Interface]) -> Result<Resolv
     let declared = declared_names(alloc, imports)?;
     match resolve(alloc, parsed, declared.as_slice()) {
         Ok(resolved) => Ok(resolved),
-        Err(Fault::Memory) => Err(Memory),
-        Err(_) => unreachable!(),
+        Err(fault) => {
+            if fault == Fault::Memory {
+                return Err(Memory);
+            }
+            unreachable!()
+        }
     }
 }
 

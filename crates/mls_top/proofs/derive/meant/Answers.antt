@@ -9,5 +9,10 @@ use Rattle.mls_top.proofs.derive.meant.Goals as goal
 pub resolve-requires-clause-distinct : goal.resolve-requires-clause-distinct
 resolve-requires-clause-distinct c = subst (All AreDistinct) (sym (c.as_slice.ensures ∙ c.in_ok-declared.ensures)) (distinct_names c.args.imports.now c.requires.imports.valid)
 
-pub returns-in-Ok : goal.returns-in-Ok
-returns-in-Ok c = subst (λ (d : List (List (List ℕ))). Resolves c.args.parsed.now d c.in-Ok.resolved) (c.as_slice.ensures ∙ c.in_ok-declared.ensures) c.in-Ok.ensures.found
+pub returns : goal.returns
+returns c = subst (λ (d : List (List (List ℕ))). Resolves c.args.parsed.now d c.in-Ok.resolved) (c.as_slice.ensures ∙ c.in_ok-declared.ensures) c.in-Ok.ensures.found
+
+pub unreachable-requires : goal.unreachable-requires
+unreachable-requires c =
+    no_unknown_name_beside_a_resolution c.args.parsed.now (declared_names c.args.imports.now) c.requires.meanings.0 c.in-Err.fault c.requires.meanings.1
+    (subst (λ (d : List (List (List ℕ))). HasUnknownName c.args.parsed.now d c.in-Err.fault) (c.as_slice.ensures ∙ c.in_ok-declared.ensures) (c.in-Err.ensures.fault (search rules)))
