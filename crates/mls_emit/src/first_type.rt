@@ -1,5 +1,5 @@
 //! The type of the first part of a let.
-ghost use Rattle.std.specs.Prelude.{◌≡◌, ◌<◌, ◌++◌, ◌∷◌, ℕ, [], All, IfOk, OnOk, IsTrue};
+ghost use Rattle.std.specs.Prelude.{◌≡◌, ◌<◌, ◌++◌, ◌∷◌, [], All, IfOk, OnOk, IsTrue};
 ghost use Rattle.mls_automaton.specs.declared.automaton.Polarity.{Polarity};
 ghost use Rattle.mls_automaton.specs.declared.automaton.Polarity.TheVariants.{Negative, Positive};
 ghost use Rattle.mls_automaton.specs.declared.scheme.EnvEntry.{EnvEntry};

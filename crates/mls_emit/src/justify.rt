@@ -1,7 +1,7 @@
 //! Whether a pair of nodes is shown by one look at both, and by other pairs, in any book: its labels need not rise, but
 //! they are looked up by halves where they do.
 ghost use Rattle.std.specs.Prelude.{◌≡◌, ◌↔◌, ◌⊎◌, IsTrue, All};
-ghost use Rattle.mls_book.specs.Books.{AreRising, node_at};
+ghost use Rattle.mls_book.specs.Books.{AreRising};
 ghost use Rattle.mls_deriv.specs.Pairs.{exchanged};
 ghost use Rattle.mls_deriv.specs.inner.PairRules.{ByLeft, ByRight, ByBoth, ByNodes, LabelFits, AllLabelsFit};
 ghost use Rattle.mls_deriv.specs.inner.PairRules.{left_node, right_node, IsShown};

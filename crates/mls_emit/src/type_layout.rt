@@ -1,9 +1,8 @@
 //! The nodes of a type.
-ghost use Rattle.std.specs.Prelude.{◌≡◌, ◌<◌, ◌+◌, ◌++◌, ℕ, [], length, get_or, IfOk, OnOk};
+ghost use Rattle.std.specs.Prelude.{◌≡◌, ◌<◌, ◌+◌, ◌++◌, ℕ, length, IfOk, OnOk};
 ghost use Rattle.mls_book.specs.Books.{IsClosedBook};
 ghost use Rattle.mls_automaton.specs.Automata.{polarity_at};
 ghost use Rattle.mls_emit.specs.LaidOut.{place_of};
-ghost use Rattle.mls_emit.specs.Trees.{IsNodeIn};
 ghost use Rattle.mls_emit.specs.steps.Owned.{HaveTrees};
 ghost use Rattle.mls_emit.specs.steps.Planned.{Extends};
 ghost use Rattle.mls_emit.specs.steps.Sources.{AreBelow, parts_in, partners_in};
