@@ -25,7 +25,7 @@ use Rattle.mls_emit.specs.declared.layout.leaves.Leaves.{Leaves}
 use Rattle.mls_emit.specs.declared.layout.sources.Sources.{Sources}
 use Rattle.mls_emit.specs.LaidOut.{place_of}
 use Rattle.mls_emit.specs.Trees.{IsNodeIn}
-use Rattle.mls_emit.specs.steps.Sources.{ids_if, count_if, own_count, head_parts, own_before, AreParted, ArePartners, AreBelow, parts_in, partners_in}
+use Rattle.mls_emit.specs.steps.Sources.{ids_if, count_if, own_count, head_parts, own_before, AreParted, ArePartners, AreBelow, partners_in}
 use Rattle.mls_emit.proofs.WorkedParts.{nothing, contains_one}
 
 -- the parts of the first states

@@ -1,7 +1,7 @@
 -- The numbers of the nodes of functions and records, state by state.
 --     numbers_none, numbers_next      those of one state more
 --     all_owned                       those of all states
-use Rattle.std.proofs.Common.{◌≡◌, ◌⊎◌, inl, inr, ℕ, suc, ◌+◌, ◌<◌, ◌≤◌, List, [], ◌∷◌, ◌++◌, length, refl, sym, ap, ◌∙◌, subst, arith, Option, None, length-append, add-one, get_or}
+use Rattle.std.proofs.Common.{◌≡◌, ◌⊎◌, inl, inr, ℕ, suc, ◌+◌, ◌<◌, ◌≤◌, List, [], ◌∷◌, ◌++◌, length, sym, ap, ◌∙◌, subst, arith, Option, None, length-append, add-one}
 use Rattle.std.proofs.Math.ListN.{get_or-append}
 use Rattle.std.proofs.lemmas.List.{get_or_past, get_or_push}
 use Rattle.mls_book.specs.declared.book.NodeId.{NodeId}

@@ -1,9 +1,8 @@
 -- Nodes of a part that come one behind another.
 --     parts_more                  what holds of each part of a node
 --     list_none, list_more        no node, and one more
-use Rattle.std.proofs.Common.{◌≡◌, ◌⊎◌, inl, inr, ℕ, zero, suc, ◌+◌, ◌<◌, List, [], ◌∷◌, ◌++◌, refl, sym, ap, ◌∙◌, subst, length, take, get_or, Contains, arith, Some, length-append}
-use Rattle.std.specs.Prelude.{All, IsTrue}
-use Rattle.std.specs.List.{AllPairs}
+use Rattle.std.proofs.Common.{◌≡◌, ◌⊎◌, inl, inr, ℕ, ◌+◌, ◌<◌, List, [], ◌∷◌, ◌++◌, sym, ◌∙◌, subst, length, take, get_or, Contains, arith, Some, length-append}
+use Rattle.std.specs.Prelude.{IsTrue}
 use Rattle.std.specs.BTreeSet.{BTreeSet, contains}
 use Rattle.std.specs.Ordering.{nat_cmp}
 use Rattle.std.proofs.lemmas.List.{get_or_append_left, get_or_push, take-append-le, take_all}

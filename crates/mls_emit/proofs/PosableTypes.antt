@@ -2,20 +2,17 @@
 --     apart_none, apart_more      the states of binders, one after another
 --     separate                    no two binders have one state, and no head names one
 --     known_type                  what is asked of a known type
-use Rattle.std.proofs.Common.{◌≡◌, ◌⊎◌, inl, inr, ℕ, Bool, true, false, List, [], ◌∷◌, ◌++◌, map, length, refl, sym, ap, ◌∙◌, subst, Contains, All, arith, Some}
-use Rattle.std.specs.Prelude.{IsTrue}
-use Rattle.std.specs.BTreeSet.{BTreeSet, contains, IsEmpty, Updates}
+use Rattle.std.proofs.Common.{◌≡◌, ◌⊎◌, inl, inr, ℕ, true, List, [], ◌∷◌, ◌++◌, map, sym, ap, ◌∙◌, subst, Contains, All}
+use Rattle.std.specs.BTreeSet.{BTreeSet, IsEmpty, Updates}
 use Rattle.std.specs.Ordering.{nat_cmp}
 use Rattle.std.proofs.lemmas.List.{map-append}
 use Rattle.std.proofs.lemmas.List.Elements.{All-contains, Contains-push_cases}
-use Rattle.mls_automaton.specs.declared.automaton.Polarity.{Polarity}
-use Rattle.mls_automaton.specs.declared.automaton.Polarity.TheVariants.{Negative}
 use Rattle.mls_automaton.specs.declared.scheme.EnvEntry.{EnvEntry}
 use Rattle.mls_automaton.specs.declared.scheme.Scheme.{Scheme}
-use Rattle.mls_automaton.specs.Automata.{IsState, head_at, polarity_at}
+use Rattle.mls_automaton.specs.Automata.{head_at, polarity_at}
 use Rattle.mls_automaton.specs.Environments.{BindersRise}
 use Rattle.mls_automaton.specs.Models.{HasStatesIn}
-use Rattle.mls_automaton.specs.Schemes.{IsScheme, state_of}
+use Rattle.mls_automaton.specs.Schemes.{IsScheme}
 use Rattle.mls_automaton.proofs.Lists.{Contains-map}
 use Rattle.mls_automaton.proofs.Passing.{states_more}
 use Rattle.mls_automaton.proofs.Reaching.{entry-found}

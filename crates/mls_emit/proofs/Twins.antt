@@ -4,7 +4,7 @@
 --     wider_flow                  one more edge
 --     partner_positive            the partners of a negative state are positive
 --     entries_kept                states of binders
-use Rattle.std.proofs.Common.{◌≡◌, ◌⊎◌, inl, inr, ℕ, zero, suc, ◌+◌, ◌<◌, ◌≤◌, List, [], ◌∷◌, ◌++◌, length, get_or, refl, sym, ap, ◌∙◌, subst, arith, All, Contains, length-append}
+use Rattle.std.proofs.Common.{◌≡◌, ◌⊎◌, inl, inr, ℕ, zero, suc, ◌+◌, ◌<◌, List, [], ◌∷◌, ◌++◌, length, get_or, refl, sym, ap, ◌∙◌, subst, arith, All, length-append}
 use Rattle.std.specs.Prelude.{◌↔◌}
 use Rattle.std.proofs.lemmas.List.{get_or_append_left, get_or_past, get_or_push}
 use Rattle.std.proofs.lemmas.List.Elements.{All-push, All-weaker}
@@ -16,7 +16,7 @@ use Rattle.mls_automaton.specs.declared.automaton.Polarity.TheVariants.{Negative
 use Rattle.mls_automaton.specs.declared.automaton.State.{State}
 use Rattle.mls_automaton.specs.declared.scheme.EnvEntry.{EnvEntry}
 use Rattle.mls_automaton.specs.Automata.{Automaton, empty_head, flow, head_at, polarity_at, state_at, with_state, HasFlow, IsPartner, IsState}
-use Rattle.mls_automaton.specs.Models.{HasRisingLabels, HasStatesIn, IsClosed, IsClosedState}
+use Rattle.mls_automaton.specs.Models.{IsClosed, IsClosedState}
 use Rattle.mls_automaton.proofs.Passing.{states_more}
 use Rattle.mls_emit.specs.steps.Twins.{IsWider}
 

@@ -1,7 +1,6 @@
-use Rattle.std.proofs.Common.{ℕ, List, ◌<◌, ◌∙◌, length, get_or, Contains, subst, sym}
+use Rattle.std.proofs.Common.{ℕ, List, ◌∙◌, get_or, Contains, subst}
 use Rattle.std.proofs.lemmas.List.Elements.{Contains-get_or}
 use Rattle.mls_automaton.specs.declared.automaton.Polarity.TheVariants.{Negative, Positive}
-use Rattle.mls_automaton.specs.Automata.{IsState}
 use Rattle.mls_emit.proofs.Twins.{partner_positive, twin_there, twin_wider, wider_then}
 use Rattle.mls_emit.proofs.first_type.push_twin.Goals as goal
 

@@ -1,4 +1,4 @@
-use Rattle.std.proofs.Common.{List, ◌++◌, ◌∷◌, [], get_or, subst, sym, refl, Contains}
+use Rattle.std.proofs.Common.{List, get_or, subst, sym, refl, Contains}
 use Rattle.std.proofs.lemmas.List.Elements.{Contains-get_or}
 use Rattle.mls_automaton.specs.declared.automaton.Polarity.TheVariants.{Negative, Positive}
 use Rattle.mls_automaton.specs.declared.scheme.EnvEntry.{EnvEntry}

@@ -1,4 +1,4 @@
-use Rattle.std.proofs.Common.{IsTrue, rules, All, subst, sym, get_or, ap}
+use Rattle.std.proofs.Common.{IsTrue, rules, All, subst}
 use Rattle.std.proofs.lemmas.List.{take_all}
 use Rattle.std.proofs.lemmas.List.Elements.{All-more}
 use Rattle.mls_term.specs.declared.term.Part.{Part}

@@ -1,4 +1,4 @@
-use Rattle.std.proofs.Common.{◌≡◌, ◌∙◌, IsTrue, false, rules, All, List, ℕ, subst, get_or}
+use Rattle.std.proofs.Common.{◌∙◌, rules, All, subst, get_or}
 use Rattle.std.proofs.lemmas.List.{take_all}
 use Rattle.std.proofs.lemmas.List.Elements.{All-more}
 use Rattle.mls_emit.specs.steps.Posable.{IsFree}

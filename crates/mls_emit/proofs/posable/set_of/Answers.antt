@@ -1,4 +1,4 @@
-use Rattle.std.proofs.Common.{ℕ, List, ◌++◌, ◌∷◌, [], take, get_or, sym, subst}
+use Rattle.std.proofs.Common.{ℕ, List, take, get_or, sym, subst}
 use Rattle.std.specs.Ordering.{nat_cmp}
 use Rattle.std.proofs.lemmas.List.{take_all, take_more}
 use Rattle.mls_emit.specs.steps.Posable.{HasJust}

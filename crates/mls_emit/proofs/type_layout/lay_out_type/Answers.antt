@@ -1,6 +1,6 @@
-use Rattle.std.proofs.Common.{◌∙◌, ◌+◌, length, ap, subst, sym}
+use Rattle.std.proofs.Common.{◌∙◌, ap, subst, sym}
 use Rattle.mls_emit.specs.steps.Planned.{Planned}
-use Rattle.mls_emit.specs.steps.Sources.{AreBelow, own_before}
+use Rattle.mls_emit.specs.steps.Sources.{AreBelow}
 use Rattle.mls_emit.proofs.TypeNodes.{first_places, type_below, type_closed, type_places}
 use Rattle.mls_emit.proofs.type_layout.lay_out_type.Goals as goal
 
