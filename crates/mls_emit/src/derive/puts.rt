@@ -29,6 +29,21 @@ pub(crate) fn add_puts(puts: &mut Puts, others: &[Put]) -> Result<(), Memory> {
     Ok(())
 }
 
+/// Whether some variable has a node in both lists, where the variables of the second follow each other.
+pub(crate) fn share_variables(puts: &[Put], others: &[Put]) -> bool {
+    match others.first() {
+        None => false,
+        Some(first) => puts
+            .iter()
+            .any(|put| is_among(put.variable, first.variable, others.len())),
+    }
+}
+
+// Whether the number is one of so many from the first on.
+fn is_among(number: usize, first: usize, count: usize) -> bool {
+    number >= first && number - first < count
+}
+
 // The join of nodes of the book.
 fn joined(book: &mut Book, ids: &NodeIds) -> Result<NodeId, Memory> {
     let length = book.len();

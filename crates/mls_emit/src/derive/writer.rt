@@ -3,7 +3,7 @@
 
 use crate::derive::binders::both;
 use crate::derive::known::{FirstPart, FirstParts, Globals};
-use crate::derive::puts::{Puts, add_puts, global_puts, let_puts};
+use crate::derive::puts::{Puts, add_puts, global_puts, let_puts, share_variables};
 use crate::derive::steps::{Conclusion, Steps, copied, node_of};
 use crate::labelled::labelled;
 use crate::layout::LaidOut;
@@ -476,7 +476,8 @@ impl Writer {
         }
     }
 
-    // A let. Where its first part needs binders, its variables are put in with those of its second part.
+    // A let. Where its first part needs binders, its variables are put in with those of its second part, unless these
+    // are the same: then those of the second part are put in before.
     fn let_in(
         &mut self,
         alloc: Global,
@@ -486,17 +487,26 @@ impl Writer {
         second: usize,
     ) -> Result<Conclusion, Memory> {
         let part = view.firsts.get(&k).ok_or(Memory)?;
-        let inner = self.plain(alloc, view, second)?;
+        let mut puts = Puts::new(alloc);
+        if !part.env.is_empty() {
+            puts = self.puts_of_let(alloc, view, node, k, part)?;
+        }
+        let mut inner = self.plain(alloc, view, second)?;
+        if share_variables(inner.puts.as_slice(), puts.as_slice()) {
+            let env = self.placed(alloc, view, inner.env.as_slice())?;
+            let root = self.place(view.posing.root(second));
+            let book = &self.laid.book;
+            inner = self
+                .steps
+                .adapt(alloc, book, second, inner, env.as_slice(), root)?;
+        }
         let met = self.meets(alloc, part.env.as_slice(), inner.env.as_slice())?;
         let rule = StepRule::Let(part.step, inner.step);
         let mut own = self
             .steps
             .step(alloc, node, rule, met.as_slice(), inner.root)?;
         own.puts = inner.puts;
-        if !part.env.is_empty() {
-            let puts = self.puts_of_let(alloc, view, node, k, part)?;
-            add_puts(&mut own.puts, puts.as_slice())?;
-        }
+        add_puts(&mut own.puts, puts.as_slice())?;
         Ok(own)
     }
 
