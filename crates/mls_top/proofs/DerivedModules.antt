@@ -1,8 +1,7 @@
 -- A derivation of the types of a module, and what is found over it.
-use Rattle.std.proofs.Common.{◌≡◌, ◌<◌, ◌≤◌, ℕ, suc, Bool, true, List, [], ◌∷◌, length, map, refl, arith, subst}
+use Rattle.std.proofs.Common.{◌≡◌, ℕ, suc, Bool, true, List, [], ◌∷◌, length, refl, arith, subst}
 use Rattle.std.specs.Bool.{MatchBool}
 use Rattle.std.specs.List.{zip, AllWithin}
-use Rattle.mls_base.specs.Files.{Files}
 use Rattle.mls_deriv.specs.declared.derivation.Derivation.{Derivation}
 use Rattle.mls_deriv.specs.declared.derivation.Section.{Section}
 use Rattle.mls_deriv.specs.Spellings.{derivation_text}

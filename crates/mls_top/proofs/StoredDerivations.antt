@@ -1,18 +1,17 @@
 -- The text of a derivation that is stored beside its module is verified.
-use Rattle.std.proofs.Common.{◌≡◌, ◌≢◌, ℕ, ◌≤◌, Bool, true, false, cond, List, [], ◌∷◌, length, refl, sym, ap, ◌∙◌, subst}
+use Rattle.std.proofs.Common.{◌≡◌, ℕ, ◌≤◌, Bool, true, false, cond, List, ◌∷◌, length, refl, sym, ap, ◌∙◌, subst}
 use Rattle.std.proofs.lemmas.Slice.Eq.{bytes_eq-Decides}
-use Rattle.std.specs.Prelude.{Option, Some, option_map, find, bytes_eq, Result, Ok, Err}
+use Rattle.std.specs.Prelude.{Some, option_map, find, bytes_eq, Result, Ok, Err}
 use Rattle.mls_base.specs.Files.{Files, bytes_at}
 use Rattle.mls_grammar.specs.declared.module.Import.{Import}
 use Rattle.mls_grammar.specs.declared.module.Module.{Module}
 use Rattle.mls_iface.specs.declared.interface.Interface.{Interface}
 use Rattle.mls_deriv.specs.Texts.{IsTextOf}
-use Rattle.mls_top.specs.declared.status.Status.{Status}
 use Rattle.mls_top.specs.declared.status.Status.TheVariants.{Done}
 use Rattle.mls_top.specs.Answers.{derive, verify}
 use Rattle.mls_top.specs.Laws.{DerivedIsVerified}
 use Rattle.mls_top.specs.Lines.{module_file, interface_file, derivation_file}
-use Rattle.mls_top.specs.Outcomes.{module_limit, derivation_limit, ReadsInterface, no_interface, is_interface, is_no_interface, ReadsImports, no_import, first_refused, later_refused, all_read, HasSource, names_mean, is_derivation, all_allowed, checked, not_inferred, has_derivation, refused, verified}
+use Rattle.mls_top.specs.Outcomes.{module_limit, derivation_limit, ReadsInterface, no_interface, is_interface, is_no_interface, ReadsImports, no_import, first_refused, later_refused, all_read, HasSource, names_mean, is_derivation, all_allowed, checked, not_inferred, has_derivation, verified}
 use Rattle.mls_top.specs.Refusals.{Refusal, no_file, too_long, bad_text, no_scheme, absent, too_special, bad_line, not_allowed, found, text_at, refusal_status}
 use Rattle.mls_top.proofs.FileNames.{module_is_no_derivation, interface_is_no_derivation}
 use Rattle.mls_top.proofs.Learning.{short}

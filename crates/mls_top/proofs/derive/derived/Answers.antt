@@ -1,4 +1,4 @@
-use Rattle.std.proofs.Common.{◌∙◌, List, ℕ, rules, subst}
+use Rattle.std.proofs.Common.{◌∙◌, rules, subst}
 use Rattle.mls_names.proofs.NumberedTerms.{resolved_are_terms}
 use Rattle.mls_modules.specs.Environments.{declared_names}
 use Rattle.mls_modules.proofs.ValidSignatures.{signatures_are_valid}

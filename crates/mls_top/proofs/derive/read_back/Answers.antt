@@ -1,8 +1,6 @@
-use Rattle.std.proofs.Common.{List, rules, subst}
-use Rattle.mls_deriv.specs.declared.derivation.Section.{Section}
+use Rattle.std.proofs.Common.{rules, subst}
 use Rattle.mls_deriv.specs.declared.verify.Verified.{Verified}
 use Rattle.mls_deriv.specs.Verdicts.{IsVerdict}
-use Rattle.mls_iface.specs.declared.signature.SigEntry.{SigEntry}
 use Rattle.mls_top.specs.steps.Answering.{AreSectionsFor}
 use Rattle.mls_top.proofs.derive.read_back.Goals as goal
 
