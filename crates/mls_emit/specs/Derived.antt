@@ -1,5 +1,5 @@
 -- What a derivation of a module is.
-use Rattle.std.specs.Prelude.{◌≡◌, List, map, _,_}
+use Rattle.std.specs.Prelude.{◌≡◌, List, map}
 use Rattle.mls_term.specs.declared.term.ResolvedBinding.{ResolvedBinding}
 use Rattle.mls_typetext.specs.declared.scheme.ReadScheme.{ReadScheme}
 use Rattle.mls_deriv.specs.declared.derivation.Section.{Section}

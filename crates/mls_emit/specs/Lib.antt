@@ -25,3 +25,4 @@ pub mod PosedParts
 pub mod MetCopies
 pub mod OneEach
 pub mod LaidOut
+pub mod Derived
