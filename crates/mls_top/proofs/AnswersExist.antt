@@ -20,15 +20,15 @@ use Rattle.mls_iface.specs.Interfaces.{IsInterfaceText, HasInterfaceFault}
 use Rattle.mls_iface.proofs.InterfaceTotal.{interface_or_fault}
 use Rattle.mls_modules.specs.Environments.{declared_names}
 use Rattle.mls_top.specs.declared.command.Command.{Command}
-use Rattle.mls_top.specs.declared.command.Command.TheVariants.{Infer, Check, Verify, Generate}
+use Rattle.mls_top.specs.declared.command.Command.TheVariants.{Infer, Check, Derive, Verify, Generate}
 use Rattle.mls_top.specs.declared.status.Status.{Status}
 use Rattle.mls_top.specs.declared.status.Status.TheVariants.{Usage}
 use Rattle.mls_top.specs.Commands.{command_of}
 use Rattle.mls_top.specs.Generator.{generated_name, generated_files}
 use Rattle.mls_top.specs.Lines.{module_file, interface_file, derivation_file, usage_line}
 use Rattle.mls_top.specs.Refusals.{Refusal, for_fault, for_interface_fault, text_at, refusal_status, refusal_text}
-use Rattle.mls_top.specs.Outcomes.{module_limit, derivation_limit, is_faulty, ReadsInterface, no_interface, is_interface, is_no_interface, ReadsImports, no_import, first_refused, later_refused, all_read, HasSource, HasNoSource, no_text, bad_module, bad_import, unknown_name, refused, Infers, no_source, has_source, no_signature, names_mean, no_meaning, no_derivation, Verifies, unread, bad_names, bad_derivation}
-use Rattle.mls_top.specs.Answers.{IsAnswer, IsAnswerOf, no_command, of_command, infer, check, verify, generate}
+use Rattle.mls_top.specs.Outcomes.{module_limit, derivation_limit, is_faulty, ReadsInterface, no_interface, is_interface, is_no_interface, ReadsImports, no_import, first_refused, later_refused, all_read, HasSource, HasNoSource, no_text, bad_module, bad_import, unknown_name, refused, Infers, no_source, has_source, no_signature, not_inferred, names_mean, no_meaning, no_derivation, Verifies, unread, bad_names, bad_derivation}
+use Rattle.mls_top.specs.Answers.{IsAnswer, IsAnswerOf, no_command, of_command, infer, check, derive, verify, generate}
 use Rattle.mls_top.specs.Laws.{InfersTypesOf, files_for, AskForTypes, AskForCheck, AnswerExists}
 
 module _ (files : Files) where
@@ -112,6 +112,8 @@ module _ (files : Files) where
   answer_of x (Infer y) same r h = let P : List ℕ → Type 0 = λ x. Infers files x (refused r) in infer y (refused r) (subst P (sym same) h) refl refl
   answer_of x (Check y) same r h =
       let P : List ℕ → Type 0 = λ x. Infers files x (refused r) in check y (refused r) (no_signature (subst P (sym same) h)) refl refl
+  answer_of x (Derive y) same r h =
+      let P : List ℕ → Type 0 = λ x. Infers files x (refused r) in derive y (refused r) (not_inferred (subst P (sym same) h)) refl refl
   answer_of x (Verify y) wrong r h = absurd wrong
   answer_of x (Generate seed count) same r h =
       let P : List ℕ → Type 0 = λ x. Infers (generated_files seed count) x (refused r) in generate seed count (refused r) (subst P (sym same) h) refl refl
@@ -179,6 +181,7 @@ module _ (files : Files) where
     of_words None e = inl (Usage, usage_line, no_command e)
     of_words (Some (Infer x)) e = types_of x (Infer x) refl e (sourced files x)
     of_words (Some (Check x)) e = types_of x (Check x) refl e (sourced files x)
+    of_words (Some (Derive x)) e = types_of x (Derive x) refl e (sourced files x)
     of_words (Some (Verify x)) e = check_of x e (sourced files x)
     of_words (Some (Generate seed count)) e = types_of generated_name (Generate seed count) refl e (sourced (generated_files seed count) generated_name)
 

@@ -4,7 +4,7 @@ use Rattle.std.specs.Prelude.{◌&&◌, nat_le, bytes_eq, Option, Some, None}
 use Rattle.std.proofs.lemmas.Bool.Decides.{nat_tests}
 use Rattle.mls_lexer.specs.Tokens.{digits_value}
 use Rattle.mls_top.specs.declared.command.Command.{Command}
-use Rattle.mls_top.specs.declared.command.Command.TheVariants.{Infer, Check, Verify, Generate}
+use Rattle.mls_top.specs.declared.command.Command.TheVariants.{Infer, Check, Derive, Verify, Generate}
 use Rattle.mls_top.specs.Commands.{is_name_word, generate_of, command_of}
 use Rattle.mls_top.specs.Numbers.{is_number_word, is_between, number_between}
 use Rattle.mls_top.specs.steps.Answering.{IsWithinLimits}
@@ -34,18 +34,20 @@ generate_within true (Some seed) None command low high is = absurd (cc)
 generate_within true None count command low high is = absurd (cc)
 generate_within false seed count command low high is = absurd (cc)
 
-named_within : (name infers checks verifies : Bool) (x : List ℕ) (command : Command)
-    → cond name (cond infers (Some (Infer x)) (cond checks (Some (Check x)) (cond verifies (Some (Verify x)) None))) None ≡ Some command → IsWithinLimits command
-named_within true true checks verifies x command is = let same : Infer x ≡ command = cc in subst IsWithinLimits same tt
-named_within true false true verifies x command is = let same : Check x ≡ command = cc in subst IsWithinLimits same tt
-named_within true false false true x command is = let same : Verify x ≡ command = cc in subst IsWithinLimits same tt
-named_within true false false false x command is = absurd (cc)
-named_within false infers checks verifies x command is = absurd (cc)
+named_within : (name infers checks derives verifies : Bool) (x : List ℕ) (command : Command)
+    → cond name (cond infers (Some (Infer x)) (cond checks (Some (Check x)) (cond derives (Some (Derive x)) (cond verifies (Some (Verify x)) None)))) None ≡ Some command → IsWithinLimits command
+named_within true true checks derives verifies x command is = let same : Infer x ≡ command = cc in subst IsWithinLimits same tt
+named_within true false true derives verifies x command is = let same : Check x ≡ command = cc in subst IsWithinLimits same tt
+named_within true false false true verifies x command is = let same : Derive x ≡ command = cc in subst IsWithinLimits same tt
+named_within true false false false true x command is = let same : Verify x ≡ command = cc in subst IsWithinLimits same tt
+named_within true false false false false x command is = absurd (cc)
+named_within false infers checks derives verifies x command is = absurd (cc)
 
 pub command_within : (words : List (List ℕ)) (command : Command) → command_of words ≡ Some command → IsWithinLimits command
 command_within [] command is = absurd (cc)
 command_within (first ∷ []) command is = absurd (cc)
-command_within (first ∷ second ∷ []) command is = named_within (is_name_word second) (bytes_eq first (codes "infer")) (bytes_eq first (codes "check")) (bytes_eq first (codes "verify")) second command is
+command_within (first ∷ second ∷ []) command is =
+    named_within (is_name_word second) (bytes_eq first (codes "infer")) (bytes_eq first (codes "check")) (bytes_eq first (codes "derive")) (bytes_eq first (codes "verify")) second command is
 command_within (first ∷ second ∷ third ∷ []) command is =
     generate_within (bytes_eq first (codes "generate")) (number_between 0 2147483647 second) (number_between 1 10000 third) command (number_within 0 2147483647 second) (number_within 1 10000 third) is
 command_within (first ∷ second ∷ third ∷ fourth ∷ words) command is = absurd (cc)

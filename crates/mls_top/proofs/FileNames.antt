@@ -28,15 +28,21 @@ not_interface x y same =
 derivation_ends : (x file : List ℕ) → file ≡ derivation_file x → get_or (reverse file) 0 0 ≡ 100
 derivation_ends x file same = ap (λ (l : List ℕ). get_or (reverse l) 0 0) same ∙ ap (λ (l : List ℕ). get_or l 0 0) (reverse-append x (codes ".mld"))
 
+pub module_is_no_derivation : (x y : List ℕ) → module_file y ≡ derivation_file x → ⊥
+module_is_no_derivation x y same =
+    let last : get_or (reverse (module_file y)) 0 0 ≡ 108 = ap (λ (l : List ℕ). get_or l 0 0) (reverse-append y (codes ".ml")) in
+    let other : get_or (reverse (module_file y)) 0 0 ≡ 100 = derivation_ends x (module_file y) same in
+    absurd (omega arith)
+
+pub interface_is_no_derivation : (x y : List ℕ) → interface_file y ≡ derivation_file x → ⊥
+interface_is_no_derivation x y same =
+    let last : get_or (reverse (interface_file y)) 0 0 ≡ 105 = ap (λ (l : List ℕ). get_or l 0 0) (reverse-append y (codes ".mli")) in
+    let other : get_or (reverse (interface_file y)) 0 0 ≡ 100 = derivation_ends x (interface_file y) same in
+    absurd (omega arith)
+
 pub derivation_not_fetched : (x : List ℕ) (imports : List Import) (file : List ℕ) → IsFileOf x imports file → file ≡ derivation_file x → ⊥
-derivation_not_fetched x imports file (inl text) same =
-    let last : get_or (reverse file) 0 0 ≡ 108 = ap (λ (l : List ℕ). get_or (reverse l) 0 0) text ∙ ap (λ (l : List ℕ). get_or l 0 0) (reverse-append x (codes ".ml")) in
-    let other : get_or (reverse file) 0 0 ≡ 100 = derivation_ends x file same in
-    absurd (omega arith)
-derivation_not_fetched x imports file (inr import) same =
-    let last : get_or (reverse file) 0 0 ≡ 105 = ap (λ (l : List ℕ). get_or (reverse l) 0 0) import.2 ∙ ap (λ (l : List ℕ). get_or l 0 0) (reverse-append import.0.name (codes ".mli")) in
-    let other : get_or (reverse file) 0 0 ≡ 100 = derivation_ends x file same in
-    absurd (omega arith)
+derivation_not_fetched x imports file (inl text) same = module_is_no_derivation x x (sym text ∙ same)
+derivation_not_fetched x imports file (inr import) same = interface_is_no_derivation x import.0.name (sym import.2 ∙ same)
 
 -- and interfaces of one name are those of one module
 pub one_module : (x y : List ℕ) → interface_file x ≡ interface_file y → x ≡ y

@@ -3,6 +3,7 @@ pub mod AnswersExist
 pub mod CommandLimits
 pub mod CommandNumbers
 pub mod DerivationsRead
+pub mod DerivedModules
 pub mod FileNames
 pub mod FirstTokens
 pub mod GeneratedModules
@@ -22,6 +23,7 @@ pub mod SameVerdicts
 pub mod SignedModules
 pub mod SitesTold
 pub mod SourcesRead
+pub mod StoredDerivations
 pub mod Telling
 pub mod VerifiedModules
 pub mod WordsFound

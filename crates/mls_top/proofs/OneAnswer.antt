@@ -33,8 +33,8 @@ use Rattle.mls_top.specs.declared.status.Status.{Status}
 use Rattle.mls_top.specs.Generator.{generated_name, generated_files}
 use Rattle.mls_top.specs.Lines.{module_file, no_scheme_line, too_special_line}
 use Rattle.mls_top.specs.Refusals.{Refusal, no_file, too_long, bad_text, no_scheme, absent, too_special, bad_line, not_allowed, for_fault, refusal_status, refusal_text}
-use Rattle.mls_top.specs.Outcomes.{HasNoScheme, InfersBindings, unknown_name, one_has_none, all_inferred, Outcome, refused, signed, matching, verified, outcome_status, outcome_text, generated_text, HasSource, Infers, no_source, has_source, Compares, all_match, one_is_absent, one_is_too_special, Checks, no_signature, bad_interface, compared, ReadsNames, ChecksSteps, all_allowed, one_refused, Verifies, unread, bad_names, bad_derivation, checked}
-use Rattle.mls_top.specs.Answers.{no_command, of_command, IsAnswerOf, infer, check, verify, generate}
+use Rattle.mls_top.specs.Outcomes.{HasNoScheme, InfersBindings, unknown_name, one_has_none, all_inferred, Outcome, refused, signed, matching, derived, verified, outcome_status, outcome_text, generated_text, HasSource, Infers, no_source, has_source, Compares, all_match, one_is_absent, one_is_too_special, Checks, no_signature, bad_interface, compared, Derives, not_inferred, has_derivation, ReadsNames, ChecksSteps, all_allowed, one_refused, Verifies, unread, bad_names, bad_derivation, checked}
+use Rattle.mls_top.specs.Answers.{no_command, of_command, IsAnswerOf, infer, check, derive, verify, generate}
 use Rattle.mls_top.specs.Laws.{both_absent, both_too_special, AreAlike, OneAnswer}
 use Rattle.mls_top.proofs.AlikeSignatures.{one_answer_of_alike}
 use Rattle.mls_top.proofs.OneReading.{err_is, ok_is, ok_is_no_err, one_interface_read, one_source, not_refused, one_refusal, one_meaning, one_derivation_read, valid_imports}
@@ -163,12 +163,15 @@ module _ (files : Files) (x : List ℕ) where
   told (refused r) (refused s) same = same
   told (refused r) (signed s) same = absurd same
   told (refused r) matching same = absurd same
+  told (refused r) (derived d) same = absurd same
   told (refused r) verified same = absurd same
   told (signed s) (refused r) same = absurd same
   told (signed s) (signed t) same = record { one_status = refl; one_text = λ other _ _. absurd (other refl); one_binding = λ is. absurd (cc); one_declaration = λ is. absurd (cc) }
   told (signed s) matching same = absurd same
+  told (signed s) (derived d) same = absurd same
   told (signed s) verified same = absurd same
   told matching p same = absurd same
+  told (derived d) p same = absurd same
   told verified p same = absurd same
 
   module _ (s t : Signature) (i : Interface) (entries : AreEntries s.entries) (are : modules.AreAlike s.entries t.entries) where
@@ -207,6 +210,18 @@ module _ (files : Files) (x : List ℕ) where
       let same : i ≡ j = ok_is (one_interface_read files x (Ok i) (Ok j) read read') in
       let alike = one_inferred (signed s) (signed t) h k in
       one_comparison s t j alike.0 alike.1 o p (subst (λ (i : Interface). Compares x s i o) same is) is'
+
+  -- whichever derivations of a signature are found, both are
+  one_derived : (o p : Outcome) → Derives files x o → Derives files x p → ToldAlike o p
+  one_derived _ _ (not_inferred {r} h) (not_inferred {r = s} k) = one_inferred (refused r) (refused s) h k
+  one_derived _ _ (not_inferred {r} h) (has_derivation {s} source is d) = absurd (one_inferred (refused r) (signed s) h (has_source source (all_inferred is)))
+  one_derived _ _ (has_derivation {s} source is d) (not_inferred {r} k) = absurd (one_inferred (signed s) (refused r) (has_source source (all_inferred is)) k)
+  one_derived _ _ (has_derivation source is d) (has_derivation source' is' d') = record {
+    one_status = refl;
+    one_text = λ other _ _. absurd (other refl);
+    one_binding = λ is. absurd (cc);
+    one_declaration = λ is. absurd (cc);
+  }
 
   -- steps are checked in one way over names that mean the same
   module _ (known other : List ReadScheme) (same : schemes_of known ≡ schemes_of other) (bindings : List ResolvedBinding) (sections : List Section) where
@@ -264,12 +279,15 @@ told_generated : (seed count : ℕ) (o p : Outcome) → AreSame o p → AreAlike
 told_generated seed count (refused r) (refused s) same = same
 told_generated seed count (refused r) (signed s) same = absurd same
 told_generated seed count (refused r) matching same = absurd same
+told_generated seed count (refused r) (derived d) same = absurd same
 told_generated seed count (refused r) verified same = absurd same
 told_generated seed count (signed s) (refused r) same = absurd same
 told_generated seed count (signed s) (signed t) same = record { one_status = refl; one_text = λ other _ _. absurd (other refl); one_binding = λ is. absurd (cc); one_declaration = λ is. absurd (cc) }
 told_generated seed count (signed s) matching same = absurd same
+told_generated seed count (signed s) (derived d) same = absurd same
 told_generated seed count (signed s) verified same = absurd same
 told_generated seed count matching p same = absurd same
+told_generated seed count (derived d) p same = absurd same
 told_generated seed count verified p same = absurd same
 
 -- answers that tell outcomes by these texts
@@ -288,6 +306,8 @@ one_command : (files : Files) (command : Command) (status other : Status) (text 
 one_command files _ status other text said (infer x o found s t) (infer _ p found' s' t') =
     told_so (outcome_text x) o p status other text said (told files x o p (one_inferred files x o p found found')) s t s' t'
 one_command files _ status other text said (check x o found s t) (check _ p found' s' t') = told_so (outcome_text x) o p status other text said (one_check files x o p found found') s t s' t'
+one_command files _ status other text said (derive x o found s t) (derive _ p found' s' t') =
+    told_so (outcome_text x) o p status other text said (one_derived files x o p found found') s t s' t'
 one_command files _ status other text said (verify x o found s t) (verify _ p found' s' t') =
     told_so (outcome_text x) o p status other text said (one_verified files x o p found found') s t s' t'
 one_command files _ status other text said (generate seed count o found s t) (generate _ _ p found' s' t') =

@@ -37,6 +37,10 @@ pub check_taken : (c : ℕ) (rest : Text) → (c == 45) ≡ false → takes prog
 unfolding walked walk_passes
 check_taken c rest h = simp h refl
 
+pub derive_taken : (c : ℕ) (rest : Text) → (c == 45) ≡ false → takes program (codes "derive" ∷ (c ∷ rest) ∷ []) ≡ true
+unfolding walked walk_passes
+derive_taken c rest h = simp h refl
+
 pub verify_taken : (c : ℕ) (rest : Text) → (c == 45) ≡ false → takes program (codes "verify" ∷ (c ∷ rest) ∷ []) ≡ true
 unfolding walked walk_passes
 verify_taken c rest h = simp h refl
@@ -50,6 +54,11 @@ pub check_again : (c : ℕ) (rest : Text) → (c == 45) ≡ false
     → words_again program (codes "check" ∷ (c ∷ rest) ∷ []) ≡ Some (codes "check" ∷ (c ∷ rest) ∷ [])
 unfolding walked
 check_again c rest h = simp h refl
+
+pub derive_again : (c : ℕ) (rest : Text) → (c == 45) ≡ false
+    → words_again program (codes "derive" ∷ (c ∷ rest) ∷ []) ≡ Some (codes "derive" ∷ (c ∷ rest) ∷ [])
+unfolding walked
+derive_again c rest h = simp h refl
 
 pub verify_again : (c : ℕ) (rest : Text) → (c == 45) ≡ false
     → words_again program (codes "verify" ∷ (c ∷ rest) ∷ []) ≡ Some (codes "verify" ∷ (c ∷ rest) ∷ [])
@@ -83,20 +92,23 @@ name_is_no_option : (c : ℕ) (rest : Text) → is_name_word (c ∷ rest) ≡ tr
 name_is_no_option c rest h = lower_is_no_hyphen c (both_left _ _ (both_left _ _ h))
 
 -- a command of one name
-named : (c : ℕ) (rest first : Text) → (c == 45) ≡ false → (i k v : Bool) → bytes_eq first (codes "infer") ≡ i → bytes_eq first (codes "check") ≡ k → bytes_eq first (codes "verify") ≡ v
+named : (c : ℕ) (rest first : Text) → (c == 45) ≡ false → (i k d v : Bool) → bytes_eq first (codes "infer") ≡ i → bytes_eq first (codes "check") ≡ k → bytes_eq first (codes "derive") ≡ d
+    → bytes_eq first (codes "verify") ≡ v
     → (command_named first (c ∷ rest) ≡ None) ⊎ IsReadable (first ∷ (c ∷ rest) ∷ [])
-named c rest first h true k v e f g = inr (subst (λ w. IsReadable (w ∷ (c ∷ rest) ∷ [])) (sym ((bytes_eq-Decides first (codes "infer")).0 e))
+named c rest first h true k d v e f p g = inr (subst (λ w. IsReadable (w ∷ (c ∷ rest) ∷ [])) (sym ((bytes_eq-Decides first (codes "infer")).0 e))
     (record { taken = infer_taken c rest h; again = infer_again c rest h }))
-named c rest first h false true v e f g = inr (subst (λ w. IsReadable (w ∷ (c ∷ rest) ∷ [])) (sym ((bytes_eq-Decides first (codes "check")).0 f))
+named c rest first h false true d v e f p g = inr (subst (λ w. IsReadable (w ∷ (c ∷ rest) ∷ [])) (sym ((bytes_eq-Decides first (codes "check")).0 f))
     (record { taken = check_taken c rest h; again = check_again c rest h }))
-named c rest first h false false true e f g = inr (subst (λ w. IsReadable (w ∷ (c ∷ rest) ∷ [])) (sym ((bytes_eq-Decides first (codes "verify")).0 g))
+named c rest first h false false true v e f p g = inr (subst (λ w. IsReadable (w ∷ (c ∷ rest) ∷ [])) (sym ((bytes_eq-Decides first (codes "derive")).0 p))
+    (record { taken = derive_taken c rest h; again = derive_again c rest h }))
+named c rest first h false false false true e f p g = inr (subst (λ w. IsReadable (w ∷ (c ∷ rest) ∷ [])) (sym ((bytes_eq-Decides first (codes "verify")).0 g))
     (record { taken = verify_taken c rest h; again = verify_again c rest h }))
-named c rest first h false false false e f g = inl (rw (e, f, g) refl)
+named c rest first h false false false false e f p g = inl (rw (e, f, p, g) refl)
 
 two_words : (first second : Text) (b : Bool) → is_name_word second ≡ b → (command_of_two first second ≡ None) ⊎ IsReadable (first ∷ second ∷ [])
 two_words first second false e = inl (rw e refl)
 two_words first [] true e = absurd (true≢false (sym e))
-two_words first (c ∷ rest) true e = rw e (named c rest first (name_is_no_option c rest e) _ _ _ refl refl refl)
+two_words first (c ∷ rest) true e = rw e (named c rest first (name_is_no_option c rest e) _ _ _ _ refl refl refl refl)
 
 -- a digit is no hyphen
 digit_is_no_hyphen : (c : ℕ) → is_digit c ≡ true → (c == 45) ≡ false

@@ -12,11 +12,11 @@ use Rattle.mls_top.specs.declared.answer.Stop.TheVariants as stop
 use Rattle.mls_infer.specs.declared.fault.SiteKind.{SiteKind}
 use Rattle.mls_infer.specs.declared.fault.SiteKind.TheVariants.{Lacks}
 use Rattle.mls_top.specs.Lines.{kind_text}
-use Rattle.mls_top.specs.declared.command.Command.TheVariants.{Infer, Check, Verify}
+use Rattle.mls_top.specs.declared.command.Command.TheVariants.{Infer, Check, Derive, Verify}
 use Rattle.mls_top.specs.declared.status.Status.{Status}
 use Rattle.mls_top.specs.declared.status.Status.TheVariants.{Done, NoScheme, Mismatch, BadText, NoFile, ReadFault, WriteFault, Memory, Usage, NotVerified, TooLong}
-use Rattle.mls_top.specs.Answers.{infer, check, verify, IsOver}
-use Rattle.mls_top.specs.Outcomes.{Outcome, refused, signed, matching, verified, outcome_status, Infers, Checks, no_signature, Verifies}
+use Rattle.mls_top.specs.Answers.{infer, check, derive, verify, IsOver}
+use Rattle.mls_top.specs.Outcomes.{Outcome, refused, signed, matching, derived, verified, outcome_status, Infers, Checks, no_signature, Derives, not_inferred, Verifies}
 use Rattle.mls_top.specs.Refusals.{Refusal, no_file, too_long, bad_text, no_scheme, absent, too_special, bad_line, not_allowed}
 use Rattle.mls_top.specs.Statuses.{is_answer}
 use Rattle.mls_top.specs.steps.Answering.{IsCausedBy, IsCausedStop, IsUncounted, IsStop, IsAsked, IsAskedStop, Tells, TellsOutcome}
@@ -33,6 +33,7 @@ outcome_is_answer (refused (bad_line file line)) = refl
 outcome_is_answer (refused (not_allowed x step)) = refl
 outcome_is_answer (signed s) = refl
 outcome_is_answer matching = refl
+outcome_is_answer (derived d) = refl
 outcome_is_answer verified = refl
 
 -- statuses of which no count speaks
@@ -82,6 +83,13 @@ module _ (x : List ℕ) (old new : Holdings) (answer : Answer) (o : Outcome) (te
     answer_status = ap is_answer tells.status ∙ outcome_is_answer o;
   }
 
+  pub derive_is_asked : IsOver old.files (λ files. Derives files x o) → IsAsked old new (Derive x) answer
+  derive_is_asked it = record {
+    answers = record { files = it.files; of_store = it.of_store; holds = derive x o it.holds tells.status tells.text };
+    caused = caused;
+    answer_status = ap is_answer tells.status ∙ outcome_is_answer o;
+  }
+
   pub verify_is_asked : IsOver old.files (λ files. Verifies files x o) → IsAsked old new (Verify x) answer
   verify_is_asked it = record {
     answers = record { files = it.files; of_store = it.of_store; holds = verify x o it.holds tells.status tells.text };
@@ -93,7 +101,7 @@ module _ (x : List ℕ) (old new : Holdings) (answer : Answer) (o : Outcome) (te
 refusal_told : (x : List ℕ) (r : Refusal) (answer : Answer) → Tells r answer → TellsOutcome x (refused r) answer
 refusal_told x r answer it = record { status = it.status; text = it.text }
 
--- a module without a signature is refused by both commands
+-- a module without a signature is refused by each command that infers
 pub infer_stops : (x : List ℕ) (old new : Holdings) (s : Stop) → IsStop (λ r. IsOver old.files (λ files. Infers files x (refused r))) s → IsCausedStop old new s → IsAskedStop old new (Infer x) s
 infer_stops x old new (stop.Refused answer) h caused = infer_is_asked x old new answer (refused h.0) (refusal_told x h.0 answer h.1) caused h.2
 infer_stops x old new (stop.Halt why) h caused = caused
@@ -101,6 +109,11 @@ infer_stops x old new (stop.Halt why) h caused = caused
 pub check_stops : (x : List ℕ) (old new : Holdings) (s : Stop) → IsStop (λ r. IsOver old.files (λ files. Checks files x (refused r))) s → IsCausedStop old new s → IsAskedStop old new (Check x) s
 check_stops x old new (stop.Refused answer) h caused = check_is_asked x old new answer (refused h.0) (refusal_told x h.0 answer h.1) caused h.2
 check_stops x old new (stop.Halt why) h caused = caused
+
+pub derive_stops : (x : List ℕ) (old new : Holdings) (s : Stop) → IsStop (λ r. IsOver old.files (λ files. Infers files x (refused r))) s → IsCausedStop old new s → IsAskedStop old new (Derive x) s
+derive_stops x old new (stop.Refused answer) h caused =
+    derive_is_asked x old new answer (refused h.0) (refusal_told x h.0 answer h.1) caused (record { files = h.2.files; of_store = h.2.of_store; holds = not_inferred h.2.holds })
+derive_stops x old new (stop.Halt why) h caused = caused
 
 pub verify_stops : (x : List ℕ) (old new : Holdings) (s : Stop) → IsStop (λ r. IsOver old.files (λ files. Verifies files x (refused r))) s → IsCausedStop old new s → IsAskedStop old new (Verify x) s
 verify_stops x old new (stop.Refused answer) h caused = verify_is_asked x old new answer (refused h.0) (refusal_told x h.0 answer h.1) caused h.2

@@ -2,13 +2,14 @@
 use Rattle.std.specs.Prelude.{◌≡◌, ℕ, List, ◌++◌, Option, Some, None, IfSome}
 use Rattle.mls_base.specs.Files.{Files}
 use Rattle.mls_top.specs.declared.command.Command.{Command}
-use Rattle.mls_top.specs.declared.command.Command.TheVariants.{Infer, Check, Verify, Generate}
+use Rattle.mls_top.specs.declared.command.Command.TheVariants.{Infer, Check, Derive, Verify, Generate}
 use Rattle.mls_top.specs.declared.status.Status.{Status}
 use Rattle.mls_top.specs.declared.status.Status.TheVariants.{Usage}
 use Rattle.mls_top.specs.Commands.{command_of}
 use Rattle.mls_top.specs.Generator.{generated_name, generated_files}
 use Rattle.mls_top.specs.Lines.{usage_line}
-use Rattle.mls_top.specs.Outcomes.{Outcome, Infers, Checks, Verifies, outcome_status, outcome_text, generated_text}
+use Rattle.mls_top.specs.Outcomes.{Outcome, Infers, Checks, Derives, Verifies}
+use Rattle.mls_top.specs.Outcomes.{outcome_status, outcome_text, generated_text}
 
 -- these files may be those of a store: where it tells its files, they are those
 abbrev pub MayBeThose : Option Files → Files → Type 0
@@ -24,6 +25,10 @@ pub data IsAnswerOf (files : Files) : Command → Status → List ℕ → Type 0
   check : {status : Status} {text : List ℕ} (x : List ℕ) (outcome : Outcome)
       → Checks files x outcome → status ≡ outcome_status outcome → text ≡ outcome_text x outcome
       → IsAnswerOf files (Check x) status text
+  -- a derivation of the types of the signature
+  derive : {status : Status} {text : List ℕ} (x : List ℕ) (outcome : Outcome)
+      → Derives files x outcome → status ≡ outcome_status outcome → text ≡ outcome_text x outcome
+      → IsAnswerOf files (Derive x) status text
   -- whether the derivation of the module is allowed
   verify : {status : Status} {text : List ℕ} (x : List ℕ) (outcome : Outcome)
       → Verifies files x outcome → status ≡ outcome_status outcome → text ≡ outcome_text x outcome

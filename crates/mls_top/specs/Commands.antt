@@ -2,18 +2,19 @@
 use Rattle.std.specs.Prelude.{ℕ, Bool, not, ◌&&◌, if◌then◌else◌, List, [], ◌∷◌, codes, bytes_eq, Option, Some, None}
 use Rattle.mls_base.specs.Spelling.{is_spelled, is_reserved}
 use Rattle.mls_top.specs.declared.command.Command.{Command}
-use Rattle.mls_top.specs.declared.command.Command.TheVariants.{Infer, Check, Verify, Generate}
+use Rattle.mls_top.specs.declared.command.Command.TheVariants.{Infer, Check, Derive, Verify, Generate}
 use Rattle.mls_top.specs.Numbers.{number_between}
 
 -- a word is a name that is no reserved word
 abbrev pub is_name_word : List ℕ → Bool
 is_name_word word = is_spelled word && not (is_reserved word)
 
--- `infer NAME`, `check NAME` and `verify NAME`
+-- `infer NAME`, `check NAME`, `derive NAME` and `verify NAME`
 abbrev pub command_named : List ℕ → List ℕ → Option Command
 command_named first x =
     if bytes_eq first (codes "infer") then Some (Infer x)
     else if bytes_eq first (codes "check") then Some (Check x)
+    else if bytes_eq first (codes "derive") then Some (Derive x)
     else if bytes_eq first (codes "verify") then Some (Verify x) else None
 
 abbrev pub command_of_two : List ℕ → List ℕ → Option Command

@@ -1,5 +1,5 @@
 -- The laws of answers.
-use Rattle.std.specs.Prelude.{◌≡◌, ◌≢◌, ◌⊎◌, ℕ, List, ◌++◌, All, codes, slice_get, Some, Ok}
+use Rattle.std.specs.Prelude.{◌≡◌, ◌≢◌, ◌⊎◌, ℕ, ◌≤◌, List, ◌∷◌, ◌++◌, length, All, codes, slice_get, Some, Ok}
 use Rattle.mls_base.specs.Files.{Files}
 use Rattle.mls_term.specs.declared.term.Resolved.{Resolved}
 use Rattle.mls_grammar.specs.declared.module.Module.{Module}
@@ -18,13 +18,13 @@ use Rattle.mls_iface.specs.Signatures.{IsPlain, entry_line}
 use Rattle.mls_modules.specs.Entries.{IsSignatureOf}
 use Rattle.mls_modules.specs.Environments.{declared_names}
 use Rattle.mls_top.specs.declared.command.Command.{Command}
-use Rattle.mls_top.specs.declared.command.Command.TheVariants.{Infer, Check, Verify, Generate}
+use Rattle.mls_top.specs.declared.command.Command.TheVariants.{Infer, Check, Derive, Verify, Generate}
 use Rattle.mls_top.specs.declared.status.Status.{Status}
 use Rattle.mls_top.specs.declared.status.Status.TheVariants.{Done, NoScheme, Mismatch}
-use Rattle.mls_top.specs.Answers.{IsAnswer}
+use Rattle.mls_top.specs.Answers.{IsAnswer, IsAnswerOf}
 use Rattle.mls_top.specs.Commands.{command_of}
 use Rattle.mls_top.specs.Generator.{generated_name, generated_files}
-use Rattle.mls_top.specs.Lines.{derivation_file, no_scheme_line, absent_line, too_special_line}
+use Rattle.mls_top.specs.Lines.{derivation_file, no_scheme_line, absent_line, too_special_line, verified_line}
 use Rattle.mls_top.specs.Outcomes.{derivation_limit, HasSource}
 use Rattle.mls_top.specs.Refusals.{text_at}
 
@@ -67,6 +67,7 @@ OneAnswer =
 abbrev pub InfersTypesOf : List ℕ → Command → Type 0
 InfersTypesOf x (Infer y) = y ≡ x
 InfersTypesOf x (Check y) = y ≡ x
+InfersTypesOf x (Derive y) = y ≡ x
 InfersTypesOf x (Verify y) = ⊥
 InfersTypesOf x (Generate seed count) = generated_name ≡ x
 
@@ -107,6 +108,13 @@ AnswerExists =
     (files : Files) (words : List (List ℕ))
     → ((status : Status) × (text : List ℕ) × IsAnswer files words status text)
     ⊎ AskForTypes files words ⊎ AskForCheck files words
+
+-- a derivation that is printed for a module is verified where its text is stored beside the module, if it is not too
+-- long to be read
+abbrev pub DerivedIsVerified : Type 0
+DerivedIsVerified =
+    (files : Files) (x text : List ℕ) → IsAnswerOf files (Derive x) Done text → length text ≤ derivation_limit
+    → IsAnswerOf ((derivation_file x, text) ∷ files) (Verify x) Done (verified_line x)
 
 -- the line of an entry is plain up to the newline that ends it
 pub record IsOneLine (e : SigEntry) : Type 0 where

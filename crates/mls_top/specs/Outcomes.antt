@@ -1,5 +1,5 @@
--- What is found when a module's signature is asked for or compared with its interface, or when its derivation is
--- checked: stage by stage, up to the first that refuses.
+-- What is found when a module's signature is asked for or compared with its interface, or when a derivation of it is
+-- asked for or checked: stage by stage, up to the first that refuses.
 use Rattle.std.specs.Prelude.{◌≡◌, ℕ, List, [], ◌∷◌, length, slice_get, Some, Result, Ok, Err}
 use Rattle.mls_base.specs.Files.{Files}
 use Rattle.mls_grammar.specs.declared.module.Module.{Module}
@@ -19,6 +19,7 @@ use Rattle.mls_deriv.specs.declared.derivation.Section.{Section}
 use Rattle.mls_deriv.specs.BadLines.{IsFirstBadLine}
 use Rattle.mls_deriv.specs.Laws.{AreDerivable}
 use Rattle.mls_deriv.specs.Sections.{schemes_of, AreSectionsAllowed, HasFirstRefused}
+use Rattle.mls_deriv.specs.Spellings.{derivation_text}
 use Rattle.mls_deriv.specs.Texts.{IsTextOf}
 use Rattle.mls_infer.specs.declared.fault.SiteKind.{SiteKind}
 use Rattle.mls_iface.specs.declared.interface.Interface.{Interface}
@@ -29,6 +30,7 @@ use Rattle.mls_iface.specs.Signatures.{signature_text}
 use Rattle.mls_iface.specs.declared.matching.MatchAnswer.TheVariants.{All, Missing, TooSpecial}
 use Rattle.mls_iface.specs.Matches.{IsMatchAnswer}
 use Rattle.mls_subsume.specs.declared.verdict.Path.{Path}
+use Rattle.mls_emit.specs.Derived.{AreDerivations}
 use Rattle.mls_modules.specs.declared.fault.ModuleFault.TheVariants as module_fault
 use Rattle.mls_modules.specs.Entries.{IsSignatureOf}
 use Rattle.mls_modules.specs.Environments.{declared_names, declared_schemes}
@@ -114,6 +116,8 @@ pub data Outcome : Type 0 where
   signed : Signature → Outcome
   -- the signature matches the interface
   matching : Outcome
+  -- the types of the signature have this derivation
+  derived : Derivation → Outcome
   -- each step of the derivation is allowed
   verified : Outcome
 
@@ -155,6 +159,27 @@ pub data Checks (files : Files) (x : List ℕ) : Outcome → Type 0 where
   compared : {s : Signature} {i : Interface} {outcome : Outcome} → Infers files x (signed s)
       → ReadsInterface files x (Ok i) → Compares x s i outcome
       → Checks files x outcome
+
+-- The derivation has a section for each entry of the signature, with its name and the text of its type. Over the
+-- operators and what the imports declare each step of it is allowed for the bindings of the module; this shows that the
+-- type that each section states is derivable for its binding. Its text is read as it. Which of the allowed derivations
+-- it is, is left open.
+pub record IsDerivationOf (m : Module) (imports : List Interface) (s : Signature) (d : Derivation) : Type 0 where
+  pub b : Resolved
+  pub resolves : Resolves m (declared_names imports) b
+  pub known : List ReadScheme
+  pub mean : schemes_of known ≡ environment (declared_schemes imports) []
+  pub derives : AreDerivations known b.bindings s.entries d.sections
+  pub derivable : AreDerivable known b.bindings d.sections
+  pub text_of : IsTextOf (derivation_text d) d
+
+-- what is found where a derivation of the types of the module of this name over these files is asked for
+pub data Derives (files : Files) (x : List ℕ) : Outcome → Type 0 where
+  -- the module has no signature
+  not_inferred : {r : Refusal} → Infers files x (refused r) → Derives files x (refused r)
+  has_derivation : {text : List ℕ} {m : Module} {imports : List Interface} {s : Signature} {d : Derivation}
+      → HasSource files x text m imports → IsSignatureOf m imports s → IsDerivationOf m imports s d
+      → Derives files x (derived d)
 
 -- what the names of a module mean whose imports declare this, or why it is refused: one of them has no meaning
 pub data ReadsNames (file text : List ℕ) (m : Module) (imports : List Interface) :
@@ -211,12 +236,14 @@ abbrev pub outcome_status : Outcome → Status
 outcome_status (refused r) = refusal_status r
 outcome_status (signed s) = Done
 outcome_status matching = Done
+outcome_status (derived d) = Done
 outcome_status verified = Done
 
 abbrev pub outcome_text : List ℕ → Outcome → List ℕ
 outcome_text x (refused r) = refusal_text r
 outcome_text x (signed s) = signature_text s.entries
 outcome_text x matching = matches_line x
+outcome_text x (derived d) = derivation_text d
 outcome_text x verified = verified_line x
 
 -- the text that tells an outcome for a generated module: of a signature only its length, beside that of the module

@@ -7,6 +7,7 @@ ghost use Rattle.mls_top.specs.steps.Answering.{IsCaused, IsAsked, IsAskedStop, 
 
 use crate::check::check;
 use crate::command::Command;
+use crate::derive::derive;
 use crate::generate::generate_and_infer;
 use crate::infer::infer;
 use crate::status::Status;
@@ -83,6 +84,7 @@ fn asked<S: Store>(alloc: Global, command: &Command, store: &mut S) -> Result<An
     match command {
         Command::Infer(name) => infer(alloc, store, name),
         Command::Check(name) => check(alloc, store, name),
+        Command::Derive(name) => derive(alloc, store, name),
         Command::Verify(name) => verify(alloc, store, name),
         Command::Generate { seed, count } => generate_and_infer(alloc, *seed, *count),
     }

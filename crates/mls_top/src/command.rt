@@ -22,6 +22,8 @@ pub enum Command {
     Infer(Name),
     /// Compares the module of this name with its interface.
     Check(Name),
+    /// Prints a derivation of the types of the module of this name.
+    Derive(Name),
     /// Checks the derivation for the module of this name.
     Verify(Name),
     /// Generates a module from a seed below 2147483648, with 1 to 10000 bindings, and infers its signature.
@@ -127,6 +129,7 @@ fn command_named(alloc: Global, first: &str, second: &str) -> Result<Option<Comm
     match first {
         "infer" => Ok(Some(Command::Infer(Name::new(alloc, second.as_bytes())?))),
         "check" => Ok(Some(Command::Check(Name::new(alloc, second.as_bytes())?))),
+        "derive" => Ok(Some(Command::Derive(Name::new(alloc, second.as_bytes())?))),
         "verify" => Ok(Some(Command::Verify(Name::new(alloc, second.as_bytes())?))),
         _ => Ok(None),
     }

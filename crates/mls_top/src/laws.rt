@@ -1,5 +1,5 @@
 //! Laws of answers, each the contract of a function that does nothing.
-ghost use Rattle.mls_top.specs.Laws.{OneAnswer, AnswerExists, EachIsOneLine, OperatorsStandFirst};
+ghost use Rattle.mls_top.specs.Laws.{OneAnswer, AnswerExists, DerivedIsVerified, EachIsOneLine, OperatorsStandFirst};
 
 /// Two answers of the same words over the same files have one status. Where it is NoScheme they tell of one binding at
 /// one place, where it is Mismatch of one declaration, and where it is none of these and not Done they have one text.
@@ -8,9 +8,14 @@ pub fn one_answer()
 {}
 
 /// All words have an answer over all files, or ask for types of a module whose imports are read and whose names have
-/// meanings.
+/// meanings, or for the check of a derivation for one.
 pub fn answer_exists()
     ensures { AnswerExists }
+{}
+
+/// A derivation that is printed for a module is verified where its text is stored beside the module.
+pub fn derived_is_verified()
+    ensures { DerivedIsVerified }
 {}
 
 /// A signature has one line for each entry.

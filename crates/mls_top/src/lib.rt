@@ -4,6 +4,7 @@
 mod answer;
 mod check;
 mod command;
+mod derive;
 mod faults;
 mod fetching;
 mod generate;
@@ -33,6 +34,8 @@ mod tests_of_forms;
 mod tests_of_generate;
 #[cfg(test)]
 mod tests_of_imports;
+#[cfg(test)]
+mod tests_of_refusing;
 #[cfg(test)]
 mod tests_of_signatures;
 #[cfg(test)]

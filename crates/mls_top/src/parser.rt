@@ -4,8 +4,8 @@ ghost use Rattle.clap.specs.Walk.{rows_of, rule_of, texts};
 ghost use Rattle.clap.specs.Simple.{app_of, shape_of};
 ghost use Rattle.clap.specs.Matches.{found_of};
 ghost use Rattle.clap.specs.declared.builder.command.Command.TheViews.{out-Command as fields_of};
-ghost use Rattle.mls_top.specs.steps.CommandLines.{inferring_subcommands, module_subcommands, one_word, program};
-ghost use Rattle.mls_top.specs.steps.CommandLines.{program_of, subcommand, words_of};
+ghost use Rattle.mls_top.specs.steps.CommandLines.{module_subcommands, one_word, program, program_of, subcommand};
+ghost use Rattle.mls_top.specs.steps.CommandLines.{type_subcommands, words_of};
 
 use clap::{Arg, ArgAction, ArgMatches};
 use std::alloc::{AllocError, Global};
@@ -21,12 +21,14 @@ pub(crate) fn program<'a>(alloc: Global) -> Result<clap::Command<'a>, AllocError
 fn of_modules<'a>(alloc: Global) -> Result<clap::Command<'a>, AllocError>
     ensures { IfOk result (λ made. app_of made ≡ program_of module_subcommands) }
 {
-    of_types(alloc)?.subcommand(with_one(alloc, "verify", "NAME")?)
+    of_types(alloc)?
+        .subcommand(with_one(alloc, "derive", "NAME")?)?
+        .subcommand(with_one(alloc, "verify", "NAME")?)
 }
 
-// The parser with the subcommands alone that infer the types of one module.
+// The parser with the subcommands alone that are asked for the types of one module.
 fn of_types<'a>(alloc: Global) -> Result<clap::Command<'a>, AllocError>
-    ensures { IfOk result (λ made. app_of made ≡ program_of inferring_subcommands) }
+    ensures { IfOk result (λ made. app_of made ≡ program_of type_subcommands) }
 {
     clap::Command::new(alloc, "mlsub")
         .no_binary_name(true)

@@ -31,6 +31,7 @@ const USAGE: &[u8] = b"usage: mlsub COMMAND OPERANDS\n";
 ///   module, or its first binding that has no scheme, or the first fault of a text.
 /// - `check NAME`: the same, and where the module has a signature, reads `NAME.mli`, and prints that they match or the
 ///   first declaration that fails.
+/// - `derive NAME`: the same as `infer`, but where the module has a signature, prints a derivation of its types.
 /// - `verify NAME`: reads `NAME.ml` and the interface of each import as `infer` does, infers nothing, reads the
 ///   derivation `NAME.mld`, and prints that each of its steps is allowed or the first that is not.
 /// - `generate SEED COUNT`: makes a module with COUNT bindings, infers it as `infer` does, and prints how many bytes

@@ -21,6 +21,9 @@ fn ends_at_each_fetch_that_fails(rt: HostRuntime) -> Result<(), Fail> {
         ("check", 3, "", 5, 3),
         ("check", 4, "", 5, 4),
         ("check", 5, "main matches main.mli\n", 0, 4),
+        ("derive", 1, "", 5, 1),
+        ("derive", 2, "", 5, 2),
+        ("derive", 3, "", 5, 3),
         ("verify", 1, "", 5, 1),
         ("verify", 2, "", 5, 2),
         ("verify", 3, "", 5, 3),
@@ -120,6 +123,11 @@ val d : int
         (&["check", "main"].as_slice(), "", "main matches main.mli\n"),
         (
             &["check", "absent"].as_slice(),
+            "",
+            "absent.ml: not found\n",
+        ),
+        (
+            &["derive", "absent"].as_slice(),
             "",
             "absent.ml: not found\n",
         ),

@@ -66,6 +66,9 @@ fn reads_words_and_fetches_once(rt: HostRuntime) -> Result<(), Fail> {
         (&["check"].as_slice(), false, usage, 8, 0),
         (&["check", "1"].as_slice(), false, usage, 8, 0),
         (&["Check", "main"].as_slice(), false, usage, 8, 0),
+        (&["derive"].as_slice(), false, usage, 8, 0),
+        (&["derive", "main", "main"].as_slice(), false, usage, 8, 0),
+        (&["derive", "let"].as_slice(), true, usage, 8, 0),
         (&["verify"].as_slice(), false, usage, 8, 0),
         (
             &["infer", "main"].as_slice(),
@@ -76,6 +79,13 @@ fn reads_words_and_fetches_once(rt: HostRuntime) -> Result<(), Fail> {
         ),
         (&["infer", "main"].as_slice(), true, "", 5, 1),
         (&["check", "k"].as_slice(), false, "k.ml: not found\n", 4, 1),
+        (
+            &["derive", "k"].as_slice(),
+            false,
+            "k.ml: not found\n",
+            4,
+            1,
+        ),
         (
             &["verify", "k"].as_slice(),
             false,
@@ -138,6 +148,7 @@ fn reads_names_that_are_names_of_commands(rt: HostRuntime) -> Result<(), Fail> {
         (["check", "infer"].as_slice(), "infer.ml: not found\n"),
         (["infer", "help"].as_slice(), "help.ml: not found\n"),
         (["check", "check"].as_slice(), "check.ml: not found\n"),
+        (["derive", "derive"].as_slice(), "derive.ml: not found\n"),
         (["verify", "verify"].as_slice(), "verify.ml: not found\n"),
     ] {
         let (said, code) = run_alone(alloc, words)?;

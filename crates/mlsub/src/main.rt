@@ -23,16 +23,17 @@ const FOLDERS: [&str; 2] = [".", "lib"];
 
 // What a person is told whose words are no command.
 const HELP: &str = "mlsub 0.1.0 infers the types of modules, compares them with interfaces,
-and checks derivations of them.
+and prints and checks derivations of them.
 
   mlsub infer NAME    prints the most general type of each binding of NAME.ml
   mlsub check NAME    tells whether NAME.ml has all that NAME.mli declares
+  mlsub derive NAME   prints a derivation of the types of NAME.ml
   mlsub verify NAME   tells whether each step of the derivation NAME.mld is allowed
   mlsub generate SEED COUNT
                       makes a module of COUNT bindings, and tells how long its text
                       and its signature are
 
-The first three read the interface of each module that NAME.ml imports, and no other module.
+The first four read the interface of each module that NAME.ml imports, and no other module.
 A file is looked for in the current folder first, and then in its subfolder lib.
 Answers go to standard output, and the exit code tells their kind: 0 done, 1 a
 binding without a type, 2 a promise not kept, 3 a fault of a text, 4 no such file,

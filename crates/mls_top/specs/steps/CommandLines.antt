@@ -12,14 +12,15 @@ one_word operand = record (new_rule operand) { required = true; action = Some Se
 abbrev pub subcommand : Text → List Text → Shape
 subcommand name operands = record (new_shape name) { rules = map one_word operands }
 
--- the subcommands that infer the types of one module
-abbrev pub inferring_subcommands : List Shape
-inferring_subcommands = subcommand (codes "infer") (codes "NAME" ∷ []) ∷ subcommand (codes "check")
+-- the subcommands that are asked for the types of one module
+abbrev pub type_subcommands : List Shape
+type_subcommands = subcommand (codes "infer") (codes "NAME" ∷ []) ∷ subcommand (codes "check")
     (codes "NAME" ∷ []) ∷ []
 
--- those that are asked of one module
+-- all that are asked of one module
 abbrev pub module_subcommands : List Shape
-module_subcommands = inferring_subcommands ++ subcommand (codes "verify") (codes "NAME" ∷ []) ∷ []
+module_subcommands = type_subcommands ++ subcommand (codes "derive") (codes "NAME" ∷ []) ∷ subcommand (codes "verify")
+    (codes "NAME" ∷ []) ∷ []
 
 -- the table of the subcommands
 abbrev pub subcommands : List Shape
