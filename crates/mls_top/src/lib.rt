@@ -25,6 +25,8 @@ mod tests_of_clashes;
 #[cfg(test)]
 mod tests_of_comparing;
 #[cfg(test)]
+mod tests_of_deriving;
+#[cfg(test)]
 mod tests_of_failing;
 #[cfg(test)]
 mod tests_of_faults;

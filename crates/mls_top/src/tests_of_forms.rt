@@ -1,5 +1,6 @@
 //! Each form of expressions, alone and inside each.
 use crate::samples::inferred;
+use crate::tests_of_deriving::text_is_derived;
 use mls_base::memory::Memory;
 use std::alloc::Global;
 use std::test::Fail;
@@ -52,6 +53,20 @@ fn infers_each_form_alone_and_inside_each(rt: HostRuntime) -> Result<(), Fail> {
             let text = binding_of(alloc, &[front, form, back])?;
             let (_, code) = inferred(alloc, text.as_bytes())?;
             assert_eq!(rt; code, 0, "{front}{form}{back}");
+        }
+    }
+    Ok(())
+}
+
+#[test]
+fn derives_each_form_alone_and_inside_each(rt: HostRuntime) -> Result<(), Fail> {
+    let alloc = rt.alloc();
+    for form in FORMS {
+        let alone = binding_of(alloc, &[form])?;
+        text_is_derived(&rt, alloc, alone.as_str())?;
+        for (front, back) in AROUND {
+            let text = binding_of(alloc, &[front, form, back])?;
+            text_is_derived(&rt, alloc, text.as_str())?;
         }
     }
     Ok(())

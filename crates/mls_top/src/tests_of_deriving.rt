@@ -1,0 +1,180 @@
+//! Derivations of the types of modules.
+use crate::run::run;
+use crate::samples::{MODULES, Row, are_answered, text_among, words_of};
+use mls_base::memory::Memory;
+use mls_io::memory::SureSink;
+use mls_io::store::{Fetch, Store};
+use std::alloc::Global;
+use std::process::Abort;
+use std::test::Fail;
+
+// A store of files, each on a line with its name before its text, and of a derivation of this module beside them. It
+// tells nothing of them.
+#[derive(Drop)]
+struct DerivedStore<'a> {
+    files: &'a str,
+    name: &'a str,
+    derivation: &'a str,
+    has_missed: bool,
+    has_cut: bool,
+}
+
+impl<'a> DerivedStore<'a> {
+    // The text of the file of this name.
+    fn text(&self, name: &str) -> Option<&'a str> {
+        match name.strip_suffix(".mld") {
+            Some(module) if module == self.name => Some(self.derivation),
+            _ => text_among(self.files, name),
+        }
+    }
+}
+
+impl<'a> Store for DerivedStore<'a> {
+    ghost use Rattle.std.specs.Prelude.{None, false};
+
+    ghost holdings = { λ store. record {
+      files = None;
+      faults = record { value = 0; is_worn = false };
+      misses = record { value = 0; is_worn = store.has_missed };
+      longs = record { value = 0; is_worn = store.has_cut };
+    } };
+
+    fn fetch(&mut self, name: &str, limit: usize, into: &mut Vec<u8>) -> Fetch {
+        let Some(text) = self.text(name) else {
+            self.has_missed = true;
+            return Fetch::Missing;
+        };
+        if text.len() > limit {
+            self.has_cut = true;
+            return Fetch::Long;
+        }
+        match into.extend_from_slice(text.as_bytes()) {
+            Ok(_) => Fetch::Found,
+            Err(_) => Fetch::Memory,
+        }
+    }
+}
+
+// What a command on a module prints over these files and this derivation, and the code.
+fn answered_beside(
+    alloc: Global,
+    command: &str,
+    name: &str,
+    files: &str,
+    derivation: &str,
+) -> Result<(Vec<u8>, u8), Memory> {
+    let words = words_of(alloc, &[command, name])?;
+    let mut store = DerivedStore {
+        files,
+        name,
+        derivation,
+        has_missed: false,
+        has_cut: false,
+    };
+    let mut sink = SureSink::new(alloc);
+    let status = run(alloc, &words, &mut store, &mut sink);
+    Ok((Vec::from_slice(alloc, sink.bytes())?, status.code()))
+}
+
+// The lines of a text that begin with `val`.
+fn vals_in(alloc: Global, text: &str) -> Result<String, Memory> {
+    let mut vals = String::new(alloc);
+    for line in text.split_terminator('\n') {
+        if line.starts_with("val ") {
+            vals.push_str(line)?;
+            vals.push_str("\n")?;
+        }
+    }
+    Ok(vals)
+}
+
+// Tests that the derivation that is printed for a module states the types of its signature, and is verified.
+fn is_derived(rt: &impl Abort, alloc: Global, name: &str, files: &str) -> Result<(), Memory> {
+    let (printed, code) = answered_beside(alloc, "derive", name, files, "")?;
+    assert_eq!(rt; code, 0, "{files}");
+    let derivation = str::from_utf8(printed.as_slice()).unwrap_or("");
+    let (signature, _) = answered_beside(alloc, "infer", name, files, "")?;
+    assert_eq!(rt;
+        vals_in(alloc, derivation)?.as_bytes(),
+        signature.as_slice(),
+        "{files}"
+    );
+    let (said, code) = answered_beside(alloc, "verify", name, files, derivation)?;
+    let mut wanted = String::from_str(alloc, name)?;
+    wanted.push_str(" is verified\n")?;
+    assert_eq!(rt; said.as_slice(), wanted.as_bytes(), "{files}");
+    assert_eq!(rt; code, 0, "{files}");
+    Ok(())
+}
+
+/// The same for the module `main` that is this text alone.
+pub(crate) fn text_is_derived(rt: &impl Abort, alloc: Global, text: &str) -> Result<(), Memory> {
+    let mut files = String::from_str(alloc, "main.ml ")?;
+    files.push_str(text)?;
+    is_derived(rt, alloc, "main", files.as_str())
+}
+
+#[test]
+fn derives_what_is_verified(rt: HostRuntime) -> Result<(), Fail> {
+    for text in [
+        "let id = fun x -> x",
+        "let first = fun x -> fun y -> x let second = fun x -> fun y -> y",
+        "let seven = fun x -> 7 let yes = true let n = 0",
+        "let e = {} let r = {a = 1, b = true} let a = r.a",
+        "let twice = fun f -> fun x -> f (f x)",
+        "let self = fun x -> x x",
+        "let pick = fun b -> if b then 1 else true",
+        "let rec f = fun x -> f",
+        "let get = fun r -> {a = r, b = r.a}",
+        "let p = let i = fun x -> x in {a = i 1, b = i true}",
+        "let q = fun x -> let y = x in y + 1",
+        "let s = fun x -> let f = fun y -> x in fun x -> f x",
+        "let w = (fun x -> x x) (fun x -> x x)",
+        "let fix = fun f -> (fun x -> f (x x)) (fun x -> f (x x))",
+        "let comp = fun f -> fun g -> fun x -> f (g x)",
+        "let s = fun x -> let f = fun y -> {a = x, b = y} in {p = f 1, q = f true}",
+        "let t = fun x -> let f = fun y -> x in {p = f 1 + 1, q = if f 1 then 1 else 2}",
+        "let r = rec f -> 1 let b = rec f -> f",
+        "let id = fun x -> x let p = {a = id 1, b = id true} let n = p.a + 1",
+        "let x = 1 let y = fun x -> x let z = x + 1",
+        "let rec count = fun n -> if n < 1 then 0 else count (n - 1) let c = count 3 == 0",
+        "let k = fun f -> let g = f in let h = g in {a = h 1, b = g}",
+    ] {
+        text_is_derived(&rt, rt.alloc(), text)?;
+    }
+    Ok(())
+}
+
+#[test]
+fn derives_over_what_imports_declare(rt: HostRuntime) -> Result<(), Fail> {
+    for name in ["pairs", "church", "counter", "main"] {
+        is_derived(&rt, rt.alloc(), name, MODULES)?;
+    }
+    for files in [
+        "main.ml import j import k let a = x\nj.mli val x : int\nk.mli val x : bool",
+        "main.ml import k let a = {l = id 1, m = id true}\nk.mli val id : a -> a",
+        "main.ml import main let a = x\nmain.mli val x : a -> a",
+        "main.ml import k let a = (s.next {}).now let b = s\nk.mli val s : rec a. {next: {} -> a, now: int}",
+        "main.ml import k let a = fun b -> f b\nk.mli val f : bool -> bool | int",
+        "main.ml import k let a = t (fun x -> x)\nk.mli val t : (a | b -> a) -> b -> a",
+    ] {
+        is_derived(&rt, rt.alloc(), "main", files)?;
+    }
+    Ok(())
+}
+
+#[test]
+fn derives_a_module_without_bindings(rt: HostRuntime) -> Result<(), Fail> {
+    let rows: [Row; 3] = [
+        ("main.ml ", "derivation 1\n", 0, 1),
+        ("main.ml # nothing", "derivation 1\n", 0, 1),
+        (
+            "main.ml import k\nk.mli val x : int",
+            "derivation 1\n",
+            0,
+            2,
+        ),
+    ];
+    are_answered(&rt, rt.alloc(), "derive", rows.as_slice())?;
+    Ok(())
+}
