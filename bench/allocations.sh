@@ -112,6 +112,7 @@ refuse() {
 for module in pairs church counter main; do
   refuse infer $module
   refuse check $module
+  refuse derive $module
 done
 refuse infer bad
 refuse check absent
