@@ -16,6 +16,7 @@ struct DerivedStore<'a> {
     name: &'a str,
     derivation: &'a str,
     has_missed: bool,
+    has_cut: bool,
 }
 
 impl<'a> DerivedStore<'a> {
@@ -35,14 +36,18 @@ impl<'a> Store for DerivedStore<'a> {
       files = None;
       faults = record { value = 0; is_worn = false };
       misses = record { value = 0; is_worn = store.has_missed };
-      longs = record { value = 0; is_worn = false };
+      longs = record { value = 0; is_worn = store.has_cut };
     } };
 
-    fn fetch(&mut self, name: &str, _limit: usize, into: &mut Vec<u8>) -> Fetch {
+    fn fetch(&mut self, name: &str, limit: usize, into: &mut Vec<u8>) -> Fetch {
         let Some(text) = self.text(name) else {
             self.has_missed = true;
             return Fetch::Missing;
         };
+        if text.len() > limit {
+            self.has_cut = true;
+            return Fetch::Long;
+        }
         match into.extend_from_slice(text.as_bytes()) {
             Ok(_) => Fetch::Found,
             Err(_) => Fetch::Memory,
@@ -64,6 +69,7 @@ fn answered_beside(
         name,
         derivation,
         has_missed: false,
+        has_cut: false,
     };
     let mut sink = SureSink::new(alloc);
     let status = run(alloc, &words, &mut store, &mut sink);
