@@ -95,7 +95,8 @@ fn sections_of(
 ///
 /// # Errors
 ///
-/// `Memory` where memory is wanting.
+/// `Memory` where memory is wanting, or where the check refuses what was written. That it never refuses it for a
+/// signature that `infer_module` gives is tested, and not proved.
 pub fn derivation_of(
     alloc: Global,
     module: &Resolved,
