@@ -2,11 +2,17 @@
 --     grow-none, grow-more, grow-all      sets that grow by the elements of a list
 --     touched-none, touched-more, touched_found      the states that may change
 --     change-made                         what a state has in the solved automaton
+--     left-all, left-next, left-less, left-none      the states that are left to be gone over
 --     made-none, made-more, fitting-later, fitting-change      changes one after another
 --     made-solved, made-closed            all of them solve the automaton
-use Rattle.std.proofs.Common.{◌≡◌, ◌≢◌, ◌⊎◌, inl, inr, Bool, true, false, Some, None, ℕ, ◌+◌, ◌<◌, ◌≤◌, List, [], ◌∷◌, ◌++◌, map, refl, sym, ap, ◌∙◌, subst, arith, length, take, get_or, Contains, All}
+use Rattle.std.proofs.Common.{◌≡◌, ◌≢◌, ◌⊎◌, inl, inr, Bool, true, false, cond, Some, None, ℕ, ◌+◌, ◌<◌, ◌≤◌, List, [], ◌∷◌, ◌++◌, map, refl, sym, ap, ◌∙◌, subst, arith, length, take, get_or, Contains, All, append-nil, append_assoc}
 use Rattle.std.specs.Prelude.{◌↔◌, ◌||◌, Option}
+use Rattle.std.specs.BTreeSet.{BTreeSet, contains, Updates}
+use Rattle.std.specs.Ordering.{nat_cmp, is_eq}
 use Rattle.std.proofs.lemmas.Bool.{cases_eq}
+use Rattle.std.proofs.lemmas.Cmp.{nat_cmp_total}
+use Rattle.std.proofs.lemmas.Map.Lookups.{exact_unsigned}
+use Rattle.std.proofs.lemmas.Map.Views.{btree_set_contains_iff}
 use Rattle.std.proofs.lemmas.List.{get_or_default}
 use Rattle.std.proofs.lemmas.List.Elements.{All-contains, Contains-append_cases, Contains-append_left, Contains-append_right}
 use Rattle.mls_automaton.specs.declared.automaton.Polarity.{Polarity}
@@ -18,7 +24,7 @@ use Rattle.mls_automaton.specs.Automata.{Automaton, HasFlow, IsPartner, IsState,
 use Rattle.mls_automaton.specs.declared.automaton.Arms.{Arms}
 use Rattle.mls_automaton.specs.Heads.{Parts, parts_of, combined, combined_functions, combined_records, IsSameParts}
 use Rattle.mls_automaton.specs.Models.{HasRisingLabels, IsClosed}
-use Rattle.mls_automaton.proofs.Lists.{All-contained, Contains-cases, Contains-here}
+use Rattle.mls_automaton.proofs.Lists.{All-contained, Contains-cases, Contains-here, Contains-later}
 use Rattle.mls_biunify.specs.declared.settle.Change.{Change}
 use Rattle.mls_biunify.specs.Rooms.{Room, Holds}
 use Rattle.mls_biunify.specs.Solved.{IsSolved, ReachesBy, IsNewFlow}
@@ -354,15 +360,28 @@ grow-as old new First Second it same j = (
   λ both. (it j).1 (elim both [ inl before ↦ inl before | inr more ↦ inr ((same j).1 more) ]),
 )
 
-pub members-grown : (a : Automaton) (R : ℕ → ℕ → Type 0) (s : ℕ) (one new : List ℕ) → one ≡ s ∷ [] → ((j : ℕ) → Contains new j ↔ Contains one j ⊎ ReachesBy a R (polarity_at a s) s j) → AreMembers a R s new
-members-grown a R s one new is it = record {
-  self = (it s).1 (inl (subst (λ (xs : List ℕ). Contains xs s) (sym is) (Contains-here s [])));
+pub members-grown : (a : Automaton) (R : ℕ → ℕ → Type 0) (s : ℕ) (none one new : List ℕ) → none ≡ [] → ((j : ℕ) → Contains one j ↔ Contains none j ⊎ Contains (s ∷ []) j)
+    → ((j : ℕ) → Contains new j ↔ Contains one j ⊎ ReachesBy a R (polarity_at a s) s j) → AreMembers a R s new
+members-grown a R s none one new is first it = record {
+  self = (it s).1 (inl ((first s).1 (inr (Contains-here s []))));
   reached = λ j there. elim ((it j).0 there) [
-    | inl before ↦ inl (only s j (subst (λ (xs : List ℕ). Contains xs j) is before))
+    | inl before ↦
+        elim ((first j).0 before) [
+          | inl none ↦ no_element j (subst (λ (xs : List ℕ). Contains xs j) is none)
+          | inr here ↦ inl (only s j here)
+        ]
     | inr reach ↦ inr reach
   ];
   reaching = λ j reach. (it j).1 (inr reach);
 }
+
+-- a list of what is gone over
+pub listed_more : (keys rest later : List ℕ) (list longer : List ℕ) (s : ℕ) → keys ≡ list ++ rest → rest ≡ s ∷ later → longer ≡ list ++ s ∷ [] → keys ≡ longer ++ later
+listed_more keys rest later list longer s is next more =
+    is ∙ (ap (λ xs. list ++ xs) next ∙ (sym (append_assoc list (s ∷ []) later) ∙ ap (λ xs. xs ++ later) (sym more)))
+
+pub listed_all : (keys rest list : List ℕ) → keys ≡ list ++ rest → rest ≡ [] → list ≡ keys
+listed_all keys rest list is none = sym (is ∙ (ap (λ xs. list ++ xs) none ∙ append-nil list))
 
 -- the ends of edges
 pub ends-partners : (a : Automaton) → IsClosed a → (m : ℕ) → polarity_at a m ≡ Negative → (partners items : List ℕ) → ((j : ℕ) → Contains partners j ↔ IsPartner a m j) → items ≡ partners → (j : ℕ) → Contains items j ↔ HasFlow a m j
@@ -395,17 +414,56 @@ changes-more a R old new d is so_far one c it =
       ]
     ]
 
-pub has-none : (touched : List ℕ) (changes : List Change) (s : ℕ) → Contains (take 0 touched) s → HasChangeOf changes s
-has-none touched changes s it = no_element s it
+-- the states that are left to be gone over, where the others have their changes
+pub record AreLeft (touched left : List ℕ) (changes : List Change) : Type 0 where
+  pub among : (s : ℕ) → Contains left s → Contains touched s
+  pub others : (s : ℕ) → Contains touched s → Contains left s ⊎ HasChangeOf changes s
 
-pub has-more : (touched : List ℕ) (i : ℕ) → i < length touched → (old new : List Change) (d : Change) → new ≡ old ++ d ∷ [] → ((s : ℕ) → Contains (take i touched) s → HasChangeOf old s) → d.state.0 ≡ get_or touched i 0 → (s : ℕ) → Contains (take (i + 1) touched) s → HasChangeOf new s
-has-more touched i low old new d is so_far state s it =
-    elim (taken-cases touched i 0 low s it) [
-      | inl before ↦
-          let found : HasChangeOf old s = so_far s before in
-          (found.0, subst (λ (cs : List Change). Contains cs found.0) (sym is) (Contains-append_left old (d ∷ []) found.0 found.1), found.2)
-      | inr last ↦ (d, subst (λ (cs : List Change). Contains cs d) (sym is) (Contains-append_right old (d ∷ []) d (Contains-here d [])), state ∙ sym last)
+pub left-all : (touched left : List ℕ) (changes : List Change) → left ≡ touched → AreLeft touched left changes
+left-all touched left changes same = record {
+  among = λ s it. subst (λ (xs : List ℕ). Contains xs s) same it;
+  others = λ s it. inl (subst (λ (xs : List ℕ). Contains xs s) (sym same) it);
+}
+
+pub left-next : (touched left rest : List ℕ) (changes : List Change) (s : ℕ) → left ≡ s ∷ rest → AreLeft touched left changes → Contains touched s
+left-next touched left rest changes s is so_far = so_far.among s (subst (λ (xs : List ℕ). Contains xs s) (sym is) (Contains-here s rest))
+
+pub left-less : (touched left rest : List ℕ) (s : ℕ) → left ≡ s ∷ rest → (old new : List Change) (d : Change) → new ≡ old ++ d ∷ [] → AreLeft touched left old → d.state.0 ≡ s → AreLeft touched rest new
+left-less touched left rest s is old new d grown so_far state = record {
+  among = λ r it. so_far.among r (subst (λ (xs : List ℕ). Contains xs r) (sym is) (Contains-later s rest r it));
+  others = λ r it. elim (so_far.others r it) [
+    | inl there ↦ elim (Contains-cases s rest r (subst (λ (xs : List ℕ). Contains xs r) is there)) [
+      | inl same ↦ inr (d, subst (λ (cs : List Change). Contains cs d) (sym grown) (Contains-append_right old (d ∷ []) d (Contains-here d [])), state ∙ same)
+      | inr later ↦ inl later
     ]
+    | inr found ↦ inr (found.0, subst (λ (cs : List Change). Contains cs found.0) (sym grown) (Contains-append_left old (d ∷ []) found.0 found.1), found.2)
+  ];
+}
+
+pub left-none : (touched left : List ℕ) (changes : List Change) → left ≡ [] → AreLeft touched left changes → (s : ℕ) → Contains touched s → HasChangeOf changes s
+left-none touched left changes none so_far s it = elim (so_far.others s it) [
+  | inl there ↦ no_element s (subst (λ (xs : List ℕ). Contains xs s) none there)
+  | inr found ↦ found
+]
+
+-- a number more in an ordered set
+pub inserted : (old new : BTreeSet ℕ) (x : ℕ) → Updates nat_cmp old new x true → (j : ℕ) → Contains new.keys j ↔ (j ≡ x) ⊎ Contains old.keys j
+inserted old new x updates j = (
+  λ there. to (is_eq (nat_cmp x j)) refl (sym (updates.0 j) ∙ (holds new).1 there),
+  λ both. (holds new).0 (updates.0 j ∙ from (is_eq (nat_cmp x j)) refl both),
+)
+  where
+    holds : (set : BTreeSet ℕ) → (contains nat_cmp set j ≡ true) ↔ Contains set.keys j
+    holds set = btree_set_contains_iff nat_cmp_total exact_unsigned set j
+
+    to : (b : Bool) → is_eq (nat_cmp x j) ≡ b → cond b true (contains nat_cmp old j) ≡ true → (j ≡ x) ⊎ Contains old.keys j
+    to true e h = inl (search arith)
+    to false e h = inr ((holds old).0 h)
+
+    from : (b : Bool) → is_eq (nat_cmp x j) ≡ b → (j ≡ x) ⊎ Contains old.keys j → cond b true (contains nat_cmp old j) ≡ true
+    from true e both = refl
+    from false e (inl same) = search arith
+    from false e (inr before) = (holds old).1 before
 
 -- what a state has, whatever its polarity
 pub change_any : (a : Automaton) (R : ℕ → ℕ → Type 0) → IsClosed a → ((p n : ℕ) → R p n → IsState a Positive p × IsState a Negative n) → (s : ℕ) → s < length a.states → (p : Polarity) → p ≡ polarity_at a s → (members : List ℕ) → AreMembers a R s members → (items : List ℕ) → items ≡ members → (others : List ℕ) → others ≡ members → (head : Head)

@@ -4,6 +4,7 @@ pub mod Cells
 pub mod RoomParts
 pub mod Growth
 pub mod Consequences
+pub mod Chains
 pub mod Numbering
 pub mod Kinds
 pub mod FirstClashes

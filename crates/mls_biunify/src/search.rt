@@ -1,15 +1,15 @@
 //! The least closed relation of goals, found in time and space that grow with the pairs that are found.
 ghost use Rattle.std.specs.Prelude.{◌≡◌, ℕ, ◌<◌, ◌≤◌, [], length, All, Contains, IfOk, OnOk, IfErr};
 ghost use Rattle.mls_automaton.specs.declared.automaton.Polarity.TheVariants.{Positive, Negative};
-ghost use Rattle.mls_automaton.specs.Automata.{HasFlow, IsState, head_at};
+ghost use Rattle.mls_automaton.specs.Automata.{IsState, head_at};
 ghost use Rattle.mls_automaton.specs.Models.{IsClosed};
 ghost use Rattle.mls_biunify.specs.Clashes.{HasNoClash, IsFirstClash};
 ghost use Rattle.mls_biunify.specs.Relations.{IsGoal, IsGoalOf, IsRelated};
 ghost use Rattle.mls_biunify.specs.Rooms.{Holds, HoldsJust, HoldsStates};
 ghost use Rattle.mls_biunify.specs.steps.FirstClashes.{IsFirstOf, IsPairAt};
 ghost use Rattle.mls_biunify.specs.steps.Growth.{BySome, Relates};
-ghost use Rattle.mls_biunify.specs.steps.Consequences.{ByFunctions, ByField, ByRecords, ByHeads, Follows};
-ghost use Rattle.mls_biunify.specs.steps.Consequences.{HasConsequences};
+ghost use Rattle.mls_biunify.specs.steps.Chains.{ByDirect, ByEdgeFrom, ByEdgeTo};
+ghost use Rattle.mls_biunify.specs.steps.Consequences.{ByFunctions, ByField, ByRecords, ByHeads};
 
 use crate::clash::{clash_of, earlier};
 use crate::found::Found;
@@ -19,7 +19,7 @@ use mls_automaton::state_set::StateId;
 use mls_base::memory::Memory;
 use std::alloc::Global;
 
-/// The least closed relation of the goals. Each pair is taken once, as by `saturate`.
+/// The least closed relation of the goals: the pairs that `saturate` finds, in another order.
 ///
 /// # Errors
 ///
@@ -30,9 +30,9 @@ pub fn search(alloc: Global, a: &Automaton, goals: &[Goal]) -> Result<Found, Mem
     ensures relation { IfOk result (λ found. HoldsJust found (IsRelated a.now (IsGoal goals.now))) }
     ensures states { IfOk result (HoldsStates a.now) }
 {
-    let mut found = Found::new(alloc);
-    add_goals(&mut found, goals)?;
-    close(alloc, &mut found, a)?;
+    let mut direct = Found::new(alloc);
+    add_goals(&mut direct, goals)?;
+    let found = close(alloc, &mut direct, a)?;
     Ok(found)
 }
 
@@ -85,65 +85,51 @@ fn add_goals(found: &mut Found, goals: &[Goal]) -> Result<(), Memory>
     Ok(())
 }
 
-// Adds all that follows from the pairs. Each pair is taken once, in the order in which it was found.
-fn close(alloc: Global, found: &mut Found, a: &Automaton) -> Result<(), Memory>
+// Finds all that follows from the direct pairs. Those that follow by heads are direct too. Found pairs and direct ones
+// are taken once each, in the order in which they came. A found pair goes on along an edge by a direct one alone, so a
+// chain of pairs is found from its first pair on.
+fn close(alloc: Global, direct: &mut Found, a: &Automaton) -> Result<Found, Memory>
     requires closed { IsClosed a.now }
-    requires states { HoldsStates a.now found.old }
-    ensures { OnOk result (HoldsJust found.new (IsRelated a.now (Holds found.old))) }
+    requires states { HoldsStates a.now direct.old }
+    ensures { IfOk result (λ found. HoldsJust found (IsRelated a.now (Holds direct.old))) }
 {
-    for next in 0..usize::MAX {
-        if next >= found.len() {
-            return Ok(());
+    let mut found = Found::new(alloc);
+    let mut next = 0;
+    let mut next_direct = 0;
+    for _ in 0..usize::MAX {
+        if next_direct < direct.len() {
+            let pair = direct.pair(next_direct);
+            take_direct(alloc, &mut found, a, pair)?;
+            next_direct += 1;
+        } else if next < found.len() {
+            let pair = found.pair(next);
+            take_found(&mut found, direct, a, pair)?;
+            next += 1;
+        } else {
+            return Ok(found);
         }
-        let (positive, negative) = found.pair(next);
-        add_consequences(alloc, found, a, positive, negative)?;
     }
     Err(Memory)
 }
 
-// Adds what follows from one pair and the pairs that share a state with it along an edge.
-fn add_consequences(
+// Finds a direct pair, and what leads to it by a found pair and an edge.
+fn take_direct(
     alloc: Global,
     found: &mut Found,
     a: &Automaton,
-    positive: StateId,
-    negative: StateId,
+    pair: (StateId, StateId),
 ) -> Result<(), Memory>
     requires closed { IsClosed a.now }
-    requires held { Holds found.old positive.0 negative.0 }
-    requires positive { IsState a.now Positive positive.0 }
-    requires negative { IsState a.now Negative negative.0 }
-    ensures follows { OnOk result (Follows a.now found.old found.new) }
-    ensures has { OnOk result (HasConsequences a.now positive.0 negative.0 found.old found.new) }
+    requires positive { IsState a.now Positive pair.0.0 }
+    ensures { OnOk result (Relates found.old found.new (ByDirect a.now (Holds found.old) pair.0.0 pair.1.0)) }
 {
-    add_by_heads(found, a.head(positive), a.head(negative))?;
-    add_after(alloc, found, a, positive, negative)?;
+    let (positive, negative) = pair;
     add_before(alloc, found, a, positive, negative)?;
+    found.add(positive.0, negative.0)?;
     Ok(())
 }
 
-// Adds what follows from the pair along the edges from its negative state.
-fn add_after(
-    alloc: Global,
-    found: &mut Found,
-    a: &Automaton,
-    positive: StateId,
-    negative: StateId,
-) -> Result<(), Memory>
-    requires closed { IsClosed a.now }
-    requires held { Holds found.old positive.0 negative.0 }
-    requires negative { IsState a.now Negative negative.0 }
-    ensures follows { OnOk result (Follows a.now found.old found.new) }
-    ensures has { OnOk result ((q m : ℕ) → HasFlow a.now negative.0 q → Holds found.old q m
-        → Holds found.new positive.0 m) }
-{
-    for q in a.partners(negative).as_slice() {
-        add_row(alloc, found, *q, positive.0)?;
-    }
-    Ok(())
-}
-
-// Adds what follows from the pair along the edges to its positive state.
+// Relates to the negative state of a direct pair what is related to a state with an edge to its positive state.
 fn add_before(
     alloc: Global,
     found: &mut Found,
@@ -152,11 +138,8 @@ fn add_before(
     negative: StateId,
 ) -> Result<(), Memory>
     requires closed { IsClosed a.now }
-    requires held { Holds found.old positive.0 negative.0 }
     requires positive { IsState a.now Positive positive.0 }
-    ensures follows { OnOk result (Follows a.now found.old found.new) }
-    ensures has { OnOk result ((q m : ℕ) → Holds found.old q m → HasFlow a.now m positive.0
-        → Holds found.new q negative.0) }
+    ensures { OnOk result (Relates found.old found.new (ByEdgeTo a.now (Holds found.old) positive.0 negative.0)) }
 {
     for m in a.partners(positive).as_slice() {
         add_column(alloc, found, *m, negative.0)?;
@@ -164,12 +147,43 @@ fn add_before(
     Ok(())
 }
 
-// Relates one positive state to all to which another is related.
-fn add_row(alloc: Global, found: &mut Found, from: usize, to: usize) -> Result<(), Memory>
-    ensures { OnOk result (Relates found.old found.new (λ p n. (p ≡ to) × Holds found.old from n)) }
+// What follows from a found pair by its heads is direct, and a direct pair behind an edge from it leads to a found one.
+fn take_found(
+    found: &mut Found,
+    direct: &mut Found,
+    a: &Automaton,
+    pair: (StateId, StateId),
+) -> Result<(), Memory>
+    requires closed { IsClosed a.now }
+    requires positive { IsState a.now Positive pair.0.0 }
+    requires negative { IsState a.now Negative pair.1.0 }
+    ensures direct { OnOk result (Relates direct.old direct.new
+        (ByHeads (head_at a.now pair.0.0) (head_at a.now pair.1.0))) }
+    ensures found { OnOk result (Relates found.old found.new
+        (ByEdgeFrom a.now (Holds direct.new) pair.0.0 pair.1.0)) }
 {
-    let negatives = copied(alloc, found.below(StateId(from)))?;
-    add_set(found, to, negatives.as_slice())?;
+    let (positive, negative) = pair;
+    add_by_heads(direct, a.head(positive), a.head(negative))?;
+    add_after(found, direct, a, positive, negative)?;
+    Ok(())
+}
+
+// Relates the positive state of a found pair to what is direct of a state with an edge from its negative state.
+fn add_after(
+    found: &mut Found,
+    direct: &Found,
+    a: &Automaton,
+    positive: StateId,
+    negative: StateId,
+) -> Result<(), Memory>
+    requires closed { IsClosed a.now }
+    requires negative { IsState a.now Negative negative.0 }
+    ensures { OnOk result (Relates found.old found.new
+        (ByEdgeFrom a.now (Holds direct.now) positive.0 negative.0)) }
+{
+    for q in a.partners(negative).as_slice() {
+        add_set(found, positive.0, direct.below(StateId(*q)))?;
+    }
     Ok(())
 }
 
@@ -272,3 +286,6 @@ fn add_set(found: &mut Found, positive: usize, negatives: &[usize]) -> Result<()
     }
     Ok(())
 }
+
+#[cfg(test)]
+mod tests;

@@ -17,6 +17,7 @@ use mls_automaton::state_set::{StateId, StateSet};
 use mls_base::list::List;
 use mls_base::memory::Memory;
 use std::alloc::Global;
+use std::collections::BTreeSet;
 
 // What a state has in the solved automaton: its head, and for a negative state the other ends of its edges.
 #[derive(Drop)]
@@ -39,33 +40,33 @@ pub fn settle(alloc: Global, found: &Found, a: &mut Automaton) -> Result<(), Mem
     ensures closed { OnOk result (IsClosed a.new) }
 {
     let states = touched(alloc, found, a)?;
-    let made = changes(alloc, found, a, states.as_slice())?;
+    let made = changes(alloc, found, a, &states)?;
     change_all(a, made.as_slice())?;
     Ok(())
 }
 
 // The states that may change.
-fn touched(alloc: Global, found: &Found, a: &Automaton) -> Result<StateSet, Memory>
+fn touched(alloc: Global, found: &Found, a: &Automaton) -> Result<BTreeSet<usize>, Memory>
     requires closed { IsClosed a.now }
     requires states { HoldsStates a.now found.now }
-    ensures all { IfOk result (λ touched. (s : ℕ) → IsTouched a.now (Holds found.now) s → Contains touched s) }
-    ensures in_range { IfOk result (λ touched. (s : ℕ) → Contains touched s → s < length a.now.states) }
+    ensures all { IfOk result (λ touched. (s : ℕ) → IsTouched a.now (Holds found.now) s → Contains touched.keys s) }
+    ensures in_range { IfOk result (λ touched. (s : ℕ) → Contains touched.keys s → s < length a.now.states) }
 {
-    let mut all = StateSet::new(alloc);
+    let mut all = BTreeSet::new(alloc);
     for i in 0..found.len() {
         let (positive, negative) = found.pair(i);
-        add_all(&mut all, a.partners(positive).as_slice())?;
-        add_all(&mut all, a.partners(negative).as_slice())?;
+        insert_all(&mut all, a.partners(positive).as_slice())?;
+        insert_all(&mut all, a.partners(negative).as_slice())?;
     }
     Ok(all)
 }
 
-// Adds these numbers.
-fn add_all(set: &mut StateSet, numbers: &[usize]) -> Result<(), Memory>
-    ensures { OnOk result ((j : ℕ) → Contains set.new j ↔ Contains set.old j ⊎ Contains numbers.now j) }
+// Inserts these numbers.
+fn insert_all(set: &mut BTreeSet<usize>, numbers: &[usize]) -> Result<(), Memory>
+    ensures { OnOk result ((j : ℕ) → Contains set.new.keys j ↔ Contains set.old.keys j ⊎ Contains numbers.now j) }
 {
     for number in numbers {
-        set.insert(StateId(*number))?;
+        set.insert(*number)?;
     }
     Ok(())
 }
@@ -75,13 +76,13 @@ fn changes(
     alloc: Global,
     found: &Found,
     a: &Automaton,
-    touched: &[usize],
+    touched: &BTreeSet<usize>,
 ) -> Result<List<Change>, Memory>
     requires closed { IsClosed a.now }
     requires states { HoldsStates a.now found.now }
-    requires in_range { (s : ℕ) → Contains touched.now s → s < length a.now.states }
+    requires in_range { (s : ℕ) → Contains touched.now.keys s → s < length a.now.states }
     ensures changes { IfOk result (AreChanges a.now (Holds found.now)) }
-    ensures all { IfOk result (λ changes. (s : ℕ) → Contains touched.now s → HasChangeOf changes s) }
+    ensures all { IfOk result (λ changes. (s : ℕ) → Contains touched.now.keys s → HasChangeOf changes s) }
 {
     let mut all = List::new(alloc);
     for s in touched {
@@ -100,7 +101,8 @@ fn change_of(alloc: Global, found: &Found, a: &Automaton, s: StateId) -> Result<
     ensures state { IfOk result (λ (c : Change). c.state.0 ≡ s.0) }
 {
     let polarity = a.polarity(s);
-    let all = members(alloc, found, a, s)?;
+    let set = members(alloc, found, a, s)?;
+    let all = listed(alloc, &set)?;
     let head = combined_head(alloc, a, polarity, all.as_slice())?;
     let ends = ends_of(alloc, a, polarity, all.as_slice())?;
     Ok(Change {
@@ -110,29 +112,46 @@ fn change_of(alloc: Global, found: &Found, a: &Automaton, s: StateId) -> Result<
     })
 }
 
+// The members of a set in order.
+fn listed(alloc: Global, set: &BTreeSet<usize>) -> Result<Vec<usize>, Memory>
+    ensures { IfOk result (λ list. list.items ≡ set.now.keys) }
+{
+    let mut list = Vec::new(alloc);
+    for number in set {
+        list.push(*number)?;
+    }
+    Ok(list)
+}
+
 // The states whose old heads go into the new head of a state.
-fn members(alloc: Global, found: &Found, a: &Automaton, s: StateId) -> Result<StateSet, Memory>
+fn members(
+    alloc: Global,
+    found: &Found,
+    a: &Automaton,
+    s: StateId,
+) -> Result<BTreeSet<usize>, Memory>
     requires closed { IsClosed a.now }
     requires states { HoldsStates a.now found.now }
     requires in_range { s.0 < length a.now.states }
-    ensures members { IfOk result (AreMembers a.now (Holds found.now) s.0) }
-    ensures states { IfOk result (λ all. All (IsState a.now (polarity_at a.now s.0)) all) }
+    ensures members { IfOk result (λ all. AreMembers a.now (Holds found.now) s.0 all.keys) }
+    ensures states { IfOk result (λ all. All (IsState a.now (polarity_at a.now s.0)) all.keys) }
 {
-    let mut all = StateSet::one(alloc, s)?;
+    let mut all = BTreeSet::new(alloc);
+    insert_all(&mut all, &[s.0])?;
     add_reaching(&mut all, found, a, s)?;
     Ok(all)
 }
 
 // Adds the states whose old heads go into the new head of a state by an edge and a related pair.
 fn add_reaching(
-    members: &mut StateSet,
+    members: &mut BTreeSet<usize>,
     found: &Found,
     a: &Automaton,
     s: StateId,
 ) -> Result<(), Memory>
     requires closed { IsClosed a.now }
     requires in_range { s.0 < length a.now.states }
-    ensures { OnOk result ((j : ℕ) → Contains members.new j ↔ Contains members.old j
+    ensures { OnOk result ((j : ℕ) → Contains members.new.keys j ↔ Contains members.old.keys j
         ⊎ ReachesBy a.now (Holds found.now) (polarity_at a.now s.0) s.0 j) }
 {
     match a.polarity(s) {
@@ -148,23 +167,41 @@ fn add_reaching(
 }
 
 // Adds the states that are related to one of the negative ones.
-fn add_above(members: &mut StateSet, found: &Found, negatives: &[usize]) -> Result<(), Memory>
-    ensures { OnOk result ((j : ℕ) → Contains members.new j ↔ Contains members.old j
+fn add_above(
+    members: &mut BTreeSet<usize>,
+    found: &Found,
+    negatives: &[usize],
+) -> Result<(), Memory>
+    ensures { OnOk result ((j : ℕ) → Contains members.new.keys j ↔ Contains members.old.keys j
         ⊎ ByOne negatives.now (λ n p. Holds found.now p n) j) }
 {
     for n in negatives {
-        add_all(members, found.above(StateId(*n)))?;
+        insert_all(members, found.above(StateId(*n)))?;
     }
     Ok(())
 }
 
 // Adds the states to which one of the positive ones is related.
-fn add_below(members: &mut StateSet, found: &Found, positives: &[usize]) -> Result<(), Memory>
-    ensures { OnOk result ((j : ℕ) → Contains members.new j ↔ Contains members.old j
+fn add_below(
+    members: &mut BTreeSet<usize>,
+    found: &Found,
+    positives: &[usize],
+) -> Result<(), Memory>
+    ensures { OnOk result ((j : ℕ) → Contains members.new.keys j ↔ Contains members.old.keys j
         ⊎ ByOne positives.now (λ p n. Holds found.now p n) j) }
 {
     for p in positives {
-        add_all(members, found.below(StateId(*p)))?;
+        insert_all(members, found.below(StateId(*p)))?;
+    }
+    Ok(())
+}
+
+// Adds these numbers.
+fn add_all(set: &mut StateSet, numbers: &[usize]) -> Result<(), Memory>
+    ensures { OnOk result ((j : ℕ) → Contains set.new j ↔ Contains set.old j ⊎ Contains numbers.now j) }
+{
+    for number in numbers {
+        set.insert(StateId(*number))?;
     }
     Ok(())
 }

@@ -1,26 +1,19 @@
-use Rattle.std.proofs.Common.{ℕ, List, Contains, get_or, ◌<◌, inl, subst, sym, arith}
-use Rattle.mls_automaton.specs.Automata.{HasFlow}
-use Rattle.mls_biunify.proofs.Relating.{element, take-all}
-use Rattle.mls_biunify.proofs.Taking.{Follows-none, partner_above, after-follows, after-more}
+use Rattle.std.proofs.Common.{◌≡◌, get_or}
+use Rattle.mls_biunify.specs.Rooms.{Holds}
+use Rattle.mls_biunify.proofs.Relating.{Relates-more, Relates-all}
+use Rattle.mls_biunify.proofs.Searching.{from_edges, row_to}
 use Rattle.mls_biunify.proofs.search.add_after.Goals as goal
-
-pub loop-q-init : goal.loop-q-init
-loop-q-init c = record {
-  follows = Follows-none c.args.a.now c.args.found.now;
-  has = λ q m none before. let low : none.0 < 0 = none.1 in absurd (omega arith);
-}
 
 pub loop-q-preserved : goal.loop-q-preserved
 loop-q-preserved c =
-    let q : ℕ = get_or c.as_slice-q-items.result.now c.loop-q.q-index 0 in
-    let member : Contains c.partners.result.now q = subst (λ (xs : List ℕ). Contains xs q) c.as_slice-q-items.ensures.members (element c.as_slice-q-items.result.now c.loop-q.q-index c.loop-q-test.true) in
-    let edge : HasFlow c.args.a.now c.args.negative.0 q = partner_above c.args.a.now c.requires.closed c.args.found.now c.args.positive.0 c.args.negative.0 c.requires.held q c.requires.negative ((c.partners.ensures.partners q).0 member) in
-    record {
-      follows = after-follows c.args.a.now c.requires.closed c.args.found.now c.args.positive.0 c.args.negative.0 c.requires.held c.loop-q.found c.add_row.new.found q edge c.loop-q.invariant.follows c.in_ok-add_row.ensures;
-      has = after-more c.args.a.now c.requires.closed c.args.found.now c.args.positive.0 c.args.negative.0 c.requires.held c.loop-q.found c.add_row.new.found c.as_slice-q-items.result.now c.loop-q.q-index c.loop-q-test.true c.loop-q.invariant.follows c.loop-q.invariant.has c.in_ok-add_row.ensures;
-    }
+    Relates-more c.args.found.now c.loop-q.found c.add_set.new.found c.as_slice-q-items.result.now c.loop-q.q-index 0 (λ q p n. (p ≡ c.args.positive.0) × Holds c.args.direct.now q n)
+    c.loop-q-test.true c.loop-q.invariant
+    (row_to c.loop-q.found c.add_set.new.found c.args.direct.now (get_or c.as_slice-q-items.result.now c.loop-q.q-index 0) c.args.positive.0
+    c.below.result.now c.below.ensures c.in_ok-add_set.ensures)
 
-pub returns-clause-has : goal.returns-clause-has
-returns-clause-has c q m edge before =
-    let member : Contains c.as_slice-q-items.result.now q = subst (λ (xs : List ℕ). Contains xs q) (sym c.as_slice-q-items.ensures.members) ((c.partners.ensures.partners q).1 (inl edge)) in
-    c.loop-q.invariant.has q m (subst (λ (xs : List ℕ). Contains xs q) (sym (take-all c.as_slice-q-items.result.now c.loop-q.q-index c.loop-q-test.false)) member) before
+pub returns : goal.returns
+returns c =
+    from_edges c.args.a.now c.requires.closed (Holds c.args.direct.now) c.args.found.now c.loop-q.found c.args.positive.0 c.args.negative.0
+    c.as_slice-q-items.result.now c.partners.result.now c.as_slice-q-items.ensures.members c.requires.negative c.partners.ensures.partners
+    (Relates-all c.args.found.now c.loop-q.found c.as_slice-q-items.result.now c.loop-q.q-index (λ q p n. (p ≡ c.args.positive.0) × Holds c.args.direct.now q n)
+    c.loop-q-test.false c.loop-q.invariant)

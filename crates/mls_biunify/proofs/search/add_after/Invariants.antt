@@ -1,10 +1,7 @@
-use Rattle.std.proofs.Common.{ℕ, take, Contains}
+use Rattle.std.proofs.Common.{◌≡◌, take}
 use Rattle.mls_biunify.specs.Rooms.{Holds}
-use Rattle.mls_biunify.specs.steps.Consequences.{Follows}
+use Rattle.mls_biunify.specs.steps.Growth.{BySome, Relates}
 use Rattle.mls_biunify.proofs.search.add_after.Given as goal
 
 abbrev pub invariant-loop-q : goal.invariant-loop-q
-invariant-loop-q l = record {
-  follows : Follows l.a l.initial.found l.found;
-  has : (q m : ℕ) → Contains (take l.q-index l.q-items) q → Holds l.initial.found q m → Holds l.found l.positive.0 m;
-}
+invariant-loop-q l = Relates l.initial.found l.found (BySome (take l.q-index l.q-items) (λ q p n. (p ≡ l.positive.0) × Holds l.direct q n))

@@ -1,26 +1,19 @@
-use Rattle.std.proofs.Common.{ℕ, List, Contains, get_or, ◌<◌, inr, subst, sym, arith}
-use Rattle.mls_automaton.specs.Automata.{HasFlow}
-use Rattle.mls_biunify.proofs.Relating.{element, take-all}
-use Rattle.mls_biunify.proofs.Taking.{Follows-none, partner_below, before-follows, before-more}
+use Rattle.std.proofs.Common.{◌≡◌, get_or, take}
+use Rattle.mls_biunify.specs.Rooms.{Holds}
+use Rattle.mls_biunify.proofs.Relating.{Relates-more, Relates-all}
+use Rattle.mls_biunify.proofs.Searching.{column_before, to_edges}
 use Rattle.mls_biunify.proofs.search.add_before.Goals as goal
-
-pub loop-m-init : goal.loop-m-init
-loop-m-init c = record {
-  follows = Follows-none c.args.a.now c.args.found.now;
-  has = λ q m before none. let low : none.0 < 0 = none.1 in absurd (omega arith);
-}
 
 pub loop-m-preserved : goal.loop-m-preserved
 loop-m-preserved c =
-    let m : ℕ = get_or c.as_slice-m-items.result.now c.loop-m.m-index 0 in
-    let member : Contains c.partners.result.now m = subst (λ (xs : List ℕ). Contains xs m) c.as_slice-m-items.ensures.members (element c.as_slice-m-items.result.now c.loop-m.m-index c.loop-m-test.true) in
-    let edge : HasFlow c.args.a.now m c.args.positive.0 = partner_below c.args.a.now c.requires.closed c.args.found.now c.args.positive.0 c.args.negative.0 c.requires.held m c.requires.positive ((c.partners.ensures.partners m).0 member) in
-    record {
-      follows = before-follows c.args.a.now c.requires.closed c.args.found.now c.args.positive.0 c.args.negative.0 c.requires.held c.loop-m.found c.add_column.new.found m edge c.loop-m.invariant.follows c.in_ok-add_column.ensures;
-      has = before-more c.args.a.now c.requires.closed c.args.found.now c.args.positive.0 c.args.negative.0 c.requires.held c.loop-m.found c.add_column.new.found c.as_slice-m-items.result.now c.loop-m.m-index c.loop-m-test.true c.loop-m.invariant.follows c.loop-m.invariant.has c.in_ok-add_column.ensures;
-    }
+    Relates-more c.args.found.now c.loop-m.found c.add_column.new.found c.as_slice-m-items.result.now c.loop-m.m-index 0 (λ m p n. (n ≡ c.args.negative.0) × Holds c.args.found.now p m)
+    c.loop-m-test.true c.loop-m.invariant
+    (column_before c.args.found.now c.loop-m.found c.add_column.new.found (get_or c.as_slice-m-items.result.now c.loop-m.m-index 0) c.args.negative.0
+    (take c.loop-m.m-index c.as_slice-m-items.result.now) c.loop-m.invariant c.in_ok-add_column.ensures)
 
-pub returns-clause-has : goal.returns-clause-has
-returns-clause-has c q m before edge =
-    let member : Contains c.as_slice-m-items.result.now m = subst (λ (xs : List ℕ). Contains xs m) (sym c.as_slice-m-items.ensures.members) ((c.partners.ensures.partners m).1 (inr edge)) in
-    c.loop-m.invariant.has q m before (subst (λ (xs : List ℕ). Contains xs m) (sym (take-all c.as_slice-m-items.result.now c.loop-m.m-index c.loop-m-test.false)) member)
+pub returns : goal.returns
+returns c =
+    to_edges c.args.a.now c.requires.closed (Holds c.args.found.now) c.args.found.now c.loop-m.found c.args.positive.0 c.args.negative.0
+    c.as_slice-m-items.result.now c.partners.result.now c.as_slice-m-items.ensures.members c.requires.positive c.partners.ensures.partners
+    (Relates-all c.args.found.now c.loop-m.found c.as_slice-m-items.result.now c.loop-m.m-index (λ m p n. (n ≡ c.args.negative.0) × Holds c.args.found.now p m)
+    c.loop-m-test.false c.loop-m.invariant)

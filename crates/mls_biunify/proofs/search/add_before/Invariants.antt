@@ -1,10 +1,7 @@
-use Rattle.std.proofs.Common.{ℕ, take, Contains}
+use Rattle.std.proofs.Common.{◌≡◌, take}
 use Rattle.mls_biunify.specs.Rooms.{Holds}
-use Rattle.mls_biunify.specs.steps.Consequences.{Follows}
+use Rattle.mls_biunify.specs.steps.Growth.{BySome, Relates}
 use Rattle.mls_biunify.proofs.search.add_before.Given as goal
 
 abbrev pub invariant-loop-m : goal.invariant-loop-m
-invariant-loop-m l = record {
-  follows : Follows l.a l.initial.found l.found;
-  has : (q m : ℕ) → Holds l.initial.found q m → Contains (take l.m-index l.m-items) m → Holds l.found q l.negative.0;
-}
+invariant-loop-m l = Relates l.initial.found l.found (BySome (take l.m-index l.m-items) (λ m p n. (n ≡ l.negative.0) × Holds l.initial.found p m))

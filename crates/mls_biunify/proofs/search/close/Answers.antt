@@ -1,37 +1,57 @@
-use Rattle.std.proofs.Common.{◌≡◌, ◌<◌, ◌≤◌, length, arith}
-use Rattle.mls_biunify.proofs.Searching.{follows_states, held_at}
-use Rattle.mls_biunify.proofs.Taking.{taken-none, taken-next, taken-all}
+use Rattle.std.proofs.Common.{◌≡◌, ◌+◌, ◌<◌, ◌≤◌, length, arith}
+use Rattle.mls_biunify.specs.Rooms.{Holds}
+use Rattle.mls_biunify.proofs.Searching.{direct_states, found_states, searched-all, searched-direct, searched-found, searched-none, searched-same}
 use Rattle.mls_biunify.proofs.search.close.Goals as goal
+use Rattle.mls_biunify.proofs.search.close.Goals.{then-next_direct-len+in_ok-take_direct, else-next_direct-len+then-next-len+in_ok-take_found}
 
-pub loop-next-init : goal.loop-next-init
-loop-next-init c = taken-none c.args.a.now c.args.found.now
+pub loop-init : goal.loop-init
+loop-init c = searched-none c.args.a.now c.new-found.result c.args.direct.now c.new-found.ensures
 
-pub add_consequences-requires-clause-held : goal.add_consequences-requires-clause-held
-add_consequences-requires-clause-held c =
-    let len : c.len.result ≡ length c.loop-next.found.pairs = c.len.ensures in
-    held_at c.loop-next.found c.loop-next.next c.pair.result.0.0 c.pair.result.1.0 (omega arith) c.pair.ensures
+pub take_direct-requires-clause-positive : goal.take_direct-requires-clause-positive
+take_direct-requires-clause-positive c =
+    let len : c.len.result ≡ length c.loop.direct.pairs = c.len.ensures in
+    let less : c.loop.next_direct < length c.loop.direct.pairs = omega arith in
+    (direct_states c.args.a.now (Holds c.args.direct.now) c.loop.next c.loop.next_direct c.loop.found c.loop.direct c.loop.invariant c.requires.closed c.requires.states
+    c.pair-pair.result.0.0 c.pair-pair.result.1.0 less c.pair-pair.ensures).0
 
-pub add_consequences-requires-clause-positive : goal.add_consequences-requires-clause-positive
-add_consequences-requires-clause-positive c =
-    let len : c.len.result ≡ length c.loop-next.found.pairs = c.len.ensures in
-    (follows_states c.args.a.now c.requires.closed c.args.found.now c.loop-next.found c.requires.states c.loop-next.invariant.follows c.pair.result.0.0 c.pair.result.1.0
-    (held_at c.loop-next.found c.loop-next.next c.pair.result.0.0 c.pair.result.1.0 (omega arith) c.pair.ensures)).0
+pub take_found-requires-clause-positive : goal.take_found-requires-clause-positive
+take_found-requires-clause-positive c =
+    let len : c.len-else-next_direct-len.result ≡ length c.loop.found.pairs = c.len-else-next_direct-len.ensures in
+    let less : c.loop.next < length c.loop.found.pairs = omega arith in
+    (found_states c.args.a.now (Holds c.args.direct.now) c.loop.next c.loop.next_direct c.loop.found c.loop.direct c.loop.invariant c.requires.closed c.requires.states
+    c.pair-pair-then-next-len.result.0.0 c.pair-pair-then-next-len.result.1.0 less c.pair-pair-then-next-len.ensures).0
 
-pub add_consequences-requires-clause-negative : goal.add_consequences-requires-clause-negative
-add_consequences-requires-clause-negative c =
-    let len : c.len.result ≡ length c.loop-next.found.pairs = c.len.ensures in
-    (follows_states c.args.a.now c.requires.closed c.args.found.now c.loop-next.found c.requires.states c.loop-next.invariant.follows c.pair.result.0.0 c.pair.result.1.0
-    (held_at c.loop-next.found c.loop-next.next c.pair.result.0.0 c.pair.result.1.0 (omega arith) c.pair.ensures)).1
+pub take_found-requires-clause-negative : goal.take_found-requires-clause-negative
+take_found-requires-clause-negative c =
+    let len : c.len-else-next_direct-len.result ≡ length c.loop.found.pairs = c.len-else-next_direct-len.ensures in
+    let less : c.loop.next < length c.loop.found.pairs = omega arith in
+    (found_states c.args.a.now (Holds c.args.direct.now) c.loop.next c.loop.next_direct c.loop.found c.loop.direct c.loop.invariant c.requires.closed c.requires.states
+    c.pair-pair-then-next-len.result.0.0 c.pair-pair-then-next-len.result.1.0 less c.pair-pair-then-next-len.ensures).1
 
-pub loop-next-preserved : goal.loop-next-preserved
-loop-next-preserved c =
-    let len : c.len.result ≡ length c.loop-next.found.pairs = c.len.ensures in
-    let low : c.loop-next.next < length c.loop-next.found.pairs = omega arith in
-    taken-next c.args.a.now c.args.found.now c.loop-next.found c.add_consequences.new.found c.loop-next.next c.pair.result.0.0 c.pair.result.1.0
-    c.loop-next.invariant low c.pair.ensures c.in_ok-add_consequences.ensures.follows c.in_ok-add_consequences.ensures.has
+pub returns-else-next-len : goal.returns-else-next-len
+returns-else-next-len c =
+    let direct_len : c.len.result ≡ length c.loop.direct.pairs = c.len.ensures in
+    let len : c.len-else-next_direct-len.result ≡ length c.loop.found.pairs = c.len-else-next_direct-len.ensures in
+    let all : length c.loop.found.pairs ≤ c.loop.next = omega arith in
+    let all_direct : length c.loop.direct.pairs ≤ c.loop.next_direct = omega arith in
+    searched-all c.args.a.now (Holds c.args.direct.now) c.loop.next c.loop.next_direct c.loop.found c.loop.direct c.loop.invariant all all_direct
 
-pub returns-then-next-len : goal.returns-then-next-len
-returns-then-next-len c =
-    let len : c.len.result ≡ length c.loop-next.found.pairs = c.len.ensures in
-    let all : length c.loop-next.found.pairs ≤ c.loop-next.next = omega arith in
-    taken-all c.args.a.now c.args.found.now c.loop-next.found c.loop-next.next c.loop-next.invariant all
+pub loop-preserved : goal.loop-preserved
+loop-preserved c =
+    let direct_len : c.len.result ≡ length c.loop.direct.pairs = c.len.ensures in
+    elim c.if-next_direct-len.branch [
+      | then-next_direct-len+in_ok-take_direct w ↦
+          let less : c.loop.next_direct < length c.loop.direct.pairs = omega arith in
+          searched-same c.args.a.now (Holds c.args.direct.now) c.loop.next (c.loop.next_direct + 1) w.take_direct.new.found c.loop.direct
+          (searched-direct c.args.a.now (Holds c.args.direct.now) c.loop.next c.loop.next_direct c.loop.found c.loop.direct c.loop.invariant
+          w.pair-pair.result.0.0 w.pair-pair.result.1.0 w.take_direct.new.found less w.pair-pair.ensures w.in_ok-take_direct.ensures)
+          c.if-next_direct-len.next c.if-next_direct-len.next_direct c.if-next_direct-len.found c.if-next_direct-len.direct w.next-is w.next_direct-is w.found-is w.direct-is
+      | else-next_direct-len+then-next-len+in_ok-take_found w ↦
+          let len : w.len-else-next_direct-len.result ≡ length c.loop.found.pairs = w.len-else-next_direct-len.ensures in
+          let less : c.loop.next < length c.loop.found.pairs = omega arith in
+          searched-same c.args.a.now (Holds c.args.direct.now) (c.loop.next + 1) c.loop.next_direct w.take_found.new.found w.take_found.new.direct
+          (searched-found c.args.a.now (Holds c.args.direct.now) c.loop.next c.loop.next_direct c.loop.found c.loop.direct c.loop.invariant c.requires.closed
+          w.pair-pair-then-next-len.result.0.0 w.pair-pair-then-next-len.result.1.0 w.take_found.new.found w.take_found.new.direct less w.pair-pair-then-next-len.ensures
+          w.in_ok-take_found.ensures.direct w.in_ok-take_found.ensures.found)
+          c.if-next_direct-len.next c.if-next_direct-len.next_direct c.if-next_direct-len.found c.if-next_direct-len.direct w.next-is w.next_direct-is w.found-is w.direct-is
+    ]

@@ -4,7 +4,7 @@ use Rattle.mls_biunify.proofs.Settling.{touched-none, touched-more, touched_foun
 use Rattle.mls_biunify.proofs.settle.touched.Goals as goal
 
 pub loop-i-init : goal.loop-i-init
-loop-i-init c = touched-none c.args.a.now c.args.found.now c.new-all.result c.new-all.ensures
+loop-i-init c = touched-none c.args.a.now c.args.found.now c.new-all.result.keys c.new-all.ensures.empty
 
 pub partners-requires : goal.partners-requires
 partners-requires c =
@@ -21,12 +21,12 @@ loop-i-preserved c =
     touched-more c.args.a.now c.requires.closed c.args.found.now c.loop-i.i c.pair.result.0.0 c.pair.result.1.0 c.pair.ensures
     c.partners.result.now c.partners-in-loop-i.result.now c.as_slice.result.now c.as_slice-in-loop-i.result.now c.partners.ensures.partners c.partners-in-loop-i.ensures.partners
     c.as_slice.ensures.members c.as_slice-in-loop-i.ensures.members
-    c.loop-i.all c.add_all.new.set c.add_all-in-loop-i.new.set c.loop-i.invariant c.in_ok-add_all.ensures c.in_ok-add_all-2.ensures
+    c.loop-i.all.keys c.insert_all.new.set.keys c.insert_all-in-loop-i.new.set.keys c.loop-i.invariant c.in_ok-insert_all.ensures c.in_ok-insert_all-2.ensures
 
 pub returns-clause-all : goal.returns-clause-all
 returns-clause-all c =
     let len : c.len-i-end.result ≡ length c.args.found.now.pairs = c.len-i-end.ensures in
-    touched_found c.args.a.now c.args.found.now c.loop-i.i c.loop-i.all (omega arith) c.loop-i.invariant
+    touched_found c.args.a.now c.args.found.now c.loop-i.i c.loop-i.all.keys (omega arith) c.loop-i.invariant
 
 pub returns-clause-in_range : goal.returns-clause-in_range
 returns-clause-in_range c = c.loop-i.invariant.in_range
