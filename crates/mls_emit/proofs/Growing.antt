@@ -20,8 +20,8 @@ use Rattle.mls_deriv.specs.inner.Tables.{numbers_cmp}
 use Rattle.mls_deriv.proofs.ScopedNames.{first_or_later}
 use Rattle.mls_emit.specs.declared.found.Found.{Found}
 use Rattle.mls_emit.specs.PairLists.{pair_of}
-use Rattle.mls_emit.specs.steps.Needs.{needs_of}
-use Rattle.mls_emit.specs.steps.Growth.{IsMarked, IsFound, Marks, Finds, IsGathered, IsClosedList, IsGrowing}
+use Rattle.mls_emit.specs.steps.Needs.{IsPlainNode, needs_of}
+use Rattle.mls_emit.specs.steps.Growth.{IsMarked, IsFound, Marks, Finds, FindsNeeds, IsGathered, IsClosedList, IsGrowing}
 
 both_equal : (o p : Ordering) → is_eq (ordering_then o p) ≡ true → (o ≡ Equal) × (p ≡ Equal)
 both_equal Less p e = absurd (cc)
@@ -168,22 +168,25 @@ split (suc k) (suc n) = go (split k n)
 module _ (book : List Node) (put : ℕ → Option ℕ) where
   -- one more pair of the list has what the rules name for it
   gathered_next : (f g : Found) (n : ℕ) (pair : Pair) → n < length f.pairs → get_or f.pairs n pair ≡ pair → IsGathered book put n f.pairs
-      → Finds f g (needs_of book put pair) → IsGathered book put (n + 1) g.pairs
-  gathered_next f g n pair low is all finds k one k_low k_in at other needed = go (split k n)
+      → FindsNeeds book put f g pair → IsGathered book put (n + 1) g.pairs
+  gathered_next f g n pair low is all it k one k_low k_in at apart other needed = go (split k n)
     where
       go : (k < n) ⊎ (n ≤ k) → Contains g.pairs other
       go (inl less) =
-          subst (λ ps. Contains ps other) (sym finds.behind)
-          (Contains-append_left f.pairs finds.more other
-          (all k one less (omega arith) (sym (at_front f.pairs finds.more k one (omega arith)) ∙ (ap (λ ps. get_or ps k one) (sym finds.behind) ∙ at)) other needed))
-      go (inr more) = finds.has other (subst (λ p. Contains (needs_of book put p) other) same needed)
+          subst (λ ps. Contains ps other) (sym it.finds.behind)
+          (Contains-append_left f.pairs it.finds.more other
+          (all k one less (omega arith) (sym (at_front f.pairs it.finds.more k one (omega arith)) ∙ (ap (λ ps. get_or ps k one) (sym it.finds.behind) ∙ at)) apart other needed))
+      go (inr more) =
+          it.finds.has other
+          (subst (λ ps. Contains ps other) (sym (it.are (subst (λ p. IsPlainNode p → ⊥) same apart)))
+          (subst (λ p. Contains (needs_of book put p) other) same needed))
         where
           same : one ≡ pair
           same =
               let is_n : k ≡ n = omega arith in
               sym at
-              ∙ (ap (λ ps. get_or ps k one) finds.behind
-              ∙ (at_front f.pairs finds.more k one (omega arith)
+              ∙ (ap (λ ps. get_or ps k one) it.finds.behind
+              ∙ (at_front f.pairs it.finds.more k one (omega arith)
               ∙ (ap (λ m. get_or f.pairs m one) is_n
               ∙ (get_or_default f.pairs n one pair low ∙ is))))
 
@@ -195,15 +198,22 @@ module _ (book : List Node) (put : ℕ → Option ℕ) where
   }
 
   pub growing_next : (wanted : List Pair) (f g : Found) (n : ℕ) (pair : Pair) → n < length f.pairs → get_or f.pairs n pair ≡ pair → IsGrowing book put wanted n f
-      → Finds f g (needs_of book put pair) → IsGrowing book put wanted (n + 1) g
-  growing_next wanted f g n pair low is it finds = record {
-    is = finds.is;
-    has_wanted = λ other there. subst (λ ps. Contains ps other) (sym finds.behind) (Contains-append_left f.pairs finds.more other (it.has_wanted other there));
-    gathered = gathered_next f g n pair low is it.gathered finds;
+      → FindsNeeds book put f g pair → IsGrowing book put wanted (n + 1) g
+  growing_next wanted f g n pair low is it more = record {
+    is = more.finds.is;
+    has_wanted = λ other there. subst (λ ps. Contains ps other) (sym more.finds.behind) (Contains-append_left f.pairs more.finds.more other (it.has_wanted other there));
+    gathered = gathered_next f g n pair low is it.gathered more;
   }
 
   pub growing_last : (wanted : List Pair) (f : Found) (n : ℕ) → length f.pairs ≤ n → IsGrowing book put wanted n f → IsClosedList book put wanted f.pairs
   growing_last wanted f n all it = record {
     has_wanted = it.has_wanted;
-    closed = λ pair other there needed. it.gathered there.0 pair (let low : there.0 < length f.pairs = there.1 in omega arith) there.1 there.2 other needed;
+    closed = λ pair other there apart needed. it.gathered there.0 pair (let low : there.0 < length f.pairs = there.1 in omega arith) there.1 there.2 apart other needed;
   }
+
+  -- a pair that needs others, and one that needs none
+  pub needs_found : (f g : Found) (pair : Pair) → Finds f g (needs_of book put pair) → FindsNeeds book put f g pair
+  needs_found f g pair finds = record { needs = needs_of book put pair; finds = finds; are = λ apart. refl }
+
+  pub none_needed : (f : Found) (pair : Pair) → IsFound f → IsPlainNode pair → FindsNeeds book put f f pair
+  none_needed f pair is same = record { needs = []; finds = found_none f is; are = λ apart. absurd (apart same) }

@@ -11,12 +11,12 @@ use Rattle.std.proofs.lemmas.List.Elements.{All-nil, All-cons, Contains-append_l
 use Rattle.mls_book.specs.declared.book.Node.{Node}
 use Rattle.mls_deriv.specs.declared.claim.Pair.{Pair}
 use Rattle.mls_deriv.specs.declared.claim.Put.{Put}
-use Rattle.mls_deriv.specs.Pairs.{put_at, Claims, IsJustified}
+use Rattle.mls_deriv.specs.Pairs.{put_at, Claims, IsJustified, same_node}
 use Rattle.mls_deriv.proofs.CheckedSubs.{justified_more}
 use Rattle.mls_deriv.proofs.ScopedNames.{first_or_later}
 use Rattle.mls_emit.specs.PairLists.{pair_of, IsOutside, IsRefuted, refuted, IsPairList}
 use Rattle.mls_emit.specs.steps.Growth.{IsClosedList}
-use Rattle.mls_emit.specs.steps.Needs.{needs_of}
+use Rattle.mls_emit.specs.steps.Needs.{IsPlainNode, needs_of}
 use Rattle.mls_emit.specs.steps.Rounds.{AreThose, none, kept, gone, AddsKept, IsJustifiedBy, IsLeft}
 use Rattle.mls_emit.proofs.Needed.{by_needs, Named}
 
@@ -146,8 +146,12 @@ module _ (book : List Node) (puts : List Put) (wanted : List Pair) where
   now_refuted : (pairs : List Pair) (it : IsLeft book puts wanted pairs) (pair : Pair) → Contains pairs pair → (IsJustifiedBy book puts pairs pair → ⊥) → IsRefuted book puts pair
   now_refuted pairs it pair there not_so = refuted it.gone it.refuted unjustified
     where
+      -- a node is below itself
+      apart : IsPlainNode pair → ⊥
+      apart same = not_so (same_node same.0 same.1)
+
       still : (other : Pair) → Contains (needs_of book (put_at puts) pair) other → (Contains it.gone other → ⊥) → Contains pairs other
-      still other needed outside = go (it.either other (it.closed.closed pair other (it.within pair there) needed))
+      still other needed outside = go (it.either other (it.closed.closed pair other (it.within pair there) apart needed))
         where
           go : Contains pairs other ⊎ Contains it.gone other → Contains pairs other
           go (inl h) = h

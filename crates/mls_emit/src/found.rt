@@ -1,9 +1,8 @@
 //! The pairs that the rules name for wanted pairs, for those that they name, and so on.
 ghost use Rattle.std.specs.Prelude.{◌≡◌, ◌↔◌, ◌<◌, ◌∷◌, [], get_or, length, IfOk, OnOk, IsTrue};
 ghost use Rattle.mls_deriv.specs.inner.Tables.{put_in};
-ghost use Rattle.mls_emit.specs.steps.Needs.{needs_of};
 ghost use Rattle.mls_deriv.specs.Pairs.{put_at};
-ghost use Rattle.mls_emit.specs.steps.Growth.{Finds, IsClosedList, IsFound, IsMarked, Marks};
+ghost use Rattle.mls_emit.specs.steps.Growth.{Finds, FindsNeeds, IsClosedList, IsFound, IsMarked, Marks};
 
 use crate::lines::table_with;
 use crate::needs::needs_of;
@@ -100,7 +99,7 @@ impl Found {
         self.pairs.as_slice()[place]
     }
 
-    // Adds what the rules name for a pair.
+    // Adds what the rules name for a pair. One of a node with itself, read plainly, needs nothing.
     fn add_needs(
         &mut self,
         alloc: Global,
@@ -109,8 +108,11 @@ impl Found {
         pair: Pair,
     ) -> Result<(), Memory>
         requires { IsFound self.old }
-        ensures { OnOk result (Finds self.old self.new (needs_of book.now (put_in table.now) pair)) }
+        ensures { OnOk result (FindsNeeds book.now (put_in table.now) self.old self.new pair) }
     {
+        if pair.mode == Mode::Pp && pair.left == pair.right {
+            return Ok(());
+        }
         let needs = needs_of(alloc, book, table, pair)?;
         self.add_all(needs.as_slice())?;
         Ok(())

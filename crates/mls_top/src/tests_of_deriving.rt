@@ -139,9 +139,25 @@ fn derives_what_is_verified(rt: HostRuntime) -> Result<(), Fail> {
         "let x = 1 let y = fun x -> x let z = x + 1",
         "let rec count = fun n -> if n < 1 then 0 else count (n - 1) let c = count 3 == 0",
         "let k = fun f -> let g = f in let h = g in {a = h 1, b = g}",
+        "let chain = fun x -> fun y -> x y x y x let way = fun x -> x.l.l.l",
+        "let args = fun f -> f 1 1 1 let id = fun x -> x let ids = id id id 1",
+        "let unused = fun x -> fun y -> {a = fun z -> y, b = fun y -> fun x -> 1}",
     ] {
         text_is_derived(&rt, rt.alloc(), text)?;
     }
+    Ok(())
+}
+
+#[test]
+fn a_chain_has_no_pairs_of_the_type_that_is_left(rt: HostRuntime) -> Result<(), Fail> {
+    let mut files = String::from_str(rt.alloc(), "main.ml let v = fun f -> f")?;
+    for _ in 0..200 {
+        files.push_str(" 1")?;
+    }
+    let (printed, code) = answered_beside(rt.alloc(), "derive", "main", files.as_str(), "")?;
+    assert_eq!(rt; code, 0);
+    // With them it has 1.9 MB.
+    assert!(rt; printed.len() < 60_000);
     Ok(())
 }
 

@@ -9,7 +9,7 @@ use Rattle.mls_deriv.specs.Pairs.{Claims}
 use Rattle.mls_deriv.specs.inner.Tables.{numbers_cmp}
 use Rattle.mls_emit.specs.declared.found.Found.{Found}
 use Rattle.mls_emit.specs.PairLists.{pair_of}
-use Rattle.mls_emit.specs.steps.Needs.{needs_of}
+use Rattle.mls_emit.specs.steps.Needs.{IsPlainNode, needs_of}
 
 -- the marks of a mode
 abbrev pub marks_of : Mode → Found → BTreeSet (ℕ × ℕ)
@@ -37,17 +37,23 @@ pub record Finds (old new : Found) (pairs : List Pair) : Type 0 where
   pub behind : new.pairs ≡ old.pairs ++ more
   pub has : (pair : Pair) → Contains pairs pair → Contains new.pairs pair
 
--- the list has what the rules name for its first pairs, up to this number
+-- the list has what the rules name for the pair, if it needs any
+pub record FindsNeeds (book : List Node) (put : ℕ → Option ℕ) (old new : Found) (pair : Pair) : Type 0 where
+  pub needs : List Pair
+  pub finds : Finds old new needs
+  pub are : (IsPlainNode pair → ⊥) → needs ≡ needs_of book put pair
+
+-- the list has what the rules name for those of its first pairs, up to this number, that need any
 abbrev pub IsGathered : List Node → (ℕ → Option ℕ) → ℕ → List Pair → Type 0
 IsGathered book put n pairs =
-    (k : ℕ) (pair : Pair) → k < n → k < length pairs → get_or pairs k pair ≡ pair
+    (k : ℕ) (pair : Pair) → k < n → k < length pairs → get_or pairs k pair ≡ pair → (IsPlainNode pair → ⊥)
     → (other : Pair) → Contains (needs_of book put pair) other → Contains pairs other
 
--- the list has the wanted pairs, and all that the rules name for its own
+-- the list has the wanted pairs, and all that the rules name for those of its own that need any
 pub record IsClosedList (book : List Node) (put : ℕ → Option ℕ) (wanted pairs : List Pair) : Type 0 where
   pub has_wanted : (pair : Pair) → Contains wanted pair → Contains pairs pair
-  pub closed : (pair other : Pair) → Contains pairs pair → Contains (needs_of book put pair) other
-      → Contains pairs other
+  pub closed : (pair other : Pair) → Contains pairs pair → (IsPlainNode pair → ⊥)
+      → Contains (needs_of book put pair) other → Contains pairs other
 
 -- the wanted pairs are found, and what the rules name for the first pairs of the list
 pub record IsGrowing (book : List Node) (put : ℕ → Option ℕ) (wanted : List Pair) (n : ℕ) (f : Found) : Type 0 where

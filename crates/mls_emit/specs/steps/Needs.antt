@@ -1,5 +1,5 @@
 -- The pairs that the rules name for a pair of nodes.
-use Rattle.std.specs.Prelude.{ℕ, List, [], ◌∷◌, ◌++◌, Option, Some, None}
+use Rattle.std.specs.Prelude.{◌≡◌, ℕ, List, [], ◌∷◌, ◌++◌, Option, Some, None}
 use Rattle.std.specs.List.{flat_map}
 use Rattle.mls_book.specs.declared.book.Field.{Field}
 use Rattle.mls_book.specs.declared.book.NodeId.{NodeId}
@@ -51,6 +51,10 @@ abbrev pub node_needs : (put : ℕ → Option ℕ) → Pair → (left right : No
 node_needs put pair left right =
     left_needs put pair.mode pair.right left
     ++ (right_needs put pair.mode pair.left right ++ both_needs pair.mode left right)
+
+-- both sides are one node, and both are read plainly: such a pair needs no other
+abbrev pub IsPlainNode : Pair → Type 0
+IsPlainNode pair = (pair.mode ≡ Pp) × (pair.left ≡ pair.right)
 
 -- for the pair
 abbrev pub needs_of : List Node → (put : ℕ → Option ℕ) → Pair → List Pair

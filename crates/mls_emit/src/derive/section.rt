@@ -8,6 +8,8 @@ ghost use Rattle.mls_iface.specs.Signatures.{IsEntry};
 use crate::derive::binders::binders_of;
 use crate::derive::copies::push_book;
 use crate::derive::known::{FirstPart, FirstParts, Globals, put_global};
+use crate::derive::prune::{Written, pruned};
+use crate::derive::spines::Spines;
 use crate::derive::split::{TermPart, parts_of};
 use crate::derive::steps::Steps;
 use crate::derive::writer::{PartView, Writer};
@@ -23,20 +25,13 @@ use mls_automaton::scheme::{Env, EnvEntry, Scheme};
 use mls_automaton::state_set::StateId;
 use mls_base::memory::Memory;
 use mls_book::book::{Book, Node, NodeId};
-use mls_deriv::derivation::{BinderNode, BinderNodes, SectionLines};
+use mls_deriv::derivation::{BinderNode, BinderNodes};
 use mls_iface::signature::SigEntry;
 use mls_scheme::read::scheme_of_read;
 use mls_term::term::{TermForm, TermNode};
 use mls_typetext::scheme::ReadScheme;
 use std::alloc::Global;
 use std::collections::BTreeMap;
-
-/// The nodes and the lines of a section.
-#[derive(Drop)]
-pub(crate) struct Written {
-    pub(crate) book: Book,
-    pub(crate) lines: SectionLines,
-}
 
 // A section so far: its nodes and steps, what is known of names, and the number of the next variable.
 #[derive(Drop)]
@@ -275,9 +270,12 @@ impl Draft {
             laid,
             steps: replace_steps(&mut self.steps, alloc),
             concluded: BTreeMap::new(alloc),
+            top: None,
         };
+        let spines = Spines::of(alloc, nodes, part, &self.known.lets)?;
         let view = PartView {
             posing,
+            spines: &spines,
             known: &self.known,
             globals: &self.globals,
             firsts: &self.firsts,
@@ -355,7 +353,7 @@ fn replace_steps(steps: &mut Steps, alloc: Global) -> Steps {
     std::mem::replace(steps, Steps::new(alloc))
 }
 
-/// The section of a term that has this type: its nodes begin with those of the type.
+/// The section of a term that has this type: its nodes begin with those of the type, and each other node serves a line.
 ///
 /// # Errors
 ///
@@ -374,11 +372,9 @@ pub(crate) fn write_section(
     let parts = parts_of(alloc, nodes)?;
     let mut draft = Draft::new(alloc, read)?;
     draft.add_globals(alloc, declared, entries, nodes)?;
+    let fixed = draft.book.len();
     for (_, part) in parts.iter() {
         draft.add_part(alloc, nodes, part, read)?;
     }
-    Ok(Written {
-        book: draft.book,
-        lines: draft.steps.lines,
-    })
+    pruned(alloc, &draft.book, draft.steps.lines.as_slice(), fixed)
 }

@@ -2,8 +2,10 @@
 //! types that the rule asks for.
 
 use crate::derive::binders::both;
+use crate::derive::copies::push_checked;
 use crate::derive::known::{FirstPart, FirstParts, Globals};
 use crate::derive::puts::{Puts, add_puts, global_puts, let_puts, share_variables};
+use crate::derive::spines::Spines;
 use crate::derive::steps::{Conclusion, Steps, copied, node_of};
 use crate::labelled::labelled;
 use crate::layout::LaidOut;
@@ -11,28 +13,31 @@ use crate::pose::{KnownTypes, Posing};
 use crate::tree::NodeIds;
 use mls_base::list::List;
 use mls_base::memory::Memory;
-use mls_book::book::{Fields, Node, NodeId};
+use mls_book::book::{Field, Fields, Node, NodeId};
 use mls_book::name::Name;
 use mls_deriv::derivation::{BinderNode, BinderNodes, StepRule};
 use mls_term::term::{Part, TermForm, TermNode};
 use std::alloc::Global;
 use std::collections::BTreeMap;
 
-/// What is known of a part: its constraint, and the types of names.
+/// What is known of a part: its constraint, its chains of applications, and the types of names.
 #[derive(Clone, Copy)]
 pub(crate) struct PartView<'a> {
     pub(crate) posing: &'a Posing,
+    pub(crate) spines: &'a Spines,
     pub(crate) known: &'a KnownTypes,
     pub(crate) globals: &'a Globals,
     pub(crate) firsts: &'a FirstParts,
 }
 
-/// The nodes of a part, the steps so far, and what the nodes conclude.
+/// The nodes of a part, the steps so far, what the nodes of the term conclude, and the node of the greatest type, where
+/// a binder that is not used asked for one.
 #[derive(Drop)]
 pub(crate) struct Writer {
     pub(crate) laid: LaidOut,
     pub(crate) steps: Steps,
     pub(crate) concluded: BTreeMap<usize, Concluded>,
+    pub(crate) top: Option<NodeId>,
 }
 
 /// What a node concludes: a binder may have any type, and another node has a step.
@@ -40,6 +45,21 @@ pub(crate) struct Writer {
 pub(crate) enum Concluded {
     Bound(usize),
     Step(Conclusion),
+}
+
+// A node that is a function, with its domain and its codomain.
+#[derive(Clone, Copy)]
+struct ArrowNode {
+    node: NodeId,
+    from: NodeId,
+    to: NodeId,
+}
+
+// The type of the function of an application, and the environment of both parts.
+#[derive(Drop)]
+struct Applied {
+    arrow: ArrowNode,
+    env: BinderNodes,
 }
 
 // The number behind this one, by so many.
@@ -60,6 +80,34 @@ fn fields_at(alloc: Global, fields: &Fields, parts: &[Part]) -> Result<NodeIds, 
         nodes.push(labelled(fields, is_rising, &part.label).ok_or(Memory)?)?;
     }
     Ok(nodes)
+}
+
+// Parts by their labels.
+fn numbers_of(alloc: Global, parts: &[Part]) -> Result<BTreeMap<&[u8], usize>, Memory> {
+    let mut numbers = BTreeMap::new(alloc);
+    for (number, part) in parts.iter().enumerate() {
+        numbers.insert(part.label.bytes(), number)?;
+    }
+    Ok(numbers)
+}
+
+// The labels of these fields with the nodes of the parts at these labels.
+fn with_nodes(
+    alloc: Global,
+    fields: &Fields,
+    parts: &[Part],
+    nodes: &[NodeId],
+) -> Result<Fields, Memory> {
+    let numbers = numbers_of(alloc, parts)?;
+    let mut own = Fields::new(alloc);
+    for field in fields.as_slice() {
+        let number = *numbers.get(field.label.bytes()).ok_or(Memory)?;
+        own.push(Field {
+            label: field.label.clone()?,
+            node: *nodes.get(number).ok_or(Memory)?,
+        })?;
+    }
+    Ok(own)
 }
 
 // A step as what a node concludes.
@@ -110,16 +158,10 @@ impl Writer {
         self.laid.places.node(state)
     }
 
-    // The domain and the codomain of the function of a state, with its node.
-    fn function(&self, state: usize) -> Result<(NodeId, NodeId, NodeId), Memory> {
-        let id = self.laid.function(state).ok_or(Memory)?;
-        if id.0 >= self.laid.book.len() {
-            return Err(Memory);
-        }
-        match self.laid.book.node(id) {
-            Node::Arrow(from, to) => Ok((id, *from, *to)),
-            _ => Err(Memory),
-        }
+    // The function of a state.
+    fn function(&self, state: usize) -> Result<ArrowNode, Memory> {
+        let node = self.laid.function(state).ok_or(Memory)?;
+        self.arrow_at(node).ok_or(Memory)
     }
 
     // The node of the record of a state.
@@ -139,6 +181,75 @@ impl Writer {
         match self.laid.book.node(record) {
             Node::Rcd(fields) => field_at(fields, label),
             _ => Err(Memory),
+        }
+    }
+
+    // The node, if it is a function.
+    fn arrow_at(&self, node: NodeId) -> Option<ArrowNode> {
+        if node.0 >= self.laid.book.len() {
+            return None;
+        }
+        match self.laid.book.node(node) {
+            Node::Arrow(from, to) => Some(ArrowNode {
+                node,
+                from: *from,
+                to: *to,
+            }),
+            _ => None,
+        }
+    }
+
+    // The field of a node that is a record of this one label.
+    fn single_field(&self, id: NodeId, label: &Name) -> Option<NodeId> {
+        if id.0 >= self.laid.book.len() {
+            return None;
+        }
+        match self.laid.book.node(id) {
+            Node::Rcd(fields) => match fields.as_slice().len() {
+                1 => fields.get(label),
+                _ => None,
+            },
+            _ => None,
+        }
+    }
+
+    // Whether the node is `bool`.
+    fn is_boolean(&self, id: NodeId) -> bool {
+        id.0 < self.laid.book.len() && matches!(self.laid.book.node(id), Node::Bool)
+    }
+
+    // The node of the greatest type.
+    fn greatest(&mut self) -> Result<NodeId, Memory> {
+        if let Some(top) = self.top {
+            return Ok(top);
+        }
+        let top = self.laid.book.push(Node::Top)?;
+        self.top = Some(top);
+        Ok(top)
+    }
+
+    // The type of the step of a node, where no variable is left to be put in.
+    fn concluded_type(&self, node: usize) -> Result<Option<NodeId>, Memory> {
+        match self.concluded.get(&node).ok_or(Memory)? {
+            Concluded::Bound(_) => Ok(None),
+            Concluded::Step(of) => match of.puts.is_empty() {
+                true => Ok(Some(of.root)),
+                false => Ok(None),
+            },
+        }
+    }
+
+    // The type that a node has without a step by pairs, or else the one that is asked for.
+    fn own_type(&self, node: usize, wanted: NodeId) -> Result<NodeId, Memory> {
+        let own = self.concluded_type(node)?;
+        Ok(own.unwrap_or(wanted))
+    }
+
+    // The type that a node has without a step by pairs, where a binder has its own node.
+    fn placed_type(&self, view: &PartView, node: usize) -> Result<Option<NodeId>, Memory> {
+        match self.concluded.get(&node).ok_or(Memory)? {
+            Concluded::Bound(x) => Ok(Some(self.place(view.posing.binder(*x)))),
+            Concluded::Step(_) => self.concluded_type(node),
         }
     }
 
@@ -298,13 +409,99 @@ impl Writer {
         x: usize,
         body: usize,
     ) -> Result<Conclusion, Memory> {
-        let (arrow, from, to) = self.function(view.posing.root(node))?;
-        let own = self.offered(alloc, view, body, to)?;
-        let inner = with(alloc, own.as_slice(), x, from)?;
-        let step = self.adapted(alloc, body, inner.as_slice(), to)?;
+        let arrow = self.function(view.posing.root(node))?;
+        let root = self.own_type(body, arrow.to)?;
+        let own = self.offered(alloc, view, body, root)?;
+        let step = self.adapted(alloc, body, own.as_slice(), root)?;
+        let domain = match node_of(own.as_slice(), x) {
+            Some(domain) => domain,
+            None => self.greatest()?,
+        };
+        let own_arrow = match domain == arrow.from && root == arrow.to {
+            true => arrow.node,
+            false => self.laid.book.push(Node::Arrow(domain, root))?,
+        };
         let env = without(alloc, own.as_slice(), x)?;
-        self.steps
-            .step(alloc, node, StepRule::Fun(step), env.as_slice(), arrow)
+        self.steps.step(alloc, node, StepRule::Fun(step), env.as_slice(), own_arrow)
+    }
+
+    // The type of the function of an application: that which the function has, if it is one of functions, or else that
+    // of the goal. A binder may have the type of its own node.
+    fn applied(&self, view: &PartView, node: usize, function: usize) -> Result<ArrowNode, Memory> {
+        if let Some(root) = self.placed_type(view, function)? {
+            if let Some(arrow) = self.arrow_at(root) {
+                return Ok(arrow);
+            }
+        }
+        self.function(behind(view.posing.root(node), 2)?)
+    }
+
+    // The environment of an application: where its chain needs several binders, all of them with their own nodes, so
+    // that no binder comes in later, and else those of both parts.
+    fn chained(
+        &self,
+        alloc: Global,
+        view: &PartView,
+        node: usize,
+        left: &[BinderNode],
+        right: &[BinderNode],
+    ) -> Result<BinderNodes, Memory> {
+        let binders = view.spines.binders(node);
+        if binders.len() < 2 {
+            return self.joined(alloc, view, left, right);
+        }
+        let mut env = BinderNodes::new(alloc);
+        for binder in binders {
+            env.push(BinderNode {
+                binder: *binder,
+                node: self.place(view.posing.binder(*binder)),
+            })?;
+        }
+        Ok(env)
+    }
+
+    // A function of this type and an argument of that of its domain, with the binders that both need.
+    fn met(
+        &self,
+        alloc: Global,
+        view: &PartView,
+        node: usize,
+        function: usize,
+        argument: usize,
+        arrow: ArrowNode,
+    ) -> Result<Applied, Memory> {
+        let left = self.offered(alloc, view, function, arrow.node)?;
+        let right = self.offered(alloc, view, argument, arrow.from)?;
+        let env = self.chained(alloc, view, node, left.as_slice(), right.as_slice())?;
+        Ok(Applied { arrow, env })
+    }
+
+    // The same where a function of this type needs a step by pairs in any case, and the argument has all binders: the
+    // function then takes what the argument is, and the argument needs no step by pairs.
+    fn fitted(
+        &mut self,
+        alloc: Global,
+        view: &PartView,
+        node: usize,
+        function: usize,
+        argument: usize,
+        arrow: ArrowNode,
+    ) -> Result<Option<Applied>, Memory> {
+        let own = self.own_type(argument, arrow.from)?;
+        let left = self.offered(alloc, view, function, arrow.node)?;
+        let right = self.offered(alloc, view, argument, own)?;
+        let env = self.chained(alloc, view, node, left.as_slice(), right.as_slice())?;
+        let is_there = self.placed_type(view, function)? == Some(arrow.node)
+            && left.as_slice() == env.as_slice();
+        if is_there || own == arrow.from || right.as_slice() != env.as_slice() {
+            return Ok(None);
+        }
+        let arrow = ArrowNode {
+            node: self.laid.book.push(Node::Arrow(own, arrow.to))?,
+            from: own,
+            to: arrow.to,
+        };
+        Ok(Some(Applied { arrow, env }))
     }
 
     fn apply(
@@ -315,20 +512,15 @@ impl Writer {
         function: usize,
         argument: usize,
     ) -> Result<Conclusion, Memory> {
-        let upper = behind(view.posing.root(node), 2)?;
-        let (arrow, from, to) = self.function(upper)?;
-        let left = self.offered(alloc, view, function, arrow)?;
-        let right = self.offered(alloc, view, argument, from)?;
-        let env = self.joined(alloc, view, left.as_slice(), right.as_slice())?;
-        let first = self.adapted(alloc, function, env.as_slice(), arrow)?;
-        let second = self.adapted(alloc, argument, env.as_slice(), from)?;
-        self.steps.step(
-            alloc,
-            node,
-            StepRule::App(first, second),
-            env.as_slice(),
-            to,
-        )
+        let arrow = self.applied(view, node, function)?;
+        let at = match self.fitted(alloc, view, node, function, argument, arrow)? {
+            Some(at) => at,
+            None => self.met(alloc, view, node, function, argument, arrow)?,
+        };
+        let env = at.env.as_slice();
+        let first = self.adapted(alloc, function, env, at.arrow.node)?;
+        let second = self.adapted(alloc, argument, env, at.arrow.from)?;
+        self.steps.step(alloc, node, StepRule::App(first, second), env, at.arrow.to)
     }
 
     // The nodes of the fields of a record at the labels of these parts.
@@ -342,7 +534,40 @@ impl Writer {
         }
     }
 
-    // The steps of the parts of a record at the types of its fields.
+    // The types that the parts of a record have, or else those of its fields.
+    fn own_fields(
+        &self,
+        alloc: Global,
+        fields: &[NodeId],
+        parts: &[Part],
+    ) -> Result<NodeIds, Memory> {
+        let mut own = NodeIds::new(alloc);
+        for (number, part) in parts.iter().enumerate() {
+            let field = *fields.get(number).ok_or(Memory)?;
+            own.push(self.own_type(part.child, field)?)?;
+        }
+        Ok(own)
+    }
+
+    // The record of these labels, where the parts have these types.
+    fn own_record(
+        &mut self,
+        alloc: Global,
+        record: NodeId,
+        parts: &[Part],
+        own: &[NodeId],
+    ) -> Result<NodeId, Memory> {
+        if record.0 >= self.laid.book.len() {
+            return Err(Memory);
+        }
+        let node = match self.laid.book.node(record) {
+            Node::Rcd(fields) => Node::Rcd(with_nodes(alloc, fields, parts, own)?),
+            _ => return Err(Memory),
+        };
+        push_checked(&mut self.laid.book, node)
+    }
+
+    // The steps of the parts of a record at these types.
     fn parts(
         &mut self,
         alloc: Global,
@@ -384,10 +609,34 @@ impl Writer {
     ) -> Result<Conclusion, Memory> {
         let record = self.record(view.posing.root(node))?;
         let fields = self.fields(alloc, record, parts)?;
-        let env = self.env_of_parts(alloc, view, fields.as_slice(), parts)?;
-        let steps = self.parts(alloc, fields.as_slice(), env.as_slice(), parts)?;
+        let own = self.own_fields(alloc, fields.as_slice(), parts)?;
+        let env = self.env_of_parts(alloc, view, own.as_slice(), parts)?;
+        let steps = self.parts(alloc, own.as_slice(), env.as_slice(), parts)?;
+        let root = match own.as_slice() == fields.as_slice() {
+            true => record,
+            false => self.own_record(alloc, record, parts, own.as_slice())?,
+        };
         self.steps
-            .step(alloc, node, StepRule::Make(steps), env.as_slice(), record)
+            .step(alloc, node, StepRule::Make(steps), env.as_slice(), root)
+    }
+
+    // The type of the record of a projection, with its field: that which the record has, if it is one of this label
+    // alone, or else that of the goal. A binder may have the type of its own node.
+    fn projected(
+        &self,
+        view: &PartView,
+        node: usize,
+        body: usize,
+        label: &Name,
+    ) -> Result<(NodeId, NodeId), Memory> {
+        if let Some(root) = self.placed_type(view, body)? {
+            if let Some(field) = self.single_field(root, label) {
+                return Ok((root, field));
+            }
+        }
+        let record = self.record(behind(view.posing.root(node), 2)?)?;
+        let field = self.field(record, label)?;
+        Ok((record, field))
     }
 
     fn project(
@@ -398,13 +647,38 @@ impl Writer {
         body: usize,
         label: &Name,
     ) -> Result<Conclusion, Memory> {
-        let upper = behind(view.posing.root(node), 2)?;
-        let record = self.record(upper)?;
-        let field = self.field(record, label)?;
+        let (record, field) = self.projected(view, node, body, label)?;
         let env = self.offered(alloc, view, body, record)?;
         let step = self.adapted(alloc, body, env.as_slice(), record)?;
         self.steps
             .step(alloc, node, StepRule::Proj(step), env.as_slice(), field)
+    }
+
+    // The type of a condition: its own, if it is `bool`, or else the node of `bool`.
+    fn asked_type(&self, condition: usize) -> Result<NodeId, Memory> {
+        let truth = self.laid.boolean;
+        let own = self.own_type(condition, truth)?;
+        match self.is_boolean(own) {
+            true => Ok(own),
+            false => Ok(truth),
+        }
+    }
+
+    // The type of both branches: their own, if it is the same, or else that of what flows in.
+    fn common_type(
+        &self,
+        view: &PartView,
+        node: usize,
+        first: usize,
+        second: usize,
+    ) -> Result<NodeId, Memory> {
+        let into = self.place(behind(view.posing.root(node), 1)?);
+        let left = self.own_type(first, into)?;
+        let right = self.own_type(second, into)?;
+        match left == right {
+            true => Ok(left),
+            false => Ok(into),
+        }
     }
 
     fn choice(
@@ -416,8 +690,8 @@ impl Writer {
         first: usize,
         second: usize,
     ) -> Result<Conclusion, Memory> {
-        let into = self.place(behind(view.posing.root(node), 1)?);
-        let truth = self.laid.boolean;
+        let into = self.common_type(view, node, first, second)?;
+        let truth = self.asked_type(condition)?;
         let left = self.offered(alloc, view, condition, truth)?;
         let middle = self.offered(alloc, view, first, into)?;
         let right = self.offered(alloc, view, second, into)?;
