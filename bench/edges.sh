@@ -5,7 +5,8 @@
 #     sh bench/edges.sh crates/mlsub/out/mlsub [TEXTS]
 #
 # It works in a folder of its own, which it removes, and ends with 0 where all cases ended so. Where a folder of texts is
-# given, as `infer-bench write TEXTS` makes it, each is inferred, and checked against its own signature.
+# given, as `infer-bench write TEXTS` makes it, each is inferred, checked against its own signature, and derived, and
+# what is derived is verified.
 set -u
 [ $# -eq 1 ] || [ $# -eq 2 ] || { echo "usage: sh bench/edges.sh PROGRAM [TEXTS]" >&2; exit 2; }
 program=$(readlink -f "$1") || exit 2
@@ -163,6 +164,31 @@ head -c 67108865 /dev/zero >id.mld
 is 11 "a derivation that is one byte too long" "$program" verify id
 rm id.mld
 
+# derived NAME: `derive` ends as `infer` did, or with 7 where 6 GB are not enough for it. What it printed is verified,
+# or longer than a derivation may be.
+derived() {
+  (cd worst && exec timeout 120 "$program" infer "$1" >/dev/null 2>&1)
+  inferred=$?
+  (cd worst && ulimit -v 6291456 && exec timeout 600 "$program" derive "$1" >"$1.mld" 2>/dev/null)
+  got=$?
+  what="the derivation of $1"
+  wanted=$inferred
+  if [ "$inferred" -eq 0 ] && [ "$got" -eq 7 ]; then
+    wanted=7
+    what="a derivation that outgrows 6 GB, of $1"
+  elif [ "$got" -eq 0 ]; then
+    (cd worst && exec timeout 120 "$program" verify "$1" >/dev/null 2>&1)
+    got=$?
+    [ "$(wc -c <"worst/$1.mld")" -le 67108864 ] || wanted=11
+  fi
+  if [ "$got" -eq "$wanted" ]; then
+    echo "ok      $got  $what"
+  else
+    echo "FAILED  $got instead of $wanted  $what"
+    failed=1
+  fi
+}
+
 # the worst texts of a mebibyte
 if [ -d "$texts" ]; then
   mkdir worst
@@ -189,6 +215,8 @@ if [ -d "$texts" ]; then
       echo "FAILED  $got instead of $wanted  the text $name"
       failed=1
     fi
+    derived "$name"
+    rm -f "worst/$name.mld"
   done
 fi
 
