@@ -47,3 +47,11 @@ pub mod StoredHeads
 pub mod SettledTables
 pub mod Numbers
 pub mod Copied
+pub mod Renames
+pub mod Polarities
+pub mod Removals
+pub mod Claiming
+pub mod Filling
+pub mod Walking
+pub mod KeptTables
+pub mod LiveStates

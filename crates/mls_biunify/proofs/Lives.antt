@@ -1,25 +1,31 @@
 -- Tables as contracts see them.
-use Rattle.std.proofs.Common.{◌≡◌, ◌↔◌, inl, inr, ℕ, Bool, true, false, List, Some, None, cond, All, Contains, IsSome, get_or, refl, sym, ap, subst}
+use Rattle.std.proofs.Common.{◌≡◌, ◌↔◌, ◌∙◌, inl, inr, ℕ, ◌<◌, Bool, true, false, List, Some, None, cond, All, Contains, IsSome, get_or, length, refl, sym, ap, subst}
 use Rattle.std.proofs.lemmas.List.Elements.{All-weaker}
 use Rattle.mls_automaton.specs.declared.automaton.Polarity.{Polarity}
 use Rattle.mls_automaton.specs.declared.automaton.Polarity.TheVariants.{Positive, Negative}
 use Rattle.mls_automaton.specs.declared.automaton.State.{State}
-use Rattle.mls_automaton.specs.Automata.{Automaton, HasFlow, IsState}
+use Rattle.mls_automaton.specs.declared.state_set.StateId.{StateId}
+use Rattle.mls_automaton.specs.Automata.{Automaton, HasFlow, IsState, flow}
+use Rattle.mls_automaton.specs.Sets.{Rises}
 use Rattle.mls_biunify.specs.declared.goal.Goal.{Goal}
 use Rattle.mls_biunify.specs.declared.goal.Clash.{Clash}
 use Rattle.mls_biunify.specs.declared.goal.Refusal.{Refusal}
 use Rattle.mls_biunify.specs.declared.goal.Refusal.TheVariants.{Clashing}
 use Rattle.mls_automaton.specs.Models.{IsClosed}
 use Rattle.mls_automaton.proofs.Lists.{All-contained}
-use Rattle.mls_biunify.specs.Live.{AreRelated, free_state, pairs_of, room_of_pairs, HasRelation, Inserts, IsRefusalOf, IsSameLive, IsSolvedFor, IsStateIn, IsTable, Live}
+use Rattle.mls_biunify.specs.Live.{AddsStates, AreRelated, free_state, number_of, pairs_of, room_of_pairs, HasRelation, Inserts, IsCopyAt, IsReachedFrom, IsRefusalOf, IsSameLive, IsSolvedFor, IsStateIn, IsTable, KeepsThere, Live}
 use Rattle.mls_biunify.specs.Relations.{IsGoal, IsGoalOf, IsRelated}
 use Rattle.mls_biunify.specs.Clashes.{HasNoClash, IsFirstClash}
 use Rattle.mls_biunify.specs.Rooms.{Room, Holds, HoldsJust}
 use Rattle.mls_biunify.specs.Solutions.{HasInstancesUnder}
 use Rattle.mls_biunify.specs.Solved.{IsSolved}
+use Rattle.mls_biunify.specs.steps.Absorbing.{AddsCopy, IsSameTable}
+use Rattle.mls_biunify.specs.steps.Keeping.{KeepsReached}
 use Rattle.mls_biunify.specs.steps.Settlement.{AddsEdges, AreNewEdges, IsTouched}
 use Rattle.mls_biunify.specs.steps.LiveParts.{live_of}
 use Rattle.mls_biunify.specs.steps.Tables.{HoldsThere, InsertsState, IsNumbered, Numbered}
+use Rattle.mls_biunify.proofs.Claiming.{rising-same}
+use Rattle.mls_biunify.proofs.Filling.{number-in}
 use Rattle.mls_biunify.proofs.SolvedRooms.{instances-under}
 use Rattle.mls_biunify.proofs.TableSteps.{table-closed}
 use Rattle.mls_biunify.proofs.RelatedThere.{goal_states, related_there}
@@ -143,3 +149,59 @@ no-edges old new it n p = (
   λ edge. elim ((it.flows n p).0 edge) [ inl before ↦ before | inr none ↦ absurd none ],
   λ edge. (it.flows n p).1 (inl edge),
 )
+
+-- a copy of an automaton came
+pub copy-added : (old new : Numbered) → IsNumbered old → IsNumbered new → (a : Automaton) → IsClosed a → (numbers : List ℕ) → length numbers ≡ length a.states → Rises numbers → AddsCopy old new a numbers → IsCopyAt a numbers new.automaton
+copy-added old new is after a closed numbers count rises adds = record {
+  count = count;
+  rises = rises;
+  embedded = record {
+    in_range = λ s low. after.is.in_range (number_of numbers s) ((adds.there (number_of numbers s)).1 (inr (one s low)));
+    distinct = same-number;
+    polarity = λ s low. ap (λ (state : State). state.polarity) (adds.copies s low);
+    head = λ s low. ap (λ (state : State). state.head) (adds.copies s low);
+    flows = λ f it. (adds.flows (number_of numbers f.negative.0) (number_of numbers f.positive.0)).1 (inr (f.negative.0, f.positive.0, it, refl, refl));
+    no_more_flows = λ n p low high edge.
+        elim ((adds.flows (number_of numbers n) (number_of numbers p)).0 edge) [
+          | inl before ↦
+              let there : get_or old.there (number_of numbers n) false ≡ true = (is.is.negative (number_of numbers n) (number_of numbers p) before).there in
+              let free : get_or old.there (number_of numbers n) false ≡ false = adds.were_free (number_of numbers n) (one n low) in
+              let wrong : true ≡ false = sym there ∙ free in
+              absurd (cc)
+          | inr copied ↦
+              subst (λ k. HasFlow a k p) (same-number copied.0 n (closed.negative (flow copied.0 copied.1) copied.2).in_range low copied.3)
+              (subst (λ k. HasFlow a copied.0 k) (same-number copied.1 p (closed.positive (flow copied.0 copied.1) copied.2).in_range high copied.4) copied.2)
+        ];
+  };
+}
+  where
+    one : (s : ℕ) → s < length a.states → Contains numbers (number_of numbers s)
+    one s low = number-in numbers s (subst (λ n. s < n) (sym count) low)
+
+    same-number : (i k : ℕ) → i < length a.states → k < length a.states → number_of numbers i ≡ number_of numbers k → i ≡ k
+    same-number i k low high e = rising-same numbers rises i k (subst (λ n. i < n) (sym count) low) (subst (λ n. k < n) (sym count) high) e
+
+pub states-added : (old new : Numbered) (room : Room) (solved ready : Bool) (a : Automaton) (numbers : List ℕ) → AddsCopy old new a numbers → AddsStates (live_of (record { table = old; relation = room; is_solved = solved; is_ready = ready })) (live_of (record { table = new; relation = room; is_solved = false; is_ready = false })) numbers
+states-added old new room solved ready a numbers adds = record {
+  were_free = adds.were_free;
+  there = adds.there;
+  others = adds.others;
+}
+
+-- the table is as it was
+pub same-table-live : (old new : Numbered) (room : Room) (solved ready : Bool) → IsSameTable old new → IsSameLive (live_of (record { table = old; relation = room; is_solved = solved; is_ready = ready })) (live_of (record { table = new; relation = room; is_solved = solved; is_ready = ready }))
+same-table-live old new room solved ready it = record {
+  there = it.there;
+  states = it.states;
+  flows = it.flows;
+  related = refl;
+  ready = refl;
+}
+
+-- only what is reached stays
+pub kept-live : (old new : Numbered) (roots : List StateId) (room : Room) (solved ready : Bool) → KeepsReached old roots new → KeepsThere (live_of (record { table = old; relation = room; is_solved = solved; is_ready = ready })) (live_of (record { table = new; relation = room; is_solved = false; is_ready = false })) (IsReachedFrom old.automaton roots)
+kept-live old new roots room solved ready it = record {
+  there = it.there;
+  states = it.states;
+  flows = it.flows;
+}

@@ -61,7 +61,7 @@ module _ (states : Slab State) (flows : TwoWay) where
   pub flow-in : (n p : ℕ) → HasFlow (numbered_of states flows).automaton n p ↔ HasPair flows n p
   flow-in n p = flows-pairs flows.forward n p
 
-same_lists_at : (xs ys : List Bool) → length xs ≡ length ys → ((k : ℕ) → get_or xs k false ≡ get_or ys k false) → xs ≡ ys
+pub same_lists_at : (xs ys : List Bool) → length xs ≡ length ys → ((k : ℕ) → get_or xs k false ≡ get_or ys k false) → xs ≡ ys
 same_lists_at xs ys e f =
     same_lists xs ys e
     (λ k d low. get_or_default xs k d false low ∙ (f k ∙ sym (get_or_default ys k d false (subst (λ n. k < n) e low))))

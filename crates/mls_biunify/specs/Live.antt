@@ -4,8 +4,12 @@ use Rattle.std.specs.Prelude.{Some, None, IsSome}
 use Rattle.mls_automaton.specs.declared.automaton.Polarity.{Polarity}
 use Rattle.mls_automaton.specs.declared.automaton.Polarity.TheVariants.{Positive, Negative}
 use Rattle.mls_automaton.specs.declared.automaton.State.{State}
+use Rattle.mls_automaton.specs.declared.state_set.StateId.{StateId}
 use Rattle.mls_automaton.specs.Automata.{Automaton, empty_head, state_at, polarity_at, head_at, HasFlow}
+use Rattle.mls_automaton.specs.Embeddings.{IsEmbedded}
 use Rattle.mls_automaton.specs.Models.{HasStatesIn, HasRisingLabels}
+use Rattle.mls_automaton.specs.Reached.{Names}
+use Rattle.mls_automaton.specs.Sets.{Rises}
 use Rattle.mls_biunify.specs.declared.goal.Goal.{Goal}
 use Rattle.mls_biunify.specs.declared.goal.Refusal.{Refusal}
 use Rattle.mls_biunify.specs.declared.goal.Refusal.TheVariants.{Clashing, NoMemory}
@@ -100,3 +104,35 @@ pub record Inserts (old new : Live) (s : ℕ) (state : State) : Type 0 where
   pub here : state_at new.table s ≡ state
   pub others : (j : ℕ) → IsThere old j → state_at new.table j ≡ state_at old.table j
   pub flows : (n p : ℕ) → HasFlow new.table n p ↔ HasFlow old.table n p
+
+-- the number that stands for this state
+abbrev pub number_of : List ℕ → ℕ → ℕ
+number_of numbers s = get_or numbers s 0
+
+-- The second automaton has a copy of the first, whose states have these numbers, in their order: their polarities,
+-- their heads and their edges are those of the states under the new numbers.
+pub record IsCopyAt (a : Automaton) (numbers : List ℕ) (table : Automaton) : Type 0 where
+  pub count : length numbers ≡ length a.states
+  pub rises : Rises numbers
+  pub embedded : IsEmbedded (number_of numbers) a table
+
+-- just states of these numbers came, which were free; all else stays
+pub record AddsStates (old new : Live) (numbers : List ℕ) : Type 0 where
+  pub were_free : (j : ℕ) → Contains numbers j → get_or old.there j false ≡ false
+  pub there : (j : ℕ) → IsThere new j ↔ IsThere old j ⊎ Contains numbers j
+  pub others : (j : ℕ) → IsThere old j → state_at new.table j ≡ state_at old.table j
+
+-- the edge is that of the automaton, under these numbers
+abbrev pub IsCopiedFlow : Automaton → List ℕ → ℕ → ℕ → Type 0
+IsCopiedFlow a numbers n p = (i j : ℕ) × HasFlow a i j × (number_of numbers i ≡ n) × (number_of numbers j ≡ p)
+
+-- heads reach the state from one of the roots
+pub data IsReachedFrom (a : Automaton) (roots : List StateId) : ℕ → Type 0 where
+  root : {j : ℕ} (r : StateId) → Contains roots r → r.0 ≡ j → IsReachedFrom a roots j
+  named : {i j : ℕ} → IsReachedFrom a roots i → Names a i j → IsReachedFrom a roots j
+
+-- just the states of this kind stay, as they were, with the edges between them
+pub record KeepsThere (old new : Live) (IsKept : ℕ → Type 0) : Type 0 where
+  pub there : (s : ℕ) → IsThere new s ↔ IsKept s
+  pub states : (s : ℕ) → IsKept s → state_at new.table s ≡ state_at old.table s
+  pub flows : (n p : ℕ) → HasFlow new.table n p ↔ HasFlow old.table n p × IsKept n × IsKept p

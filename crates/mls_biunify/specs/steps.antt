@@ -20,3 +20,5 @@ pub mod Tables
 pub mod TableParts
 pub mod Settlement
 pub mod Copying
+pub mod Absorbing
+pub mod Keeping

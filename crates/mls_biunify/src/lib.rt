@@ -1,17 +1,21 @@
 //! The closed relation of goals between states, and the automaton solved by it.
 #![tactic(auto)]
 
+mod absorb;
 mod cells;
 mod clash;
 mod copy;
 mod edges;
 pub mod found;
 pub mod goal;
+mod keep;
 pub mod laws;
 mod links;
 pub mod live;
 pub mod materialise;
+mod reach;
 mod relation;
+mod rename;
 pub mod room;
 #[cfg(test)]
 mod samples;

@@ -3,6 +3,7 @@ ghost use Rattle.std.specs.Prelude.{◌≡◌, ◌↔◌, ◌⊎◌, ℕ, List, 
 ghost use Rattle.std.specs.Prelude.{IsTrue, None, OnErr, OnOk};
 ghost use Rattle.mls_automaton.specs.declared.automaton.Polarity.TheVariants.{Positive, Negative};
 ghost use Rattle.mls_automaton.specs.declared.scheme.EnvEntry.{EnvEntry};
+ghost use Rattle.mls_automaton.specs.declared.state_set.StateId.{StateId};
 ghost use Rattle.mls_automaton.specs.Automata.{HasFlow, polarity_at, head_at};
 ghost use Rattle.mls_automaton.specs.Environments.{BindersRise};
 ghost use Rattle.mls_automaton.specs.Reached.{KeepsReached};
@@ -14,17 +15,20 @@ ghost use Rattle.mls_biunify.specs.Relations.{IsGoal, IsRelated};
 ghost use Rattle.mls_biunify.specs.Clashes.{HasNoClash};
 ghost use Rattle.mls_biunify.specs.Solutions.{HasInstancesUnder, scheme_over};
 ghost use Rattle.mls_biunify.specs.Solved.{IsSolved};
-ghost use Rattle.mls_biunify.specs.Live.{AreRelated, HasRelation, Inserts, IsLive, IsLiveGoal, IsLiveState};
-ghost use Rattle.mls_biunify.specs.Live.{IsRefusalOf, IsSameLive, IsSolvedFor, IsStateIn, IsThere, IsUnsolved};
+ghost use Rattle.mls_biunify.specs.Live.{AddsStates, AreRelated, HasRelation, Inserts, IsCopiedFlow, IsCopyAt, IsLive};
+ghost use Rattle.mls_biunify.specs.Live.{IsLiveGoal, IsLiveState, IsReachedFrom, IsRefusalOf, IsSameLive, IsSolvedFor};
+ghost use Rattle.mls_biunify.specs.Live.{IsStateIn, IsThere, IsUnsolved, KeepsThere};
 
+use crate::absorb::absorb;
 use crate::clash::first_clash_of;
 use crate::copy::{copied_env, copied_table};
 use crate::goal::{Clash, Goal, Refusal};
+use crate::keep::keep_reached;
 use crate::relation::Relation;
 use crate::settlement::{link_all, new_edges, new_heads, store_heads, touched};
 use crate::table::Table;
 use crate::worklist::relate;
-use mls_automaton::automaton::{Head, Polarity};
+use mls_automaton::automaton::{Automaton, Head, Polarity};
 use mls_automaton::scheme::{EnvEntry, Scheme};
 use mls_automaton::state_set::{StateId, StateSet};
 use mls_base::memory::Memory;
@@ -164,6 +168,48 @@ impl Live {
         ensures err { OnErr result (IsSameLive self.old self.new) }
     {
         self.table.edge(negative, positive)?;
+        self.is_solved = false;
+        self.is_ready = false;
+        Ok(())
+    }
+
+    /// Adds a disjoint copy of an automaton, and answers the numbers of its states: the first number is that of the
+    /// copy of the first state, and so on. The numbers rise. The other states are not looked at.
+    ///
+    /// # Errors
+    ///
+    /// `Memory` where memory is wanting; the table is then as before.
+    pub fn absorb(&mut self, a: &Automaton) -> Result<StateSet, Memory>
+        requires { IsClosed a.now }
+        ensures copy { IfOk result (λ numbers. IsCopyAt a.now numbers self.new.table) }
+        ensures states { IfOk result (λ numbers. AddsStates self.old self.new numbers) }
+        ensures flows { IfOk result (λ numbers. (n p : ℕ) → HasFlow self.new.table n p ↔ HasFlow self.old.table n p
+            ⊎ IsCopiedFlow a.now numbers n p) }
+        ensures unsolved { OnOk result (IsUnsolved self.new) }
+        ensures err { OnErr result (IsSameLive self.old self.new) }
+    {
+        let alloc = self.relation.allocator();
+        let _limit = self.table.limit();
+        let numbers = absorb(&mut self.table, alloc, a)?;
+        self.is_solved = false;
+        self.is_ready = false;
+        Ok(numbers)
+    }
+
+    /// Takes out each state that heads do not reach from the roots, with its edges. Edges are not followed. It goes
+    /// over the whole table once.
+    ///
+    /// # Errors
+    ///
+    /// `Memory` where memory is wanting; the table is then as before.
+    pub fn keep(&mut self, roots: &[StateId]) -> Result<(), Memory>
+        requires { All (λ (root : StateId). IsThere self.old root.0) roots.now }
+        ensures kept { OnOk result (KeepsThere self.old self.new (IsReachedFrom self.old.table roots.now)) }
+        ensures unsolved { OnOk result (IsUnsolved self.new) }
+        ensures err { OnErr result (self.new ≡ self.old) }
+    {
+        let alloc = self.relation.allocator();
+        keep_reached(&mut self.table, alloc, roots)?;
         self.is_solved = false;
         self.is_ready = false;
         Ok(())

@@ -155,7 +155,11 @@ pub fn new_heads(
 }
 
 // Puts the edges from a state to these ones behind those of a list.
-fn push_edges(edges: &mut Vec<(usize, usize)>, n: usize, targets: &[usize]) -> Result<(), Memory>
+pub fn push_edges(
+    edges: &mut Vec<(usize, usize)>,
+    n: usize,
+    targets: &[usize],
+) -> Result<(), Memory>
     ensures { OnOk result ((x : ℕ × ℕ)
         → Contains edges.new.items x ↔ (Contains edges.old.items x ⊎ GivenBy targets.now (λ q y. y ≡ (n, q)) x)) }
 {
@@ -273,7 +277,7 @@ fn link(
 }
 
 // Takes these edges out.
-fn unlink_all(table: &mut Table, edges: &[(usize, usize)])
+pub fn unlink_all(table: &mut Table, edges: &[(usize, usize)])
     requires { (n p : ℕ) → Contains edges.now (n, p) → (get_or table.old.there n false ≡ true)
         × (get_or table.old.there p false ≡ true) }
     ensures { Unlinks table.old edges.now table.new }

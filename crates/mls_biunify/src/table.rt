@@ -2,11 +2,12 @@
 ghost use Rattle.std.specs.Prelude.{◌≡◌, ◌≢◌, ◌↔◌, ◌⊎◌, ◌<◌, ℕ, [], true, false, get_or, Contains, IfOk, IsTrue, OnErr};
 ghost use Rattle.std.specs.Prelude.{OnOk};
 ghost use Rattle.mls_automaton.specs.declared.automaton.Polarity.TheVariants.{Positive, Negative};
-ghost use Rattle.mls_automaton.specs.Automata.{HasFlow, head_at, polarity_at};
+ghost use Rattle.mls_automaton.specs.Automata.{HasFlow, empty_head, head_at, polarity_at};
 ghost use Rattle.mls_automaton.specs.Models.{HasRisingLabels, HasStatesIn, IsClosed};
 ghost use Rattle.mls_automaton.specs.Reached.{Names};
 ghost use Rattle.mls_biunify.specs.Live.{IsStateIn, IsTable};
 ghost use Rattle.mls_biunify.specs.steps.Tables.{InsertsState, IsNumbered, RemovesFlow, RemovesState, SetsHead};
+ghost use Rattle.mls_biunify.specs.steps.Tables.{SetsPolarity};
 
 use crate::edges::Edges;
 use mls_automaton::automaton::{Head, Polarity, State};
@@ -176,6 +177,17 @@ impl Table {
         ensures is { IsNumbered self.new }
     {
         self.states[s.0].head = head;
+    }
+
+    // Gives a state without a head and without edges, which no head names, a polarity.
+    pub fn set_polarity(&mut self, s: StateId, polarity: Polarity)
+        requires there { get_or self.old.there s.0 false ≡ true }
+        requires empty { head_at self.old.automaton s.0 ≡ empty_head }
+        requires unnamed { (j : ℕ) → Names self.old.automaton j s.0 → ⊥ }
+        requires unlinked { (n p : ℕ) → HasFlow self.old.automaton n p → (n ≢ s.0) × (p ≢ s.0) }
+        ensures { SetsPolarity self.old self.new s.0 polarity }
+    {
+        self.states[s.0].polarity = polarity;
     }
 
     // Takes an edge out.

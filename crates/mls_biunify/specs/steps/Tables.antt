@@ -2,10 +2,11 @@
 use Rattle.std.specs.Prelude.{◌≡◌, ◌≢◌, ◌↔◌, ◌⊎◌, ℕ, ◌<◌, Bool, true, false, List, map, length, get_or, Option, Some}
 use Rattle.std.specs.Prelude.{None, is_some}
 use Rattle.slab.specs.Slab.{Slab}
+use Rattle.mls_automaton.specs.declared.automaton.Polarity.{Polarity}
 use Rattle.mls_automaton.specs.declared.automaton.Polarity.TheVariants.{Positive, Negative}
 use Rattle.mls_automaton.specs.declared.automaton.Head.{Head}
 use Rattle.mls_automaton.specs.declared.automaton.State.{State}
-use Rattle.mls_automaton.specs.Automata.{Automaton, HasFlow, state_at}
+use Rattle.mls_automaton.specs.Automata.{Automaton, HasFlow, empty_head, state_at}
 use Rattle.mls_biunify.specs.Live.{IsTable, IsStateIn, free_state}
 use Rattle.mls_biunify.specs.Rooms.{Room, Holds}
 use Rattle.mls_biunify.specs.steps.TwoWay.{TwoWay, flows_from}
@@ -53,6 +54,13 @@ pub record SetsHead (old new : Numbered) (s : ℕ) (h : Head) : Type 0 where
   pub flows : new.automaton.flows ≡ old.automaton.flows
   pub size : length new.automaton.states ≡ length old.automaton.states
   pub limit : new.limit ≡ old.limit
+
+-- the state has a polarity, and no head as before
+pub record SetsPolarity (old new : Numbered) (s : ℕ) (p : Polarity) : Type 0 where
+  pub there : new.there ≡ old.there
+  pub here : state_at new.automaton s ≡ record { polarity = p; head = empty_head }
+  pub others : (j : ℕ) → j ≢ s → state_at new.automaton j ≡ state_at old.automaton j
+  pub flows : new.automaton.flows ≡ old.automaton.flows
 
 -- the state is gone
 pub record RemovesState (old new : Numbered) (s : ℕ) : Type 0 where

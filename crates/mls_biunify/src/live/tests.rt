@@ -127,3 +127,5 @@ fn tells_the_first_clash(rt: HostRuntime) -> Result<(), Fail> {
     }
     Ok(())
 }
+
+mod copies;
