@@ -9,7 +9,7 @@ use Rattle.std.specs.BTreeSet.{BTreeSet, contains, Updates}
 use Rattle.std.specs.Ordering.{nat_cmp, ordering_then, is_eq}
 use Rattle.std.specs.declared.cmp.Ordering.{Ordering}
 use Rattle.std.specs.declared.cmp.Ordering.TheVariants.{Less, Equal, Greater}
-use Rattle.std.proofs.lemmas.List.Elements.{Contains-append_left, Contains-append_cases, Contains-push}
+use Rattle.std.proofs.lemmas.List.Elements.{Contains-append_left, Contains-append_right, Contains-append_cases, Contains-push}
 use Rattle.std.proofs.lemmas.List.{get_or_default, take_more}
 use Rattle.mls_book.specs.declared.book.Node.{Node}
 use Rattle.mls_deriv.specs.declared.derivation.Mode.{Mode}
@@ -90,6 +90,7 @@ found_there f pair is marked = record {
   is = is;
   more = [];
   behind = sym (append-nil f.pairs);
+  only = λ other there. absurd (let low : there.0 < 0 = there.1 in omega arith);
   has = λ other there. subst (Contains f.pairs) (only pair other there) (is pair.mode pair.left pair.right marked);
 }
 
@@ -101,6 +102,7 @@ found_new before marked new pair is marks behind same = record {
   is = λ m k l h. go m k l (marks.marks m k l (same m k l h));
   more = pair ∷ [];
   behind = all;
+  only = λ other there. there;
   has = λ other there. subst (λ ps. Contains ps other) (sym all) (subst (Contains (before.pairs ++ pair ∷ [])) (only pair other there) (Contains-push before.pairs pair));
 }
   where
@@ -117,6 +119,7 @@ found_none f is = record {
   is = is;
   more = [];
   behind = sym (append-nil f.pairs);
+  only = λ other there. there;
   has = λ other there. absurd (let low : there.0 < 0 = there.1 in omega arith);
 }
 
@@ -126,9 +129,14 @@ found_then f g h first second one two = record {
   is = two.is;
   more = one.more ++ two.more;
   behind = two.behind ∙ (ap (λ ps. ps ++ two.more) one.behind ∙ append_assoc f.pairs one.more two.more);
+  only = λ other there. among other (Contains-append_cases one.more two.more other there);
   has = λ other there. go other (Contains-append_cases first second other there);
 }
   where
+    among : (other : Pair) → Contains one.more other ⊎ Contains two.more other → Contains (first ++ second) other
+    among other (inl there) = Contains-append_left first second other (one.only other there)
+    among other (inr there) = Contains-append_right first second other (two.only other there)
+
     go : (other : Pair) → Contains first other ⊎ Contains second other → Contains h.pairs other
     go other (inl there) = subst (λ ps. Contains ps other) (sym two.behind) (Contains-append_left g.pairs two.more other (one.has other there))
     go other (inr there) = two.has other there
@@ -151,12 +159,12 @@ found_pushed before marked pairs pair is marks behind =
     same Pp k l h = h
 
 -- a place of a list that goes on
-at_front : (xs ys : List Pair) (k : ℕ) (d : Pair) → k < length xs → get_or (xs ++ ys) k d ≡ get_or xs k d
+pub at_front : (xs ys : List Pair) (k : ℕ) (d : Pair) → k < length xs → get_or (xs ++ ys) k d ≡ get_or xs k d
 at_front [] ys k d low = absurd (omega arith)
 at_front (x ∷ xs) ys zero d low = refl
 at_front (x ∷ xs) ys (suc k) d low = at_front xs ys k d (omega arith)
 
-split : (k n : ℕ) → (k < n) ⊎ (n ≤ k)
+pub split : (k n : ℕ) → (k < n) ⊎ (n ≤ k)
 split k zero = inr (omega arith)
 split zero (suc n) = inl (omega arith)
 split (suc k) (suc n) = go (split k n)

@@ -3,7 +3,7 @@
 -- below themselves.
 --     free_justified      a node without a variable that stands for another node
 --     let_part
-use Rattle.std.proofs.Common.{◌≡◌, ℕ, Bool, true, false, List, [], refl, sym, ◌∙◌, subst, Option, Some, None}
+use Rattle.std.proofs.Common.{◌≡◌, ℕ, true, false, List, [], refl, sym, ◌∙◌, subst, Option, Some, None}
 use Rattle.std.specs.FinMap as env
 use Rattle.std.specs.Ordering.{nat_cmp}
 use Rattle.mls_book.specs.declared.book.Node.{Node}
@@ -23,11 +23,12 @@ use Rattle.mls_deriv.specs.declared.derivation.StepRule.TheVariants as rule
 use Rattle.mls_deriv.specs.Pairs.{put_at, left_put, right_put, exchanged, IsJustified, bot_below, below_top, join_below, below_meet, same_bool, same_int, same_variable, functions, records}
 use Rattle.mls_deriv.specs.declared.claim.Put.{Put}
 use Rattle.mls_deriv.specs.Steps.{env_of, form_at, Before, Says, let_in}
-use Rattle.mls_emit.specs.Shown.{IsShown, based, claimed, bot_left, top_right, join_left, meet_right, meet_first, meet_second, join_first, join_second, both_bool, both_int, one_variable, arrows, rcds, put_left, put_right, same, AreShown}
+use Rattle.mls_emit.specs.Shown.{IsShown, based, claimed, meet_right, meet_first, meet_second, join_first, join_second, AreShown}
 use Rattle.mls_emit.specs.Layouts.{IsLayout}
 use Rattle.mls_emit.specs.Uses.{IsCopyOf, NamesOnly, AreFree, IsUseClaim, above_copy, NoClaim}
 use Rattle.mls_emit.specs.Runs.{a_step}
 use Rattle.mls_emit.specs.Rows.{at, concluded, Fits, HasRow}
+use Rattle.mls_emit.proofs.MoreClaims.{shown_more}
 use Rattle.mls_emit.proofs.Rows.{row_step, row_after}
 use Rattle.mls_emit.proofs.UseClaims.{use_shown}
 use Rattle.mls_emit.proofs.UseRows.{put_row}
@@ -75,32 +76,10 @@ module _ (book : List Node) (puts : List Put) (Free : ℕ → Type 0) (free : Ar
           let c = children (node.Meet j k) e in
           below_meet j k e (meet_first j k e (itself mode j.0 c.0)) (meet_second j k e (itself mode k.0 c.1))
 
-  -- what follows without basic claims, follows with these too
-  unbased : (level : Bool) (mode : Mode) (i j : ℕ) → IsShown book puts NoClaim claims level mode i j → IsShown book puts (IsFreeItself Free) claims level mode i j
-  unbased level mode i j (based h) = absurd h
-  unbased level mode i j (claimed e h) = claimed e h
-  unbased level mode i j (bot_left e) = bot_left e
-  unbased level mode i j (top_right e) = top_right e
-  unbased level mode i j (join_left l r e h k) = join_left l r e (unbased level mode l.0 j h) (unbased level mode r.0 j k)
-  unbased level mode i j (meet_right l r e h k) = meet_right l r e (unbased level mode i l.0 h) (unbased level mode i r.0 k)
-  unbased level mode i j (meet_first l r e h) = meet_first l r e (unbased level mode l.0 j h)
-  unbased level mode i j (meet_second l r e h) = meet_second l r e (unbased level mode r.0 j h)
-  unbased level mode i j (join_first l r e h) = join_first l r e (unbased level mode i l.0 h)
-  unbased level mode i j (join_second l r e h) = join_second l r e (unbased level mode i r.0 h)
-  unbased level mode i j (both_bool e f) = both_bool e f
-  unbased level mode i j (both_int e f) = both_int e f
-  unbased level mode i j (one_variable x e f g h) = one_variable x e f g h
-  unbased level mode i j (arrows a b c d e f h k) = arrows a b c d e f (unbased true (exchanged mode) c.0 a.0 h) (unbased true mode b.0 d.0 k)
-  unbased level mode i j (rcds fields others e f partner there each) =
-      rcds fields others e f partner there (λ label k found. unbased true mode (partner label k found).0 k.0 (each label k found))
-  unbased level mode i j (put_left x n e f h) = put_left x n e f (unbased level Pp n j h)
-  unbased level mode i j (put_right x n e f h) = put_right x n e f (unbased level Pp i n h)
-  unbased level mode i j (same e f) = same e f
-
   pub with_itself : AreShown book puts NoClaim claims → AreShown book puts (IsFreeItself Free) claims
   with_itself shown = record {
     basic = λ mode i j h. subst (IsJustified book puts Shown mode i) h.1 (free_justified mode i h.0);
-    others = λ mode i j h. unbased false mode i j (shown.others mode i j h);
+    others = λ mode i j h. shown_more book puts NoClaim claims (IsFreeItself Free) claims (λ m k l it. absurd it) (λ m k l it. it) false mode i j (shown.others mode i j h);
   }
 
 module _ (b : Before) (a type_of_part : Automaton) (R IsPair : ℕ → ℕ → Type 0) (place part_place : ℕ → ℕ) (layout : IsLayout b.book a type_of_part R IsPair place part_place)

@@ -1,10 +1,9 @@
 -- The row of a record of a part.
 --     make_part
-use Rattle.std.proofs.Common.{◌≡◌, ◌↔◌, ℕ, ◌<◌, true, List, [], ◌∷◌, length, map, Contains, refl, sym, ap, ◌∙◌, subst, Option, Some, None, arith}
+use Rattle.std.proofs.Common.{◌≡◌, ◌↔◌, ℕ, ◌<◌, true, List, [], ◌∷◌, length, map, Contains, refl, sym, ap, ◌∙◌, subst, Option, Some, arith}
 use Rattle.std.specs.Prelude.{IsSome, option_map}
 use Rattle.std.specs.FinMap as env
 use Rattle.mls_book.specs.declared.book.Field.{Field}
-use Rattle.mls_book.specs.declared.book.NodeId.{NodeId}
 use Rattle.mls_book.specs.declared.book.Node.TheVariants as node
 use Rattle.mls_book.specs.Books.{field_at, IsClosedBook}
 use Rattle.mls_book.specs.Schemes.{Env, IsScheme}
@@ -22,12 +21,12 @@ use Rattle.mls_deriv.specs.declared.derivation.Mode.TheVariants.{Lr}
 use Rattle.mls_deriv.specs.declared.derivation.StepLine.{StepLine}
 use Rattle.mls_deriv.specs.Steps.{env_of, form_at, Before, Says, HaveLabelsOf}
 use Rattle.mls_emit.specs.Shown.{IsShown, based, AreShown}
-use Rattle.mls_emit.specs.Trees.{IsTree, IsPlaceIn}
 use Rattle.mls_emit.specs.Heads.{IsFieldAt, AreParts}
 use Rattle.mls_emit.specs.Layouts.{IsLayout, IsItself}
 use Rattle.mls_emit.specs.Rows.{at, concluded, Fits, HasRow, Keeps}
 use Rattle.mls_emit.proofs.MakeRows.{SaysBelow, AllSayBelow, make_row}
 use Rattle.mls_emit.proofs.RowPairs.{set_below, head_below}
+use Rattle.mls_emit.proofs.StandingParts.{field_there, field_some}
 
 module _ (b : Before) (a type : Automaton) (R IsPair : ℕ → ℕ → Type 0) (place type_place : ℕ → ℕ) (layout : IsLayout b.book a type R IsPair place type_place)
     (claims : Mode → ℕ → ℕ → Type 0) (shown : AreShown b.book [] IsItself claims)
@@ -49,17 +48,6 @@ module _ (b : Before) (a type : Automaton) (R IsPair : ℕ → ℕ → Type 0) (
   AllSayRoots steps sets d (number ∷ numbers) (part ∷ parts) = SaysRoot steps sets d number part × AllSayRoots steps sets d numbers parts
   AllSayRoots steps sets d _ _ = ⊥
 
-  -- a field is there where its set is, and it is the join of the set
-  field_there : (set : List ℕ) (o : Option NodeId) → IsFieldAt b.book place Positive (Some set) o → (i : NodeId) × (o ≡ Some i) × IsTree b.book Positive (IsPlaceIn place set) i.0
-  field_there set None is = absurd is
-  field_there set (Some i) is = (i, refl, is)
-
-  field_some : (x : Option (List ℕ)) (o : Option NodeId) → IsFieldAt b.book place Positive x o → IsSome o ↔ IsSome x
-  field_some None None is = (λ h. h, λ h. h)
-  field_some None (Some i) is = absurd is
-  field_some (Some set) None is = absurd is
-  field_some (Some set) (Some i) is = (λ h. refl, λ h. refl)
-
   module _ (sets : List FieldSet) (d : List BinderNode) (q : ℕ) (is_d : Fits b d (place q)) (fields : List Field)
       (fields_low : HasChildrenIn (λ k. k < length b.book) (node.Rcd fields))
       (field : (label : List ℕ) → IsFieldAt b.book place Positive (set_at sets label) (field_at label fields)) where
@@ -69,7 +57,7 @@ module _ (b : Before) (a type : Automaton) (R IsPair : ℕ → ℕ → Type 0) (
     below_field : (i root : ℕ) (steps : List StepLine) (number : ℕ) (part : Part) → SaysRoot steps sets (env_of d) number part
         → SaysBelow b IsItself claims shown (λ mode i. based refl) d root fields steps number part
     below_field i root steps number part it =
-        let there = field_there (it.root ∷ []) (field_at part.label fields) (subst (λ o. IsFieldAt b.book place Positive o (field_at part.label fields)) it.set (field part.label)) in
+        let there = field_there b.book place Positive (it.root ∷ []) (field_at part.label fields) (subst (λ o. IsFieldAt b.book place Positive o (field_at part.label fields)) it.set (field part.label)) in
         record {
           field = there.0;
           found = there.1;
@@ -105,7 +93,7 @@ module _ (b : Before) (a type : Automaton) (R IsPair : ℕ → ℕ → Type 0) (
       let children : HasChildrenIn (λ k. k < length b.book) (node.Rcd w.2.fields) = subst (HasChildrenIn (λ k. k < length b.book)) w.2.node (closed_children b.book closed_book.closed w.0 (low q w.0 w.1)) in
       let have : HaveLabelsOf parts w.2.fields
       = λ label.
-      let one = field_some (set_at sets label) (field_at label w.2.fields) (field label) in
+      let one = field_some b.book place Positive (set_at sets label) (field_at label w.2.fields) (field label) in
       (λ h. (labels label).0 (one.0 h), λ h. one.1 ((labels label).1 h)) in
       make_row b IsItself claims shown (λ mode i. based refl) d w.0 w.2.fields steps e numbers parts (place q) is_form w.2.node have none
       (all_below sets d q is_d w.2.fields children field w.0 steps numbers parts all)

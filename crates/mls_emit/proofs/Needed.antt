@@ -19,10 +19,10 @@ use Rattle.mls_deriv.specs.inner.PairRules.{left_node, right_node}
 use Rattle.mls_emit.specs.PairLists.{pair_of}
 use Rattle.mls_emit.specs.steps.Needs.{read_as, left_needs, right_needs, label_needs, field_needs, both_needs, needs_of}
 
-head_there : (x : Pair) (xs : List Pair) → Contains (x ∷ xs) x
+pub head_there : (x : Pair) (xs : List Pair) → Contains (x ∷ xs) x
 head_there x xs = (0, omega arith, refl)
 
-next_there : (x y : Pair) → Contains (x ∷ y ∷ []) y
+pub next_there : (x y : Pair) → Contains (x ∷ y ∷ []) y
 next_there x y = (1, omega arith, refl)
 
 read_there : (pair : ℕ → Pair) (o : Option ℕ) (n : ℕ) → o ≡ Some n → Contains (read_as pair o) (pair n)
@@ -46,7 +46,7 @@ label_there mode fields label other k m same is found =
     subst (λ (z : NodeId). Contains (field_needs mode fields other) (pair_of mode m.0 z.0)) is
     (subst (λ o. Contains (label_needs mode o other.node) (pair_of mode m.0 other.node.0)) (sym at) (head_there (pair_of mode m.0 other.node.0) []))
 
-field_there : (mode : Mode) (fields others : List Field) (label : List ℕ) (k m : NodeId) → field_at label others ≡ Some k → field_at label fields ≡ Some m
+pub field_there : (mode : Mode) (fields others : List Field) (label : List ℕ) (k m : NodeId) → field_at label others ≡ Some k → field_at label fields ≡ Some m
     → Contains (flat_map (field_needs mode fields) others) (pair_of mode m.0 k.0)
 field_there mode fields [] label k m found at = absurd (cc)
 field_there mode fields (other ∷ rest) label k m found at = go (bytes_eq other.label label) refl (λ found. field_there mode fields rest label k m found at) found

@@ -18,7 +18,7 @@ assoc : (xs ys zs : List SectionLine) → (xs ++ ys) ++ zs ≡ xs ++ (ys ++ zs)
 assoc [] ys zs = refl
 assoc (x ∷ xs) ys zs = ap (λ (l : List SectionLine). x ∷ l) (assoc xs ys zs)
 
-steps_append : (lines more : List SectionLine) → steps_of (lines ++ more) ≡ steps_of lines ++ steps_of more
+pub steps_append : (lines more : List SectionLine) → steps_of (lines ++ more) ≡ steps_of lines ++ steps_of more
 steps_append [] more = refl
 steps_append (line.Let k n ∷ lines) more = steps_append lines more
 steps_append (line.Step step ∷ lines) more = ap (λ (l : List StepLine). step ∷ l) (steps_append lines more)
@@ -63,7 +63,7 @@ past_puts : (b : Before) (puts : List Put) (pairs : List Pair) (rest : List Sect
 past_puts b [] pairs rest all = past_pairs b pairs rest all
 past_puts b (put ∷ puts) pairs rest all = past_puts b puts pairs rest all
 
-no_steps : (puts : List Put) (pairs : List Pair) → steps_of (put_lines puts ++ pair_lines pairs) ≡ []
+pub no_steps : (puts : List Put) (pairs : List Pair) → steps_of (put_lines puts ++ pair_lines pairs) ≡ []
 no_steps [] [] = refl
 no_steps [] (pair ∷ pairs) = no_steps [] pairs
 no_steps (put ∷ puts) pairs = no_steps puts pairs

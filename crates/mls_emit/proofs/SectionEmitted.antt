@@ -93,7 +93,7 @@ find_kept (entry ∷ lets) more k n found = go (eq_by_cmp nat_cmp k entry.0) fou
     go true e later = e
     go false e later = later e
 
-find_other : (lets : List (ℕ × ℕ)) (k n l : ℕ) → env.find nat_cmp l lets ≡ None → (k ≡ l → ⊥) → env.find nat_cmp l (lets ++ (k, n) ∷ []) ≡ None
+pub find_other : (lets : List (ℕ × ℕ)) (k n l : ℕ) → env.find nat_cmp l lets ≡ None → (k ≡ l → ⊥) → env.find nat_cmp l (lets ++ (k, n) ∷ []) ≡ None
 find_other [] k n l none_yet other = go (eq_by_cmp nat_cmp l k) refl
   where
     go : (t : Bool) → eq_by_cmp nat_cmp l k ≡ t → cond t (Some n) None ≡ None

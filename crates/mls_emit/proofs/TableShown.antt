@@ -1,5 +1,6 @@
 -- What the table of a list shows is justified by the list.
---     those_justified
+--     justified_shown     what the list justifies, its table shows
+--     those_justified     and the other way round, for all of them
 use Rattle.std.proofs.Common.{◌≡◌, List, sym, subst}
 use Rattle.mls_book.specs.declared.book.Node.{Node}
 use Rattle.mls_deriv.specs.declared.table.Table.{Table}
@@ -23,7 +24,7 @@ module _ (book : List Node) (puts : List Put) (pairs : List Pair) (table : Table
       justified_more book puts (Holds table) (Claims pairs) (λ m k l. (is.holds m k l).0) pair.mode pair.left pair.right
       (from_nodes book puts (Holds table) pair.mode pair.left pair.right (subst (λ put. IsShown book put (Holds table) pair.mode pair.left pair.right) same_puts h))
 
-  justified_shown : (pair : Pair) → IsJustifiedBy book puts pairs pair → IsShownBy book table pair
+  pub justified_shown : (pair : Pair) → IsJustifiedBy book puts pairs pair → IsShownBy book table pair
   justified_shown pair h =
       subst (λ put. IsShown book put (Holds table) pair.mode pair.left pair.right) (sym same_puts)
       (by_nodes book puts (Holds table) pair.mode pair.left pair.right

@@ -18,10 +18,10 @@ use Rattle.mls_emit.proofs.WorkedIdentity.{identity, book, place_of, type_place,
 use Rattle.mls_emit.proofs.WorkedNames.{identity_closed, closed_book, root, binder, is_free, section_of, the_let, first, let_posed}
 use Rattle.mls_emit.proofs.WorkedParts.{nothing, contains_one}
 
-abbrev the_constraint : Constraint
+abbrev pub the_constraint : Constraint
 the_constraint = record { automaton = identity; goals = [] }
 
-abbrev the_scheme : Scheme
+abbrev pub the_scheme : Scheme
 the_scheme = record { automaton = identity; env = []; root = record { 0 = 0 } }
 
 no_reach : (p : Polarity) (s j : ℕ) → ReachesBy identity R p s j → ⊥
@@ -109,7 +109,7 @@ walk = record {
   flows = in_order;
 }
 
-solved_to : IsSolvedTo the_constraint the_scheme the_scheme walked
+pub solved_to : IsSolvedTo the_constraint the_scheme the_scheme walked
 solved_to = record {
   closed = identity_closed;
   goals = λ p n it. absurd (nothing (p, n) it);
@@ -120,17 +120,17 @@ solved_to = record {
   is_positive = refl;
 }
 
-parts_inside : (s i : ℕ) → Contains (parts_at s) i → i < length book
+pub parts_inside : (s i : ℕ) → Contains (parts_at s) i → i < length book
 parts_inside zero i there = subst (λ z. z < length book) (contains_one 3 i there) (omega arith)
 parts_inside (suc s) i there = absurd (nothing i there)
 
-type_inside : (s : ℕ) → type_place s < length book
+pub type_inside : (s : ℕ) → type_place s < length book
 type_inside zero = omega arith
 type_inside (suc zero) = omega arith
 type_inside (suc (suc zero)) = omega arith
 type_inside (suc (suc (suc s))) = omega arith
 
-laid_out : IsLaidOut book the_constraint the_scheme walked place_of type_place
+unfoldable pub laid_out : IsLaidOut book the_constraint the_scheme walked place_of type_place
 unfolding identity_layout
 laid_out = record {
   closed = closed_book;

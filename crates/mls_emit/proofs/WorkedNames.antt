@@ -57,14 +57,14 @@ identity_closed = record {
   positive = λ f there. subst (λ (g : Flow). IsState identity Positive g.positive.0) (contains_one (flow 1 2) f there) (record { in_range = omega arith; polarity = refl });
 }
 
-abbrev the_puts : List Put
+abbrev pub the_puts : List Put
 the_puts = record { variable = 1; node = 1 } ∷ []
 
-put_low : (t : Bool) (n : ℕ) → option_map (λ (put : Put). put.node) (cond t (Some (record { variable = 1; node = 1 })) None) ≡ Some n → n < length book
+pub put_low : (t : Bool) (n : ℕ) → option_map (λ (put : Put). put.node) (cond t (Some (record { variable = 1; node = 1 })) None) ≡ Some n → n < length book
 put_low true n e = let same : 1 ≡ n = cc in subst (λ z. z < length book) same (omega arith)
 put_low false n e = absurd (cc)
 
-known_copy : IsCopyOf book identity place_of IsPlace 0
+unfoldable pub known_copy : IsCopyOf book identity place_of IsPlace 0
 unfolding type_layout name_layout
 known_copy = record {
   sign = sign;
@@ -158,7 +158,7 @@ the_let = local 0 0 (fun 0 0 (bound 0 0)) (inner 0 0)
 abbrev pub first : FirstPart
 first = record { number = 0; part = 1; env = env_of []; type = 4 }
 
-fits : (b : Before) → b.book ≡ book → (t : ℕ) → t < 8 → Fits b [] t
+pub fits : (b : Before) → b.book ≡ book → (t : ℕ) → t < 8 → Fits b [] t
 fits b same t low = record {
   scheme = record {
     book = subst IsClosedBook (sym same) closed_book;
@@ -168,7 +168,7 @@ fits b same t low = record {
   rising = tt;
 }
 
-met : (o : Option ℕ) → o ≡ None → IsMeetAt book o o o
+pub met : (o : Option ℕ) → o ≡ None → IsMeetAt book o o o
 met None e = refl
 met (Some n) e = absurd (cc)
 

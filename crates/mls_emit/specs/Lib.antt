@@ -1,9 +1,11 @@
 pub mod Shown
+pub mod Orders
 pub mod Trees
 pub mod Heads
 pub mod Layouts
 pub mod Uses
 pub mod PairLists
+pub mod ChosenLists
 pub mod steps
 pub mod Emitted
 pub mod Runs
@@ -11,9 +13,14 @@ pub mod Plans
 pub mod Rows
 pub mod Lets
 pub mod Scopes
+pub mod Conclusions
+pub mod Readings
 pub mod Posed
 pub mod PosedUses
 pub mod Parts
+pub mod Writings
+pub mod WrittenUses
+pub mod WrittenParts
 pub mod Posings
 pub mod PosedNodes
 pub mod PosedCopies

@@ -12,3 +12,5 @@ pub mod Twins
 pub mod TypeNodes
 pub mod Walking
 pub mod OwnNumbers
+pub mod Reasons
+pub mod Stepping

@@ -15,19 +15,20 @@ use mls_deriv::table::Table;
 use std::alloc::Global;
 use std::collections::BTreeSet;
 
-// Pairs in the order in which they were found, each once, with the numbers of their nodes by modes.
+/// Pairs in the order in which they were found, each once, with the numbers of their nodes by modes.
 #[derive(Drop)]
-struct Found {
-    pairs: Pairs,
+pub(crate) struct Found {
+    pub(crate) pairs: Pairs,
     lr: BTreeSet<(usize, usize)>,
     rl: BTreeSet<(usize, usize)>,
     pp: BTreeSet<(usize, usize)>,
 }
 
 impl Found {
-    // No pair.
-    fn new(alloc: Global) -> Found
-        ensures { IsFound result }
+    /// No pair.
+    pub(crate) fn new(alloc: Global) -> Found
+        ensures found { IsFound result }
+        ensures empty { result.pairs ≡ [] }
     {
         Found {
             pairs: Pairs::new(alloc),
@@ -73,8 +74,12 @@ impl Found {
         Ok(())
     }
 
-    // Adds pairs.
-    fn add_all(&mut self, pairs: &[Pair]) -> Result<(), Memory>
+    /// Adds pairs.
+    ///
+    /// # Errors
+    ///
+    /// `Memory` where memory is wanting.
+    pub(crate) fn add_all(&mut self, pairs: &[Pair]) -> Result<(), Memory>
         requires { IsFound self.old }
         ensures { OnOk result (Finds self.old self.new pairs.now) }
     {
@@ -84,15 +89,15 @@ impl Found {
         Ok(())
     }
 
-    // How many pairs there are.
-    fn len(&self) -> usize
+    /// How many pairs there are.
+    pub(crate) fn len(&self) -> usize
         ensures { result ≡ length self.now.pairs }
     {
         self.pairs.len()
     }
 
-    // The pair at this place.
-    fn at(&self, place: usize) -> Pair
+    /// The pair at this place.
+    pub(crate) fn at(&self, place: usize) -> Pair
         requires { place < length self.now.pairs }
         ensures { get_or self.now.pairs place result ≡ result }
     {

@@ -166,8 +166,12 @@ fn push_both(needs: &mut Pairs, mode: Mode, left: &Node, right: &Node) -> Result
     }
 }
 
-// What these nodes of the pair ask for.
-fn node_needs(
+/// What these nodes of the pair ask for.
+///
+/// # Errors
+///
+/// `Memory` where memory is wanting.
+pub(crate) fn node_needs(
     alloc: Global,
     table: &Table,
     pair: Pair,

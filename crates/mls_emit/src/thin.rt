@@ -11,8 +11,12 @@ use mls_deriv::claim::{Pair, Put};
 use mls_deriv::table::Table;
 use std::alloc::Global;
 
-// Adds a pair where it is kept.
-fn add_kept(left: &mut Pairs, pair: Pair, is_kept: bool) -> Result<(), Memory>
+/// Adds a pair where it is kept.
+///
+/// # Errors
+///
+/// `Memory` where memory is wanting.
+pub(crate) fn add_kept(left: &mut Pairs, pair: Pair, is_kept: bool) -> Result<(), Memory>
     ensures { OnOk result (AddsKept is_kept pair left.old left.new) }
 {
     if !is_kept {

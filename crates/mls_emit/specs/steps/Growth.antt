@@ -30,11 +30,12 @@ pub record Marks (mode : Mode) (i j : ℕ) (old new : Found) : Type 0 where
   pub pairs : new.pairs ≡ old.pairs
   pub marks : (m : Mode) (k l : ℕ) → IsMarked new m k l → IsMarked old m k l ⊎ (pair_of mode i j ≡ pair_of m k l)
 
--- the list has these pairs, behind those that it had
+-- the list has these pairs, behind those that it had, and no others
 pub record Finds (old new : Found) (pairs : List Pair) : Type 0 where
   pub is : IsFound new
   pub more : List Pair
   pub behind : new.pairs ≡ old.pairs ++ more
+  pub only : (pair : Pair) → Contains more pair → Contains pairs pair
   pub has : (pair : Pair) → Contains pairs pair → Contains new.pairs pair
 
 -- the list has what the rules name for the pair, if it needs any

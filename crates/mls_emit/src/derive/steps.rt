@@ -1,4 +1,11 @@
 //! The steps of a section, as they are written.
+ghost use Rattle.std.specs.Prelude.{◌≡◌, ◌↔◌, ◌++◌, [], option_map, IfOk, IsTrue, OnOk};
+ghost use Rattle.mls_deriv.specs.Sections.{steps_of};
+ghost use Rattle.mls_deriv.specs.Steps.{IsRising};
+ghost use Rattle.mls_emit.specs.Emitted.{binder_pair};
+ghost use Rattle.mls_emit.specs.PairLists.{IsPairList};
+ghost use Rattle.mls_emit.specs.steps.Stepping.{AddsAdapted, AddsStep, AddsSub, AreCounted, Stands};
+ghost use Rattle.mls_emit.specs.steps.Stepping.{binder_node, pairs_over};
 
 use crate::derive::chosen::chosen_of;
 use crate::derive::puts::Puts;
@@ -7,7 +14,7 @@ use crate::pairs::{Pairs, pair_list};
 use mls_base::list::List;
 use mls_base::memory::Memory;
 use mls_book::book::{Book, NodeId};
-use mls_deriv::claim::Pair;
+use mls_deriv::claim::{Pair, Put};
 use mls_deriv::derivation::{
     BinderNode, BinderNodes, Mode, SectionLine, SectionLines, StepLine, StepRule,
 };
@@ -35,7 +42,9 @@ pub(crate) struct Steps {
 /// # Errors
 ///
 /// `Memory` where memory is wanting.
-pub(crate) fn copied(alloc: Global, env: &[BinderNode]) -> Result<BinderNodes, Memory> {
+pub(crate) fn copied(alloc: Global, env: &[BinderNode]) -> Result<BinderNodes, Memory>
+    ensures { IfOk result (λ copy. copy ≡ env.now) }
+{
     let mut copy = BinderNodes::new(alloc);
     for entry in env {
         copy.push(*entry)?;
@@ -44,11 +53,34 @@ pub(crate) fn copied(alloc: Global, env: &[BinderNode]) -> Result<BinderNodes, M
 }
 
 /// The node of a binder, where binders rise.
-pub(crate) fn node_of(env: &[BinderNode], binder: usize) -> Option<NodeId> {
+pub(crate) fn node_of(env: &[BinderNode], binder: usize) -> Option<NodeId>
+    ensures { IsRising env.now → option_map (λ id. id.0) result ≡ binder_node env.now binder }
+{
     match env.binary_search_by(|entry| entry.binder.cmp(&binder)) {
         Ok(at) => Some(env[at].node),
         Err(_) => None,
     }
+}
+
+// Whether two environments are the same.
+fn are_same(env: &[BinderNode], other: &[BinderNode]) -> bool
+    ensures { IsTrue result → env.now ≡ other.now }
+{
+    env == other
+}
+
+// Adds the pair of a binder, where the later environment has it.
+fn push_asked(pairs: &mut Pairs, entry: BinderNode, env: &[BinderNode]) -> Result<(), Memory>
+    ensures { IsRising env.now → OnOk result (pairs.new ≡ pairs.old ++ binder_pair env.now entry) }
+{
+    if let Some(node) = node_of(env, entry.binder) {
+        pairs.push(Pair {
+            mode: Mode::Rl,
+            left: node.0,
+            right: entry.node.0,
+        })?;
+    }
+    Ok(())
 }
 
 // The pairs that a step by pairs asks for: that of the two types, and that of each binder.
@@ -57,7 +89,10 @@ fn asked(
     from: &Conclusion,
     env: &[BinderNode],
     root: NodeId,
-) -> Result<Pairs, Memory> {
+) -> Result<Pairs, Memory>
+    ensures { IsRising env.now
+        → IfOk result (λ pairs. pairs ≡ pairs_over from.now.env env.now from.now.root.0 root.0) }
+{
     let mut pairs = Pairs::new(alloc);
     pairs.push(Pair {
         mode: Mode::Lr,
@@ -65,14 +100,17 @@ fn asked(
         right: root.0,
     })?;
     for entry in from.env.as_slice() {
-        if let Some(node) = node_of(env, entry.binder) {
-            pairs.push(Pair {
-                mode: Mode::Rl,
-                left: node.0,
-                right: entry.node.0,
-            })?;
-        }
+        push_asked(&mut pairs, *entry, env)?;
     }
+    Ok(pairs)
+}
+
+// The pairs that are wanted, and those that they rest on, where each keeps one of its reasons.
+fn pairs_for(alloc: Global, book: &Book, puts: &[Put], wanted: &[Pair]) -> Result<Pairs, Memory>
+    ensures { IfOk result (IsPairList book.now puts.now wanted.now) }
+{
+    let all = pair_list(alloc, book, puts, wanted)?;
+    let pairs = chosen_of(alloc, book, puts, &all, wanted)?;
     Ok(pairs)
 }
 
@@ -97,7 +135,10 @@ impl Steps {
         rule: StepRule,
         env: &[BinderNode],
         root: NodeId,
-    ) -> Result<Conclusion, Memory> {
+    ) -> Result<Conclusion, Memory>
+        ensures { IfOk result (AddsStep
+            self.old self.new (record { node = node; rule = «rule»; env = env.now; root = root })) }
+    {
         let step = self.count;
         self.count = step.checked_add(1).ok_or(Memory)?;
         self.lines.push(SectionLine::Step(StepLine {
@@ -123,11 +164,13 @@ impl Steps {
         from: &Conclusion,
         env: &[BinderNode],
         root: NodeId,
-    ) -> Result<Conclusion, Memory> {
+    ) -> Result<Conclusion, Memory>
+        ensures { IsRising env.now
+            → IfOk result (AddsSub book.now self.old self.new node from.now env.now root) }
+    {
         let puts = from.puts.as_slice();
         let wanted = asked(alloc, from, env, root)?;
-        let all = pair_list(alloc, book, puts, wanted.as_slice())?;
-        let pairs = chosen_of(alloc, book, puts, &all, wanted.as_slice())?;
+        let pairs = pairs_for(alloc, book, puts, wanted.as_slice())?;
         let to = self.step(alloc, node, StepRule::Sub(from.step), env, root)?;
         push_puts(&mut self.lines, puts)?;
         push_pairs(&mut self.lines, pairs.as_slice())?;
@@ -147,8 +190,11 @@ impl Steps {
         from: Conclusion,
         env: &[BinderNode],
         root: NodeId,
-    ) -> Result<Conclusion, Memory> {
-        if from.puts.is_empty() && from.root == root && from.env.as_slice() == env {
+    ) -> Result<Conclusion, Memory>
+        ensures { IsRising env.now → AreCounted self.old → Stands (steps_of self.old.lines) from
+            → IfOk result (AddsAdapted book.now self.old self.new node from env.now root) }
+    {
+        if from.puts.is_empty() && from.root == root && are_same(from.env.as_slice(), env) {
             return Ok(from);
         }
         self.sub(alloc, book, node, &from, env, root)

@@ -1,0 +1,71 @@
+-- Steps that are written bring a conclusion to an environment and a type.
+--     stays_adapted       no line
+--     sub_adapted         a step by pairs
+use Rattle.std.proofs.Common.{◌≡◌, ℕ, suc, List, [], ◌∷◌, ◌++◌, length, refl, sym, ap, ◌∙◌, subst, append-nil, Option}
+use Rattle.mls_book.specs.declared.book.Node.{Node}
+use Rattle.mls_book.specs.declared.book.NodeId.{NodeId}
+use Rattle.mls_deriv.specs.declared.derivation.BinderNode.{BinderNode}
+use Rattle.mls_deriv.specs.declared.derivation.StepLine.{StepLine}
+use Rattle.mls_deriv.specs.declared.derivation.StepRule.TheVariants as rule
+use Rattle.mls_deriv.specs.declared.claim.Pair.{Pair}
+use Rattle.mls_deriv.specs.Sections.{steps_of}
+use Rattle.mls_emit.specs.declared.derive.steps.Conclusion as written
+use Rattle.mls_emit.specs.declared.derive.steps.Steps.{Steps}
+use Rattle.mls_emit.specs.Conclusions.{IsAdapted, as_it_is, by_pairs}
+use Rattle.mls_emit.specs.Emitted.{asked_at, asked_after}
+use Rattle.mls_emit.specs.PairLists.{IsPairList}
+use Rattle.mls_emit.specs.Plans.{a_step_with}
+use Rattle.mls_emit.specs.Runs.{a_step, lines_of}
+use Rattle.mls_emit.specs.steps.Stepping.{conclusion_of, pairs_over, AddsSub, AreCounted, Stands, AddsAdapted}
+use Rattle.mls_emit.proofs.Runs.{no_steps, steps_append}
+
+-- a step by pairs asks for the pairs that go over from the step before
+asked_is : (steps : List StepLine) (node : ℕ) (from : written.Conclusion) (d : List BinderNode) (u : NodeId) → Stands steps from
+    → asked_at steps (a_step node (rule.Sub from.step) d u.0) ≡ pairs_over from.env d from.root.0 u.0
+asked_is steps node from d u it =
+    ap (λ (o : Option StepLine). asked_after o (a_step node (rule.Sub from.step) d u.0)) it.found
+    ∙ (λ n. pairs_over (it.env n) d (it.root n).0 u.0)
+
+one_more : (steps : List StepLine) (step : StepLine) → suc (length steps) ≡ length (steps ++ step ∷ [])
+one_more [] step = refl
+one_more (first ∷ steps) step = ap suc (one_more steps step)
+
+module _ (book : List Node) (old : Steps) (node : ℕ) (from : written.Conclusion) (d : List BinderNode) (u : NodeId) where
+  pub stays_adapted : AreCounted old → from.puts ≡ [] → from.root ≡ u → from.env ≡ d → AddsAdapted book old old node from d u from
+  stays_adapted counted none same_root same_env = record {
+    plan = [];
+    adapts = as_it_is none (λ n. (same_root n).0) same_env;
+    more = [];
+    lines = sym (append-nil old.lines);
+    are = refl;
+    counted = counted;
+    root = same_root;
+    env = same_env;
+    puts = none;
+  }
+
+  pub sub_adapted : (new : Steps) (c : written.Conclusion) → AreCounted old → Stands (steps_of old.lines) from → AddsSub book old new node from d u c → AddsAdapted book old new node from d u c
+  sub_adapted new c counted stands it =
+      let step = a_step node (rule.Sub from.step) d u.0 in
+      let own = lines_of step from.puts it.pairs in
+      record {
+        plan = a_step_with step from.puts ∷ [];
+        adapts = subst (λ z. IsAdapted (conclusion_of from) old.count node d u.0 (a_step_with step from.puts ∷ []) z) (sym it.number) by_pairs;
+        more = own;
+        lines = it.lines;
+        are = (
+          it.pairs,
+          [],
+          subst (λ (l : List Pair). IsPairList book from.puts l it.pairs) (sym (asked_is (steps_of old.lines) node from d u stands)) it.list,
+          sym (append-nil own),
+          refl,
+        );
+        counted =
+            it.count
+            ∙ (ap suc counted
+            ∙ (one_more (steps_of old.lines) step
+            ∙ ap (λ (l : List StepLine). length l) (sym (ap steps_of it.lines ∙ (steps_append old.lines own ∙ ap (λ (l : List StepLine). steps_of old.lines ++ step ∷ l) (no_steps from.puts it.pairs))))));
+        root = it.root;
+        env = it.env;
+        puts = it.puts;
+      }
