@@ -42,6 +42,7 @@ pub mod UsesEmitted
 pub mod SectionOfParts
 pub mod Conclusions
 pub mod Stepping
+pub mod Environments
 pub mod WrittenRows
 pub mod WrittenNames
 pub mod WrittenMakes

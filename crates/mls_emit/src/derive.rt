@@ -9,6 +9,7 @@ ghost use Rattle.mls_emit.specs.Derived.{AreDerivations, entry_names, entry_text
 mod binders;
 mod chosen;
 mod copies;
+mod envs;
 mod known;
 mod prune;
 mod puts;

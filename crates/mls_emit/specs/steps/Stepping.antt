@@ -1,6 +1,7 @@
 -- How the steps of a section are written.
 use Rattle.std.specs.Prelude.{◌≡◌, ℕ, suc, List, [], ◌∷◌, ◌++◌, length, slice_get, Option, Some}
-use Rattle.std.specs.List.{flat_map}
+use Rattle.std.specs.List.{filter, flat_map}
+use Rattle.std.proofs.Math.Dec.{ltb}
 use Rattle.std.specs.FinMap as env
 use Rattle.mls_book.specs.declared.book.Node.{Node}
 use Rattle.mls_book.specs.declared.book.NodeId.{NodeId}
@@ -24,6 +25,13 @@ use Rattle.mls_emit.specs.Runs.{lines_of}
 -- the node of a binder
 abbrev pub binder_node : List BinderNode → ℕ → Option ℕ
 binder_node d x = env.get (env_of d) x
+
+-- the entries of lower binders, and those of higher ones
+abbrev pub below : ℕ → List BinderNode → List BinderNode
+below x d = filter (λ entry. ltb entry.binder x) d
+
+abbrev pub above : ℕ → List BinderNode → List BinderNode
+above x d = filter (λ entry. ltb x entry.binder) d
 
 abbrev pub conclusion_of : written.Conclusion → Conclusion
 conclusion_of c = record { number = c.step; type = c.root.0; env = c.env; puts = c.puts }

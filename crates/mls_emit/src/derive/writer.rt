@@ -3,6 +3,7 @@
 
 use crate::derive::binders::both;
 use crate::derive::copies::push_checked;
+use crate::derive::envs::{with, without};
 use crate::derive::known::{FirstPart, FirstParts, Globals};
 use crate::derive::puts::{Puts, add_puts, global_puts, let_puts, share_variables};
 use crate::derive::spines::Spines;
@@ -114,42 +115,6 @@ fn with_nodes(
 fn stepped(own: Result<Conclusion, Memory>) -> Result<Concluded, Memory> {
     let own = own?;
     Ok(Concluded::Step(own))
-}
-
-// An environment in which this binder has this node, and the others are as before.
-fn with(
-    alloc: Global,
-    env: &[BinderNode],
-    binder: usize,
-    node: NodeId,
-) -> Result<BinderNodes, Memory> {
-    let own = BinderNode { binder, node };
-    let mut longer = BinderNodes::new(alloc);
-    let mut is_there = false;
-    for entry in env {
-        if entry.binder >= binder && !is_there {
-            longer.push(own)?;
-            is_there = true;
-        }
-        if entry.binder != binder {
-            longer.push(*entry)?;
-        }
-    }
-    if !is_there {
-        longer.push(own)?;
-    }
-    Ok(longer)
-}
-
-// An environment without this binder.
-fn without(alloc: Global, env: &[BinderNode], binder: usize) -> Result<BinderNodes, Memory> {
-    let mut shorter = BinderNodes::new(alloc);
-    for entry in env {
-        if entry.binder != binder {
-            shorter.push(*entry)?;
-        }
-    }
-    Ok(shorter)
 }
 
 impl Writer {

@@ -1,0 +1,80 @@
+//! Environments of steps with a binder more, or without it.
+ghost use Rattle.std.specs.Prelude.{◌≡◌, ◌++◌, ◌∷◌, [], IfOk, OnOk, true, false};
+ghost use Rattle.mls_deriv.specs.Steps.{IsRising};
+ghost use Rattle.mls_emit.specs.Conclusions.{IsWith, IsWithout};
+ghost use Rattle.mls_emit.specs.steps.Stepping.{above, below};
+
+use mls_base::memory::Memory;
+use mls_book::book::NodeId;
+use mls_deriv::derivation::{BinderNode, BinderNodes};
+use std::alloc::Global;
+
+// Adds an entry where it is kept.
+fn push_kept(left: &mut BinderNodes, entry: BinderNode, is_kept: bool) -> Result<(), Memory>
+    ensures kept { is_kept ≡ true → OnOk result (left.new ≡ left.old ++ entry ∷ []) }
+    ensures gone { is_kept ≡ false → OnOk result (left.new ≡ left.old) }
+{
+    if !is_kept {
+        return Ok(());
+    }
+    left.push(entry)?;
+    Ok(())
+}
+
+// Adds the entries of lower binders.
+fn push_below(left: &mut BinderNodes, env: &[BinderNode], binder: usize) -> Result<(), Memory>
+    ensures { OnOk result (left.new ≡ left.old ++ below binder env.now) }
+{
+    for entry in env {
+        push_kept(left, *entry, entry.binder < binder)?;
+    }
+    Ok(())
+}
+
+// Adds the entries of higher binders.
+fn push_above(left: &mut BinderNodes, env: &[BinderNode], binder: usize) -> Result<(), Memory>
+    ensures { OnOk result (left.new ≡ left.old ++ above binder env.now) }
+{
+    for entry in env {
+        push_kept(left, *entry, binder < entry.binder)?;
+    }
+    Ok(())
+}
+
+/// An environment in which this binder has this node, and the others are as before.
+///
+/// # Errors
+///
+/// `Memory` where memory is wanting.
+pub(crate) fn with(
+    alloc: Global,
+    env: &[BinderNode],
+    binder: usize,
+    node: NodeId,
+) -> Result<BinderNodes, Memory>
+    ensures { IsRising env.now → IfOk result (IsWith env.now binder node.0) }
+{
+    let mut longer = BinderNodes::new(alloc);
+    push_below(&mut longer, env, binder)?;
+    longer.push(BinderNode { binder, node })?;
+    push_above(&mut longer, env, binder)?;
+    Ok(longer)
+}
+
+/// An environment without this binder.
+///
+/// # Errors
+///
+/// `Memory` where memory is wanting.
+pub(crate) fn without(
+    alloc: Global,
+    env: &[BinderNode],
+    binder: usize,
+) -> Result<BinderNodes, Memory>
+    ensures { IsRising env.now → IfOk result (IsWithout env.now binder) }
+{
+    let mut shorter = BinderNodes::new(alloc);
+    push_below(&mut shorter, env, binder)?;
+    push_above(&mut shorter, env, binder)?;
+    Ok(shorter)
+}
