@@ -30,7 +30,7 @@ module _ (a b : Automaton) (new : List State) (old value : ℕ → Predicate) (c
   old_state : (s : ℕ) → s < length a.states → state_at b s ≡ state_at a s
   old_state s low = (λ k. get_or (states k) s past) ∙ get_or_append_left a.states new past s low
 
-  old_inside : (s : ℕ) → s < length a.states → IsInsideAt value s (state_at b s)
+  pub old_inside : (s : ℕ) → s < length a.states → IsInsideAt value s (state_at b s)
   old_inside s low =
       let p : Polarity = polarity_at a s in
       subst (IsInsideAt value s) (sym (old_state s low))

@@ -107,3 +107,12 @@ mod PosableTypes
 mod Twins
 mod TypeNodes
 mod OwnNumbers
+pub mod TreeNodes
+mod Owners
+mod PartBinders
+pub mod PartTypes
+pub mod SplitParts
+pub mod FirstTypes
+mod MetPairs
+pub mod MetWalks
+mod OwnStates

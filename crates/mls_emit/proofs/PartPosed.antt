@@ -26,10 +26,10 @@ use Rattle.mls_emit.specs.PosedCopies.{IsCopyAt, IsGood, IsUsePosed}
 use Rattle.mls_emit.specs.PosedModels.{HasModel}
 use Rattle.mls_emit.specs.PosedNodes.{IsNodePosed}
 use Rattle.mls_emit.specs.PosedParts.{ArePosable, HasKnownType, HavePosed, IsBegun, IsKnownType, IsPartPosed, IsPosable}
-use Rattle.mls_emit.specs.Posings.{binder_in, known_in, or_zero, root_in}
+use Rattle.mls_emit.specs.Posings.{binder_in, known_in, number_at, or_zero, root_in}
 use Rattle.mls_emit.proofs.BegunPosings.{begun_model}
 use Rattle.mls_emit.proofs.MetCopies.{copy, copy_met, copy_root}
-use Rattle.mls_emit.proofs.PosedParts.{binder_state}
+use Rattle.mls_emit.proofs.PosedParts.{binder_state, binder_there}
 
 -- what is needed may be met
 module _ (q : Posing) (good : IsGood q) where
@@ -176,11 +176,20 @@ part_posed nodes globals lets binders part begun q a is_begun posable it met = r
   goals = λ g there. let at = it.good.goals g there in (state_met q it.good a met Positive g.positive.0 at.0, state_met q it.good a met Negative g.negative.0 at.1);
   roots = λ i there. state_met q it.good a met Positive (root_in q i) (root i there);
   around = λ x there. state_met q it.good a met Negative (binder_in q x) (around x there);
+  rooted = λ i there. number_is q.roots i (it.rooted i there);
+  bound = λ x there. number_is q.binders x (binder_there binders globals lets begun q is_begun it.extends it.good x there);
   posed = λ i f there e. node_met q it.good a met binders globals lets around i (root i there) f (posable i f there e) (it.posed i f there e);
   models = λ known over type binder types binder_types typed.
       model_met q it.good a met type binder (it.models known over type binder types typed (begun_model binders begun is_begun type binder binder_types));
 }
   where
+    number_is : (numbers : BTreeMap ℕ ℕ) (k : ℕ) → IsSome (get nat_cmp numbers k) → get nat_cmp numbers k ≡ Some (number_at numbers k)
+    number_is numbers k there = go (get nat_cmp numbers k) there
+      where
+        go : (o : Option ℕ) → IsSome o → o ≡ Some (or_zero o)
+        go None wrong = absurd (cc)
+        go (Some s) some = refl
+
     around : (x : ℕ) → Contains binders x → IsState q.automaton Negative (binder_in q x)
     around = binder_state binders globals lets begun q is_begun it.extends it.good
 

@@ -35,7 +35,7 @@ some_is e = cc
 
 -- a node may be posed behind others
 module _ (binders : List ℕ) (globals lets : BTreeMap ℕ Scheme) (begun p : Posing) (it : IsBegun binders begun) (extends : Extends begun p) (good : IsGood p) where
-  binder_there : (x : ℕ) → Contains binders x → HasBinder p x
+  pub binder_there : (x : ℕ) → Contains binders x → HasBinder p x
   binder_there x there = subst (λ bs. IsSome (get nat_cmp bs x)) (sym extends.binders) (it.there x there)
 
   pub binder_state : (x : ℕ) → Contains binders x → IsState p.automaton Negative (binder_in p x)

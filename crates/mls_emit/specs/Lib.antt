@@ -33,3 +33,10 @@ pub mod MetCopies
 pub mod OneEach
 pub mod LaidOut
 pub mod Derived
+pub mod TreeNodes
+pub mod TermParts
+pub mod PartBinders
+pub mod PartTypes
+pub mod PartUses
+pub mod FirstTypes
+pub mod SolvedTypes

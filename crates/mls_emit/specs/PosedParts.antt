@@ -112,6 +112,8 @@ pub record IsPartPosed (nodes : List TermNode) (globals lets : BTreeMap ℕ Sche
   pub goals : (g : Goal) → Contains p.goals g → IsGoalOf p.automaton g
   pub roots : (i : ℕ) → Contains part i → IsState p.automaton Positive (root_in p i)
   pub around : (x : ℕ) → Contains binders x → IsState p.automaton Negative (binder_in p x)
+  pub rooted : (i : ℕ) → Contains part i → get nat_cmp p.roots i ≡ Some (root_in p i)
+  pub bound : (x : ℕ) → Contains binders x → get nat_cmp p.binders x ≡ Some (binder_in p x)
   pub posed : (i : ℕ) (f : TermForm) → Contains part i → form_at nodes i ≡ Some f
       → IsNodePosed p.automaton (IsGoal p.goals) (root_in p) (binder_in p)
       (IsUseMet (known_in globals) (known_in lets) p.automaton (root_in p) (binder_in p)) i f

@@ -14,3 +14,5 @@ pub mod Walking
 pub mod OwnNumbers
 pub mod Reasons
 pub mod Stepping
+pub mod Owners
+pub mod MetBinders

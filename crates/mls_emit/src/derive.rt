@@ -1,10 +1,11 @@
 //! Derivations of the types of a signature.
-ghost use Rattle.std.specs.Prelude.{◌≡◌, length, All, IfOk};
+ghost use Rattle.std.specs.Prelude.{◌≡◌, ℕ, length, slice_get, All, IfOk, Some};
 ghost use Rattle.mls_deriv.specs.Laws.{AreTerms};
 ghost use Rattle.mls_infer.specs.Inference.{AreNames};
 ghost use Rattle.mls_iface.specs.Matches.{IsRead};
 ghost use Rattle.mls_iface.specs.Signatures.{IsEntry};
 ghost use Rattle.mls_emit.specs.Derived.{AreDerivations, entry_names, entry_texts, section_names, section_texts};
+ghost use Rattle.mls_emit.specs.TreeNodes.{AreTreeNodes};
 
 mod binders;
 mod chosen;
@@ -60,6 +61,7 @@ fn section_of(
     requires declared { All IsRead declared.now }
     requires entries { All IsEntry entries.now }
     requires entry { IsEntry entry.now }
+    requires term { AreTreeNodes binding.now.term.nodes }
     ensures name { IfOk result (λ s. s.name ≡ entry.now.name) }
     ensures text { IfOk result (λ s. s.text ≡ entry.now.text) }
 {
@@ -73,6 +75,16 @@ fn section_of(
     })
 }
 
+// The binding of this number.
+fn binding_at(bindings: &[ResolvedBinding], number: usize) -> Result<&ResolvedBinding, Memory>
+    ensures { IfOk result (λ b. slice_get bindings.now number ≡ Some b.now) }
+{
+    match bindings.get(number) {
+        None => Err(Memory),
+        Some(binding) => Ok(binding),
+    }
+}
+
 // The sections of all entries.
 fn sections_of(
     alloc: Global,
@@ -80,6 +92,7 @@ fn sections_of(
     declared: &[ReadScheme],
     entries: &[SigEntry],
 ) -> Result<Sections, Memory>
+    requires terms { (count : ℕ) × AreTerms count bindings.now }
     requires declared { All IsRead declared.now }
     requires entries { All IsEntry entries.now }
     ensures names { IfOk result (λ sections. section_names sections ≡ entry_names entries.now) }
@@ -87,7 +100,7 @@ fn sections_of(
 {
     let mut sections = Sections::new(alloc);
     for entry in entries {
-        let binding = bindings.get(sections.len()).ok_or(Memory)?;
+        let binding = binding_at(bindings, sections.len())?;
         sections.push(section_of(alloc, declared, entries, binding, entry)?)?;
     }
     Ok(sections)

@@ -7,7 +7,10 @@ ghost use Rattle.mls_automaton.specs.Automata.{IsState};
 ghost use Rattle.mls_automaton.specs.Environments.{BindersRise};
 ghost use Rattle.mls_automaton.specs.Models.{IsClosed};
 ghost use Rattle.mls_automaton.specs.Schemes.{IsScheme};
-ghost use Rattle.mls_emit.specs.steps.Twins.{IsWider};
+ghost use Rattle.mls_subsume.specs.Verdicts.{DoesSubsume};
+ghost use Rattle.mls_emit.specs.MetCopies.{AreSeparate};
+ghost use Rattle.mls_emit.specs.SolvedTypes.{HasBindersOf, entries_of, solved_scheme};
+ghost use Rattle.mls_emit.specs.steps.Twins.{AddsEdgesTo, AddsTwin, IsWider};
 
 use crate::posable::is_scheme;
 use crate::pose::copied_head;
@@ -38,10 +41,12 @@ fn push_binder(env: &mut Env, binder: usize, state: StateId) -> Result<(), Memor
 }
 
 // The environment of binders with their states. Their numbers are to rise.
-fn env_of(alloc: Global, binders: &[(usize, usize)]) -> Result<Env, Memory> {
+fn env_of(alloc: Global, binders: &[(usize, usize)]) -> Result<Env, Memory>
+    ensures { IfOk result (λ env. env ≡ entries_of binders.now) }
+{
     let mut env = Env::new(alloc);
-    for (binder, state) in binders {
-        push_binder(&mut env, *binder, StateId(*state))?;
+    for binder in binders {
+        push_binder(&mut env, binder.0, StateId(binder.1))?;
     }
     Ok(env)
 }
@@ -51,7 +56,8 @@ fn push_edges(automaton: &mut Automaton, from: StateId, ends: &[usize]) -> Resul
     requires closed { IsClosed automaton.old }
     requires from { IsState automaton.old Negative from.0 }
     requires ends { All (IsState automaton.old Positive) ends.now }
-    ensures { OnOk result (IsWider automaton.old automaton.new) }
+    ensures wider { OnOk result (IsWider automaton.old automaton.new) }
+    ensures adds { OnOk result (AddsEdgesTo automaton.old automaton.new from.0 ends.now) }
 {
     for end in ends {
         automaton.add_flow(from, StateId(*end))?;
@@ -73,6 +79,7 @@ fn push_twin(automaton: &mut Automaton, state: StateId) -> Result<StateId, Memor
     requires state { IsState automaton.old Negative state.0 }
     ensures wider { OnOk result (IsWider automaton.old automaton.new) }
     ensures twin { IfOk result (λ twin. IsState automaton.new Negative twin.0) }
+    ensures adds { IfOk result (λ twin. AddsTwin automaton.old automaton.new state.0 twin.0) }
 {
     let head = copied_head(automaton.head(state))?;
     let ends = copied_set(automaton.partners(state))?;
@@ -84,7 +91,10 @@ fn push_twin(automaton: &mut Automaton, state: StateId) -> Result<StateId, Memor
 // The same type, where each binder has a state of its own behind those that are there.
 fn with_own_states(alloc: Global, scheme: Scheme) -> Result<Scheme, Memory>
     requires { IsScheme scheme }
-    ensures { IfOk result IsScheme }
+    ensures scheme { IfOk result IsScheme }
+    ensures separate { IfOk result AreSeparate }
+    ensures binders { IfOk result (λ own. HasBindersOf own scheme) }
+    ensures subsumes { IfOk result (λ own. DoesSubsume own scheme) }
 {
     let mut automaton = scheme.automaton;
     let mut env = Env::new(alloc);
@@ -101,7 +111,7 @@ fn with_own_states(alloc: Global, scheme: Scheme) -> Result<Scheme, Memory>
 
 /// The type of the first part of a let: the simplified scheme of this root and these binders over a solved automaton,
 /// in which each binder has a state of its own that no head names: a twin behind all others of its state, with the same
-/// head and the same edges.
+/// head and the same edges. It subsumes what the solved automaton gives this root and these binders.
 ///
 /// # Errors
 ///
@@ -113,7 +123,10 @@ pub(crate) fn first_type_of(
     root: usize,
     binders: &[(usize, usize)],
 ) -> Result<Scheme, Memory>
-    ensures { IfOk result IsScheme }
+    ensures scheme { IfOk result IsScheme }
+    ensures separate { IfOk result AreSeparate }
+    ensures binders { IfOk result (λ s. HasBindersOf s (solved_scheme solved.now root binders.now)) }
+    ensures subsumes { IfOk result (λ s. DoesSubsume s (solved_scheme solved.now root binders.now)) }
 {
     let scheme = Scheme {
         automaton: solved.copy()?,

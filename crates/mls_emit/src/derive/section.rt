@@ -4,6 +4,7 @@ ghost use Rattle.mls_automaton.specs.Models.{IsClosed};
 ghost use Rattle.mls_biunify.specs.Rooms.{HoldsStates};
 ghost use Rattle.mls_iface.specs.Matches.{IsRead};
 ghost use Rattle.mls_iface.specs.Signatures.{IsEntry};
+ghost use Rattle.mls_emit.specs.TreeNodes.{AreTreeNodes};
 
 use crate::derive::binders::binders_of;
 use crate::derive::copies::push_book;
@@ -367,6 +368,7 @@ pub(crate) fn write_section(
 ) -> Result<Written, Memory>
     requires declared { All IsRead declared.now }
     requires entries { All IsEntry entries.now }
+    requires term { AreTreeNodes nodes.now }
     requires read { IsRead read.now }
 {
     let parts = parts_of(alloc, nodes)?;
