@@ -2,18 +2,22 @@
 --     read_is_laid_out, read_is_deterministic      of all books whose layers have one function and one record at most
 --     printed_tops       the layers of a printed type are such
 --     printed_layout     so its nodes are a layout, in each book that has them
+--     made_layout, made_deterministic      the same of the scheme that is made of it
 use Rattle.std.proofs.Common.{◌≡◌, ℕ, ◌^◌, ◌<◌, List, [], length}
 use Rattle.mls_book.specs.declared.book.Node.{Node}
 use Rattle.mls_automaton.specs.declared.automaton.Polarity.{Polarity}
-use Rattle.mls_automaton.specs.Automata.{Automaton}
+use Rattle.mls_automaton.specs.Automata.{Automaton, head_at}
+use Rattle.mls_automaton.specs.Models.{IsDeterministic}
 use Rattle.mls_automaton.specs.declared.scheme.Scheme.{Scheme}
 use Rattle.mls_automaton.specs.Schemes.{IsScheme}
 use Rattle.mls_typetext.specs.declared.scheme.ReadScheme.{ReadScheme}
 use Rattle.mls_typetext.specs.Texts.{IsTypeText}
+use Rattle.mls_scheme.specs.ReadAutomata.{IsReadFrom}
+use Rattle.mls_scheme.specs.ReadTypes.{IsReadFromBook}
 use Rattle.mls_print.specs.Printed.{IsPrinted, HasNamedFields}
 use Rattle.mls_deriv.specs.Steps.{HasFrom}
 use Rattle.mls_emit.specs.Layouts.{IsTypeLayout}
-use Rattle.mls_emit.specs.OneEach.{HaveOneEach, AreNoneNodes, read_place, IsReadFrom, ReadIsLaidOut, ReadIsDeterministic}
+use Rattle.mls_emit.specs.OneEach.{HaveOneEach, HasRisingSets, AreNoneNodes, read_place, ReadIsLaidOut, ReadIsDeterministic}
 use Rattle.mls_emit.proofs.PrintedTypes.{printed_has_one}
 use Rattle.mls_emit.proofs.SingleSets.{single_heads}
 use Rattle.mls_emit.proofs.TypeLayouts.{type_layout, places_low}
@@ -37,3 +41,14 @@ pub printed_layout : (s : Scheme) (text : List ℕ) (read : ReadScheme) → IsSc
     → IsTypeLayout book b (read_place n it.is_top none b) × ((i : ℕ) → read_place n it.is_top none b i < length book)
 printed_layout s text read is labelled no_env printed short is_text b it =
     read_is_laid_out read.book read.root.0 b it (printed_tops s text read is labelled no_env printed short is_text b it)
+
+-- and so are they of the scheme that is made of what was read
+pub made_layout : (s : Scheme) (text : List ℕ) (read : ReadScheme) → IsScheme s → HasNamedFields s.automaton → s.env ≡ [] → IsPrinted s text → length text < 2 ^ 64 → IsTypeText text read
+    → (made : Scheme) (it : IsReadFromBook read made) (book : List Node) (n : ℕ) → HasFrom book n read.book → (none : Polarity → ℕ) → AreNoneNodes book none
+    → IsTypeLayout book made.automaton (read_place n it.automaton.is_top none made.automaton) × ((i : ℕ) → read_place n it.automaton.is_top none made.automaton i < length book)
+made_layout s text read is labelled no_env printed short is_text made it = printed_layout s text read is labelled no_env printed short is_text made.automaton it.automaton
+
+pub made_deterministic : (s : Scheme) (text : List ℕ) (read : ReadScheme) → IsScheme s → HasNamedFields s.automaton → s.env ≡ [] → IsPrinted s text → length text < 2 ^ 64 → IsTypeText text read
+    → (made : Scheme) → IsReadFromBook read made → IsScheme made → ((i : ℕ) → HasRisingSets (head_at made.automaton i)) → IsDeterministic made.automaton
+made_deterministic s text read is labelled no_env printed short is_text made it is_made sets =
+    read_is_deterministic read.book read.root.0 made.automaton it.automaton (printed_tops s text read is labelled no_env printed short is_text made.automaton it.automaton) is_made.automaton.labels sets

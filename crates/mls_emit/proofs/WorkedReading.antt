@@ -12,9 +12,9 @@ use Rattle.mls_automaton.specs.Automata.{Automaton, empty_head, flow, head_at, p
 use Rattle.mls_automaton.specs.Heads.{parts_of, combined, IsSameParts}
 use Rattle.mls_automaton.specs.Models.{HasRisingLabels, IsDeterministic}
 use Rattle.mls_automaton.proofs.Lists.{Contains-here}
-use Rattle.mls_scheme.specs.ReadAutomata.{IsPolarised, atoms, atom_parts, HasVariable, AreChildren, AreTops, IsReadAutomaton}
+use Rattle.mls_scheme.specs.ReadAutomata.{IsPolarised, atoms, atom_parts, HasVariable, AreChildren, AreTops, IsReadAutomaton, IsReadFrom}
 use Rattle.mls_emit.specs.Layouts.{IsTypeLayout}
-use Rattle.mls_emit.specs.OneEach.{HaveOneEach, HasRisingSets, AreNoneNodes, IsReadFrom, read_place}
+use Rattle.mls_emit.specs.OneEach.{HaveOneEach, HasRisingSets, AreNoneNodes, read_place}
 use Rattle.mls_emit.proofs.CombinedParts.{same_set_self}
 use Rattle.mls_emit.proofs.PrintedLayouts.{read_is_laid_out, read_is_deterministic}
 use Rattle.mls_emit.proofs.TypeLayers.{HasOneLayers, plain, book_has_one}

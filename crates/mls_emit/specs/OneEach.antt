@@ -4,13 +4,12 @@ use Rattle.std.specs.Prelude.{◌≡◌, ℕ, ◌+◌, ◌<◌, ◌^◌, Bool, t
 use Rattle.std.specs.Prelude.{All, Contains, Option, Some, None}
 use Rattle.mls_book.specs.declared.book.Node.{Node}
 use Rattle.mls_book.specs.declared.book.Node.TheVariants as node
-use Rattle.mls_book.specs.Books.{node_at, IsClosedBook}
+use Rattle.mls_book.specs.Books.{node_at}
 use Rattle.mls_automaton.specs.declared.automaton.Polarity.{Polarity}
 use Rattle.mls_automaton.specs.declared.automaton.Arms.{Arms}
 use Rattle.mls_automaton.specs.declared.automaton.FieldSet.{FieldSet}
 use Rattle.mls_automaton.specs.declared.automaton.Head.{Head}
 use Rattle.mls_automaton.specs.Sets.{Rises}
-use Rattle.mls_automaton.specs.declared.automaton.Polarity.TheVariants.{Positive}
 use Rattle.mls_automaton.specs.Automata.{Automaton, polarity_at, head_at}
 use Rattle.mls_automaton.specs.Models.{HasRisingLabels, IsDeterministic}
 use Rattle.mls_automaton.specs.declared.scheme.Scheme.{Scheme}
@@ -18,7 +17,7 @@ use Rattle.mls_automaton.specs.Schemes.{IsScheme}
 use Rattle.mls_typetext.specs.declared.scheme.ReadScheme.{ReadScheme}
 use Rattle.mls_typetext.specs.Texts.{IsTypeText}
 use Rattle.mls_print.specs.Printed.{IsPrinted, HasNamedFields}
-use Rattle.mls_scheme.specs.ReadAutomata.{atoms, IsPolarised, AreTops, IsReadAutomaton}
+use Rattle.mls_scheme.specs.ReadAutomata.{atoms, IsReadFrom}
 use Rattle.mls_deriv.specs.Steps.{HasFrom}
 use Rattle.mls_emit.specs.Trees.{none_node}
 use Rattle.mls_emit.specs.Layouts.{IsTypeLayout}
@@ -67,17 +66,6 @@ HasRisingFields (Some fields) = All (λ (field : FieldSet). Rises field.set) fie
 pub record HasRisingSets (h : Head) : Type 0 where
   pub function : HasRisingArms h.function
   pub fields : HasRisingFields h.fields
-
--- The automaton is read from the book, of which this node is the root: it has a state for each node, and those of the
--- tops have the heads of their layers.
-pub record IsReadFrom (nodes : List Node) (root : ℕ) (b : Automaton) : Type 0 where
-  pub sign : ℕ → Polarity
-  pub is_top : ℕ → Bool
-  pub closed : IsClosedBook nodes
-  pub polarised : IsPolarised sign nodes
-  pub is_positive : sign root ≡ Positive
-  pub tops : AreTops nodes root is_top
-  pub automaton : IsReadAutomaton sign is_top nodes b
 
 -- Where each layer has one function and one record at most, the nodes are a layout of the automaton, in each book that
 -- has them from node n on and nodes of no member.

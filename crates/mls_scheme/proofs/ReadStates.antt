@@ -26,7 +26,7 @@ use Rattle.mls_automaton.proofs.CombinedStates.{combined_in, head_in, same_in, H
 use Rattle.mls_automaton.proofs.Lists.{All-contained, All-one, Contains-here, Contains-later, Contains-map}
 use Rattle.mls_scheme.specs.declared.signs.Task.{Task}
 use Rattle.mls_scheme.specs.ReadAutomata.{atom_parts, atoms, AreChildren, AreTops, IsReadAutomaton}
-use Rattle.mls_scheme.specs.ReadTypes.{IsEquivalentToRead, IsPolarisedRead}
+use Rattle.mls_scheme.specs.ReadTypes.{IsEquivalentToRead, IsPolarisedRead, IsReadFromBook}
 use Rattle.mls_scheme.specs.steps.Signs.{child_tasks, sign_at, task, AreSigned}
 use Rattle.mls_scheme.specs.steps.States.{AreNodeStates, IsNodeState, IsTopState}
 use Rattle.mls_scheme.specs.steps.Uses.{IsEdge}
@@ -200,6 +200,20 @@ module _ (read : ReadScheme) (is : IsReadScheme read) (polarity : IsPolarisedRea
     env = λ x n e. let never : None ≡ Some n = sym (no_binder x) ∙ e in absurd (cc);
   }
 
+  pub read-is_from_book : IsReadFromBook read s
+  read-is_from_book = record {
+    automaton = record {
+      sign = sign;
+      is_top = is_top;
+      closed = is.book;
+      polarised = polarity.polarised;
+      is_positive = polarity.root;
+      tops = tops;
+      automaton = is_read;
+    };
+    root = root;
+  }
+
   pub read-is_equivalent : IsEquivalentToRead read s
   read-is_equivalent u is_u =
       read_equivalent sign (scheme_of read) s u is.book polarity.polarised is_top tops is_read read-is_scheme is_u root no_binder (get-empty nat_cmp)
@@ -207,8 +221,11 @@ module _ (read : ReadScheme) (is : IsReadScheme read) (polarity : IsPolarisedRea
 -- so the scheme that is made is that of what was read
 pub read-made : (read : ReadScheme) → IsReadScheme read → IsPolarisedRead read → (found one two : List (Option Polarity)) → AreSigned read.book read.root.0 found → one ≡ found → two ≡ found
     → (a : Automaton) (s : Scheme) → AreNodeStates read.book one a → s.automaton.states ≡ a.states → ((n p : ℕ) → HasFlow s.automaton n p ↔ IsEdge read.book two n p)
-    → s.root.0 ≡ read.root.0 → s.env ≡ [] → IsScheme s × IsEquivalentToRead read s
+    → s.root.0 ≡ read.root.0 → s.env ≡ [] → IsScheme s × IsEquivalentToRead read s × IsReadFromBook read s
 read-made read is polarity found one two signed is_one is_two a s states same flows root env =
     let states' : AreNodeStates read.book found a = subst (λ (signs : List (Option Polarity)). AreNodeStates read.book signs a) is_one states in
-    let flows' : ((n p : ℕ) → HasFlow s.automaton n p ↔ IsEdge read.book found n p) = subst (λ (signs : List (Option Polarity)). (n p : ℕ) → HasFlow s.automaton n p ↔ IsEdge read.book signs n p) is_two flows in
-    (read-is_scheme read is polarity found signed a s states' same flows' root env, read-is_equivalent read is polarity found signed a s states' same flows' root env)
+    let flows' : ((n p : ℕ) → HasFlow s.automaton n p ↔ IsEdge read.book found n p) = subst (λ (signs : List (Option Polarity)). (n p : ℕ) → HasFlow s.automaton n p ↔ IsEdge read.book signs n p) is_two flows in (
+      read-is_scheme read is polarity found signed a s states' same flows' root env,
+      read-is_equivalent read is polarity found signed a s states' same flows' root env,
+      read-is_from_book read is polarity found signed a s states' same flows' root env,
+    )

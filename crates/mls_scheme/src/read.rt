@@ -3,7 +3,7 @@ ghost use Rattle.std.specs.Prelude.{◌≡◌, [], IfOk};
 ghost use Rattle.mls_typetext.specs.Laws.{IsReadScheme};
 ghost use Rattle.mls_automaton.specs.declared.scheme.Scheme.{Scheme};
 ghost use Rattle.mls_automaton.specs.Schemes.{IsScheme};
-ghost use Rattle.mls_scheme.specs.ReadTypes.{IsEquivalentToRead, IsPolarisedRead, ReadIsPolarised};
+ghost use Rattle.mls_scheme.specs.ReadTypes.{IsEquivalentToRead, IsPolarisedRead, IsReadFromBook, ReadIsPolarised};
 
 use crate::edges::edges_of;
 use crate::signs::signs_of;
@@ -32,6 +32,7 @@ pub fn scheme_of_read(alloc: Global, read: &ReadScheme) -> Result<Scheme, Memory
     requires polarised { IsPolarisedRead read.now }
     ensures scheme { IfOk result IsScheme }
     ensures env { IfOk result (λ (s : Scheme). s.env ≡ []) }
+    ensures book { IfOk result (IsReadFromBook read.now) }
     ensures equivalent { IfOk result (IsEquivalentToRead read.now) }
 {
     let signs = signs_of(alloc, &read.book, read.root.0)?;

@@ -1,7 +1,9 @@
 //! The section of a binding, part by part.
-ghost use Rattle.std.specs.Prelude.{◌≡◌, All, IfSome};
+ghost use Rattle.std.specs.Prelude.{◌≡◌, [], All, IfOk, IfSome};
 ghost use Rattle.mls_automaton.specs.Models.{IsClosed};
+ghost use Rattle.mls_automaton.specs.Schemes.{IsScheme};
 ghost use Rattle.mls_biunify.specs.Rooms.{HoldsStates};
+ghost use Rattle.mls_scheme.specs.ReadTypes.{IsReadFromBook};
 ghost use Rattle.mls_iface.specs.Matches.{IsRead};
 ghost use Rattle.mls_iface.specs.Signatures.{IsEntry};
 ghost use Rattle.mls_emit.specs.TreeNodes.{AreTreeNodes};
@@ -216,6 +218,9 @@ impl Draft {
     // The type of the whole term: its nodes are the first of the book.
     fn whole_type(&mut self, alloc: Global, read: &ReadScheme) -> Result<TypeAt, Memory>
         requires { IsRead read.now }
+        ensures scheme { IfOk result (λ at. IsScheme at.scheme) }
+        ensures env { IfOk result (λ at. at.scheme.env ≡ []) }
+        ensures book { IfOk result (λ at. IsReadFromBook read.now at.scheme) }
     {
         let past = self.book.push(Node::Bot)?;
         let places = own_places(alloc, read.book.len(), past)?;
