@@ -11,3 +11,4 @@ pub mod UnknownsRise
 pub mod Walking
 pub mod WholeWalks
 pub mod NumberedTerms
+pub mod RisingBinders

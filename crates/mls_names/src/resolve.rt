@@ -1,6 +1,7 @@
 //! The meaning of names.
 ghost use Rattle.std.specs.Prelude.{◌≡◌, ◌≢◌, ◌↔◌, ◌++◌, ◌∷◌, [], IfOk, IfErr, OnOk, OnErr, All, IsTrue, length};
 ghost use Rattle.mls_grammar.specs.Modules.{IsModule, AreDistinct};
+ghost use Rattle.mls_term.specs.WellFormed.{HasRisingTree};
 ghost use Rattle.mls_names.specs.Resolution.{Resolves, HasUnknownName};
 
 use crate::resolver::Resolver;
@@ -16,6 +17,7 @@ pub type NameList = List<Name>;
 
 /// Replaces each name of a module by what it means: the innermost binder of that spelling around it; if there is
 /// none, the earlier binding of the module; if there is none, the declaration of the latest import that has it.
+/// Binders are numbered in the order of the text, so one in the body of another has the higher number.
 /// It takes no recursion, so expressions may be as deep as memory allows.
 ///
 /// # Errors
@@ -26,6 +28,7 @@ pub fn resolve(alloc: Global, module: &Module, declared: &[NameList]) -> Result<
     requires declared { length declared.now ≡ length «module».now.imports }
     requires distinct { All AreDistinct declared.now }
     ensures found { IfOk result (λ r. Resolves «module».now declared.now r) }
+    ensures rising { IfOk result (λ r. All (λ b. HasRisingTree b.term.nodes) r.bindings) }
     ensures fault { IfErr result (λ f. f ≢ Fault.Memory → HasUnknownName «module».now declared.now f) }
 {
     let mut resolver = Resolver::new(alloc);

@@ -88,6 +88,30 @@ pub record IsTerm (globals : ℕ) (nodes : List TermNode) (binders lets : ℕ) :
   pub binder_numbers : AreNumbersBelow binders (binders_of tree)
   pub let_numbers : AreNumbersBelow lets (lets_of tree)
 
+-- Binders rise inwards: each binder in the body of a function or a recursion has a higher number than its own.
+abbrev mutual
+  pub HasRisingBinders : TermTree → Type 0
+  HasRisingBinders (bound at x) = Unit {0}
+  HasRisingBinders (inner at k) = Unit {0}
+  HasRisingBinders (global at g) = Unit {0}
+  HasRisingBinders (number at value) = Unit {0}
+  HasRisingBinders (truth at value) = Unit {0}
+  HasRisingBinders (fun at x e) = All (λ y. x < y) (binders_of e) × HasRisingBinders e
+  HasRisingBinders (apply at f a) = HasRisingBinders f × HasRisingBinders a
+  HasRisingBinders (make at fields) = HaveRisingBinders fields
+  HasRisingBinders (project at e label) = HasRisingBinders e
+  HasRisingBinders (choice at c e f) = HasRisingBinders c × HasRisingBinders e × HasRisingBinders f
+  HasRisingBinders (local at k e f) = HasRisingBinders e × HasRisingBinders f
+  HasRisingBinders (fix at x e) = All (λ y. x < y) (binders_of e) × HasRisingBinders e
+
+  pub HaveRisingBinders : TermFields → Type 0
+  HaveRisingBinders no_field = Unit {0}
+  HaveRisingBinders (a_field label e rest) = HasRisingBinders e × HaveRisingBinders rest
+
+-- so do those of the tree of which these nodes are the postorder
+abbrev pub HasRisingTree : List TermNode → Type 0
+HasRisingTree nodes = (t : TermTree) → nodes ≡ postorder 0 t → HasRisingBinders t
+
 -- the children of a tree, each with the number of its first node, where that of the tree is n; not the second part of a
 -- let
 abbrev mutual

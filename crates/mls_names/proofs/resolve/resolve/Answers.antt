@@ -2,6 +2,7 @@ use Rattle.std.proofs.Common.{sym, ◌∙◌, subst}
 use Rattle.std.proofs.lemmas.Result.{err_from_is_err_and}
 use Rattle.mls_names.specs.Resolution.{HasUnknownName}
 use Rattle.mls_names.proofs.Resolving.{is_expression, is_idle, has_unknown_name, so_far_more, resolves}
+use Rattle.mls_names.proofs.RisingBinders.{resolved_rise}
 use Rattle.mls_names.proofs.resolve.resolve.Goals as goal
 
 pub binding-requires-clause-nodes : goal.binding-requires-clause-nodes
@@ -33,3 +34,9 @@ pub returns-clause-found : goal.returns-clause-found
 returns-clause-found c =
     resolves c.args.module.now c.args.declared.now c.requires.module c.as_slice-binding-items.result.now c.loop-binding.binding-index c.loop-binding.resolver c.loop-binding.schemes c.loop-binding.bindings
     c.as_slice-binding-items.ensures c.loop-binding-test.false (c.loop-binding.invariant c.requires.module)
+
+pub returns-clause-rising : goal.returns-clause-rising
+returns-clause-rising c =
+    resolved_rise c.args.module.now c.args.declared.now (record { bindings = c.loop-binding.bindings })
+    (resolves c.args.module.now c.args.declared.now c.requires.module c.as_slice-binding-items.result.now c.loop-binding.binding-index c.loop-binding.resolver c.loop-binding.schemes c.loop-binding.bindings
+    c.as_slice-binding-items.ensures c.loop-binding-test.false (c.loop-binding.invariant c.requires.module))
