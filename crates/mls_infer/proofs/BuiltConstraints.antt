@@ -1,21 +1,21 @@
 -- The steps of the functions that build constraints lead to the constraints of their forms.
 --     true_flows, beside_flows           edges of closed automata, side by side
 --     joined_next, joined_many           schemes side by side, one after another
---     apply_built, choice_built, make_built, project_built     from the steps to the constraint
-use Rattle.std.proofs.Common.{◌≡◌, ◌⊎◌, inl, inr, ℕ, zero, suc, ◌+◌, ◌<◌, List, [], ◌∷◌, ◌++◌, length, take, get_or, refl, sym, ap, ◌∙◌, arith, subst, append-nil, length-append}
+--     application_built, applied_over, turned_over, choice_built, make_built, project_built     from the steps to the constraint
+use Rattle.std.proofs.Common.{◌≡◌, ℕ, zero, suc, ◌+◌, ◌<◌, List, [], ◌∷◌, ◌++◌, length, take, get_or, map, refl, sym, ap, ◌∙◌, arith, subst, append-nil, length-append}
 use Rattle.std.proofs.lemmas.List.{append_assoc, length-map, take_more}
 use Rattle.mls_automaton.specs.declared.automaton.FieldSet.{FieldSet}
-use Rattle.mls_book.proofs.LongerBooks.{below_or_more}
 use Rattle.mls_automaton.specs.declared.automaton.Head.{Head}
 use Rattle.mls_automaton.specs.declared.automaton.State.{State}
 use Rattle.mls_automaton.specs.declared.scheme.EnvEntry.{EnvEntry}
 use Rattle.mls_automaton.specs.declared.scheme.Scheme.{Scheme}
 use Rattle.mls_automaton.specs.Automata.{Automaton, empty_head, flow, HasTrueFlows, with_state}
-use Rattle.mls_automaton.specs.Environments.{BindersRise}
 use Rattle.mls_automaton.specs.Embeddings.{appended}
 use Rattle.mls_automaton.specs.Models.{IsClosed}
 use Rattle.mls_automaton.proofs.Appends.{closed-appended}
-use Rattle.mls_infer.specs.Constraints.{Constraint, id, grown, negative, positive, size, up, joined, function_head, record_head, bool_head, apply_constraint, choice_constraint, make_constraint, project_constraint, Joined}
+use Rattle.mls_infer.specs.Constraints.{Constraint, id, grown, negative, positive, size, up, joined, function_head, record_head, bool_head, application_over, apply_constraint, turned_constraint, choice_constraint, make_constraint, project_constraint, Joined}
+use Rattle.mls_infer.specs.declared.constraints.Open.{Open}
+use Rattle.mls_infer.specs.Posed.{scheme_in}
 use Rattle.mls_infer.specs.Joining.{beside, field_of, raised_entries, with_passage}
 use Rattle.mls_infer.proofs.Beside.{joined_more, joined_two, joined_three, size_appended}
 
@@ -42,38 +42,43 @@ passage_behind a x = λ i. record {
 }
 
 -- the constraint of an application, over an automaton and an environment of both parts
-abbrev apply_over : ℕ → ℕ → Automaton → List EnvEntry → Constraint
-apply_over first r a env =
-    let n = size a in
-    record {
-      scheme = record {
-        automaton = grown a (negative empty_head ∷ positive empty_head ∷ negative (function_head (r ∷ []) (n ∷ [])) ∷ []) (flow n (suc n) ∷ []);
-        env = env;
-        root = id (suc n);
-      };
-      goals = (first, suc (suc n)) ∷ [];
-    }
-
-pub apply_built : (s t : Scheme) (a b d : Automaton) (env : List EnvEntry) (domain codomain root demand : ℕ) (head : Head) (goals : List (ℕ × ℕ))
-    → a ≡ appended s.automaton t.automaton → env ≡ s.env ++ raised_entries (size s.automaton) t.env
+pub application_built : (j : Joined) (q r : ℕ) (a b d : Automaton) (env : List EnvEntry) (domain codomain root demand : ℕ) (head : Head) (goals : List (ℕ × ℕ))
+    → a ≡ j.automaton → env ≡ j.env
     → b ≡ with_passage a → d ≡ with_state b (negative head) → head ≡ function_head (domain ∷ []) (codomain ∷ [])
-    → domain ≡ size s.automaton + t.root.0 → codomain ≡ size a → root ≡ suc (size a) → demand ≡ length b.states
-    → goals ≡ (s.root.0, demand) ∷ []
-    → record { scheme = record { automaton = d; env = env; root = id root }; goals = goals } ≡ apply_constraint s t
-apply_built s t a b d env domain codomain root demand head goals a_is env_is b_is d_is head_is domain_is codomain_is root_is demand_is goals_is =
+    → domain ≡ r → codomain ≡ size a → root ≡ suc (size a) → demand ≡ length b.states
+    → goals ≡ (q, demand) ∷ []
+    → record { scheme = record { automaton = d; env = env; root = id root }; goals = goals } ≡ application_over q r j
+application_built j q r a b d env domain codomain root demand head goals a_is env_is b_is d_is head_is domain_is codomain_is root_is demand_is goals_is =
     let n : ℕ = size a in
-    let r : ℕ = size s.automaton + t.root.0 in
     let head_is' : head ≡ function_head (r ∷ []) (n ∷ []) = head_is ∙ (λ i. function_head (domain_is i ∷ []) (codomain_is i ∷ [])) in
     let d_is' : d ≡ grown a (negative empty_head ∷ positive empty_head ∷ negative (function_head (r ∷ []) (n ∷ [])) ∷ []) (flow n (suc n) ∷ []) =
     d_is ∙ ((λ i. with_state (b_is i) (negative (head_is' i))) ∙ behind_passage a (negative (function_head (r ∷ []) (n ∷ [])))) in
     let demand_is' : demand ≡ suc (suc n) = demand_is ∙ (ap (λ (x : Automaton). length x.states) b_is ∙ passage_two a) in
-    let goals_is' : goals ≡ (s.root.0, suc (suc n)) ∷ [] = goals_is ∙ ap (λ m. (s.root.0, m) ∷ []) demand_is' in
+    let goals_is' : goals ≡ (q, suc (suc n)) ∷ [] = goals_is ∙ ap (λ m. (q, m) ∷ []) demand_is' in
     (λ i. record { scheme = record { automaton = d_is' i; env = env_is i; root = id (root_is i) }; goals = goals_is' i })
-    ∙ (ap (λ a. apply_over s.root.0 r a (s.env ++ raised_entries (size s.automaton) t.env)) a_is
-    ∙ sym (ap (λ j. apply_over s.root.0 r j.automaton j.env) (joined_two s t)))
+    ∙ ap (λ a. application_over q r (record { automaton = a; env = j.env; roots = j.roots })) a_is
   where
     passage_two : (a : Automaton) → size (with_passage a) ≡ suc (suc (size a))
     passage_two a = let all : size (with_passage a) ≡ size a + 2 = length-append a.states (negative empty_head ∷ positive empty_head ∷ []) in omega arith
+
+-- two parts side by side, with the function in front or the argument
+module _ (first second : Scheme) (a : Automaton) (env : List EnvEntry) (root : ℕ)
+    (a_is : a ≡ appended first.automaton second.automaton) (env_is : env ≡ first.env ++ raised_entries (size first.automaton) second.env)
+    (root_is : root ≡ size first.automaton + second.root.0) where
+  abbrev both : Joined
+  both = joined (first ∷ second ∷ [])
+
+  -- the roots of parts side by side do not count
+  over_both : (q r : ℕ) → application_over q r (record { automaton = a; env = env; roots = [] }) ≡ application_over q r both
+  over_both q r =
+      (λ i. application_over q r (record { automaton = a_is i; env = env_is i; roots = [] }))
+      ∙ sym (ap (application_over q r) (joined_two first second))
+
+  pub applied_over : application_over first.root.0 root (record { automaton = a; env = env; roots = [] }) ≡ apply_constraint first second
+  applied_over = over_both first.root.0 root ∙ ap (λ r. application_over first.root.0 r both) root_is
+
+  pub turned_over : application_over root first.root.0 (record { automaton = a; env = env; roots = [] }) ≡ turned_constraint second first
+  turned_over = over_both root first.root.0 ∙ ap (λ q. application_over q first.root.0 both) root_is
 
 -- the constraint of a conditional
 abbrev choice_over : ℕ → ℕ → ℕ → Automaton → List EnvEntry → Constraint
@@ -180,12 +185,8 @@ module _ (ss : List Scheme) (i : ℕ) (s : Scheme) (low : i < length ss) (is : s
         roots'_is ∙ ((λ k. roots_is k ++ root_is' k ∷ []) ∙ sym (ap (λ (j : Joined). j.roots) next)),
       )
 
-  pub rise_step : BindersRise s.env → ((k : ℕ) (d : Scheme) → k < i → BindersRise (get_or ss k d).env) → (k : ℕ) (d : Scheme) → k < i + 1 → BindersRise (get_or ss k d).env
-  rise_step rise before k d le = go (below_or_more k i)
-    where
-      go : (k < i) ⊎ ((j : ℕ) × (k ≡ i + j)) → BindersRise (get_or ss k d).env
-      go (inl less) = before k d less
-      go (inr it) =
-          let at : i ≡ k = let k_is : k ≡ i + it.0 = it.1 in omega arith in
-          let P : ℕ → Type 0 = λ k. BindersRise (get_or ss k d).env in
-          subst P at (subst (λ (x : Scheme). BindersRise x.env) (is ∙ same_default ss i s d low) rise)
+-- the scheme of a part of a list
+pub scheme_at : (parts : List Open) (i : ℕ) (part : Open) → i < length parts → part ≡ get_or parts i part → scheme_in part ≡ get_or (map scheme_in parts) i (scheme_in part)
+scheme_at [] i part low is = absurd (omega arith)
+scheme_at (x ∷ rest) zero part low is = ap scheme_in is
+scheme_at (x ∷ rest) (suc i) part low is = scheme_at rest i part (omega arith) is

@@ -22,7 +22,7 @@ use Rattle.mls_automaton.specs.Embeddings.{appended, renamed_state, renamed_flow
 use Rattle.mls_automaton.specs.Models.{HasStatesIn, HasRisingLabels, IsClosed}
 use Rattle.mls_automaton.proofs.Appends.{closed-appended, second-embedded}
 use Rattle.mls_automaton.proofs.Lists.{Contains-cases, Contains-here, Contains-later, Contains-filtered, All-one, All-contained}
-use Rattle.mls_infer.specs.Constraints.{Constraint, HasStates, no_goals, up, grown, size, joined, negative, positive, function_head, record_head, bool_head, int_head, states_of, renamed_entry, fun_constraint, fix_constraint, project_constraint, apply_constraint, choice_constraint, let_constraint, make_constraint, bound_constraint, literal_constraint}
+use Rattle.mls_infer.specs.Constraints.{Constraint, HasStates, no_goals, up, grown, size, joined, negative, positive, function_head, record_head, bool_head, int_head, AreStatesOf, states_of, renamed_entry, fun_constraint, fix_constraint, project_constraint, application_over, apply_constraint, turned_constraint, choice_constraint, let_constraint, make_constraint, bound_constraint, literal_constraint}
 use Rattle.mls_automaton.specs.Heads.{AreRising}
 use Rattle.mls_term.specs.Terms.{TermTree, TermFields, bound, inner, global, number, truth, fun, apply, make, project, choice, local, fix}
 use Rattle.mls_term.specs.Derivations.{Known}
@@ -190,19 +190,19 @@ module _ (x : ℕ) (s : Scheme) (is : HasStates s) where
         (is.root, All-contains (IsState s.automaton Negative) (states_of x s.env) it.0 states_negative it.1);
   }
 
-  pub fun_closed : IsWellFormed (fun_constraint x s)
-  fun_closed =
+  pub fun_closed : (set : List ℕ) → AreStatesOf x s set → IsWellFormed (fun_constraint set x s)
+  fun_closed set of_binder =
       let a : Automaton = s.automaton in
-      let states : List State = positive (function_head (states_of x s.env) (s.root.0 ∷ [])) ∷ [] in
+      let states : List State = positive (function_head set (s.root.0 ∷ [])) ∷ [] in
       let b : Automaton = grown a states [] in
       let n_is : size a + 0 ≡ size a = omega arith in
       record {
         states = record {
           automaton =
               grown_closed a states [] is.automaton
-              (All-one (IsGoodState a states []) (positive (function_head (states_of x s.env) (s.root.0 ∷ []))) (
-                function_good b Positive (states_of x s.env) (s.root.0 ∷ [])
-                    (λ i d low. old_state a states [] Negative (get_or (states_of x s.env) i d) (states_negative i d low))
+              (All-one (IsGoodState a states []) (positive (function_head set (s.root.0 ∷ []))) (
+                function_good b Positive set (s.root.0 ∷ [])
+                    (All-contained (IsState b Negative) set (λ m inside. old_state a states [] Negative m (All-contains (IsState a Negative) (states_of x s.env) m states_negative ((of_binder m).0 inside))))
                     (All-one (IsState b Positive) s.root.0 (old_state a states [] Positive s.root.0 is.root)),
                 tt,
               ))
@@ -238,34 +238,41 @@ project_closed label s is =
       goals = one_goal_more b s.root.0 (suc (suc n)) [] (old_state a states flows Positive s.root.0 is.root) two_is (no_goals_left b);
     }
 
-pub apply_closed : (s t : Scheme) → HasStates s → HasStates t → IsWellFormed (apply_constraint s t)
-apply_closed s t is_s is_t =
-    let ss : List Scheme = s ∷ t ∷ [] in
-    let are : AllHaveStates ss = (is_s, (is_t, tt)) in
+application_closed : (ss : List Scheme) → AllHaveStates ss → (q r : ℕ) → Contains (joined ss).roots q → Contains (joined ss).roots r → IsWellFormed (application_over q r (joined ss))
+application_closed ss are q r q_there r_there =
     let a : Automaton = (joined ss).automaton in
     let n : ℕ = size a in
-    let r : ℕ = size s.automaton + t.root.0 in
     let states : List State = negative empty_head ∷ positive empty_head ∷ negative (function_head (r ∷ []) (n ∷ [])) ∷ [] in
     let flows : List Flow = flow n (suc n) ∷ [] in
     let b : Automaton = grown a states flows in
     let n_is : IsState b Negative n = at_new b Negative n 0 n (new_state a states flows 0 (omega arith) Negative refl) (omega arith) in
     let suc_is : IsState b Positive (suc n) = at_new b Positive n 1 (suc n) (new_state a states flows 1 (omega arith) Positive refl) (omega arith) in
     let two_is : IsState b Negative (suc (suc n)) = at_new b Negative n 2 (suc (suc n)) (new_state a states flows 2 (omega arith) Negative refl) (omega arith) in
-    let s_root : IsState b Positive s.root.0 = old_state a states flows Positive s.root.0 (joined_positive ss are s.root.0 (Contains-here s.root.0 (r ∷ []))) in
-    let t_root : IsState b Positive r = old_state a states flows Positive r (joined_positive ss are r (Contains-later s.root.0 (r ∷ []) r (Contains-here r []))) in
+    let q_root : IsState b Positive q = old_state a states flows Positive q (joined_positive ss are q q_there) in
+    let r_root : IsState b Positive r = old_state a states flows Positive r (joined_positive ss are r r_there) in
     record {
       states = record {
         automaton =
             grown_closed a states flows (joined_closed ss are)
             (All-three (IsGoodState a states flows) (negative empty_head) (positive empty_head) (negative (function_head (r ∷ []) (n ∷ [])))
             (no_head_good b Negative, tt) (no_head_good b Positive, tt)
-            (function_good b Negative (r ∷ []) (n ∷ []) (All-one (IsState b Positive) r t_root) (All-one (IsState b Negative) n n_is), tt))
+            (function_good b Negative (r ∷ []) (n ∷ []) (All-one (IsState b Positive) r r_root) (All-one (IsState b Negative) n n_is), tt))
             (one_flow_only b n (suc n) n_is suc_is);
         root = suc_is;
         env = λ entry inside. old_state a states flows Negative entry.state.0 (joined_negative ss are entry inside);
       };
-      goals = one_goal_more b s.root.0 (suc (suc n)) [] s_root two_is (no_goals_left b);
+      goals = one_goal_more b q (suc (suc n)) [] q_root two_is (no_goals_left b);
     }
+
+pub apply_closed : (s t : Scheme) → HasStates s → HasStates t → IsWellFormed (apply_constraint s t)
+apply_closed s t is_s is_t =
+    let r : ℕ = size s.automaton + t.root.0 in
+    application_closed (s ∷ t ∷ []) (is_s, (is_t, tt)) s.root.0 r (Contains-here s.root.0 (r ∷ [])) (Contains-later s.root.0 (r ∷ []) r (Contains-here r []))
+
+pub turned_closed : (s t : Scheme) → HasStates s → HasStates t → IsWellFormed (turned_constraint s t)
+turned_closed s t is_s is_t =
+    let q : ℕ = size t.automaton + s.root.0 in
+    application_closed (t ∷ s ∷ []) (is_t, (is_s, tt)) q t.root.0 (Contains-later t.root.0 (q ∷ []) q (Contains-here q [])) (Contains-here t.root.0 (q ∷ []))
 
 pub let_closed : (s t : Scheme) → HasStates s → HasStates t → IsWellFormed (let_constraint s t)
 let_closed s t is_s is_t =
@@ -390,8 +397,9 @@ constraint_closed known (global at g) [] c are is = same_form c (no_goals is.0) 
 constraint_closed known (bound at x) [] c are is = same_form c (bound_constraint x) is (bound_closed x)
 constraint_closed known (number at value) [] c are is = same_form c (literal_constraint int_head) is (literal_closed int_head (λ a. record { function = tt; fields = tt }) tt)
 constraint_closed known (truth at value) [] c are is = same_form c (literal_constraint bool_head) is (literal_closed bool_head (λ a. record { function = tt; fields = tt }) tt)
-constraint_closed known (fun at x e) (s ∷ []) c are is = same_form c (fun_constraint x s) is (fun_closed x s are.0)
-constraint_closed known (apply at e e') (s ∷ t ∷ []) c are is = same_form c (apply_constraint s t) is (apply_closed s t are.0 are.1.0)
+constraint_closed known (fun at x e) (s ∷ []) c are is = same_form c (fun_constraint is.0 x s) is.2 (fun_closed x s are.0 is.0 is.1)
+constraint_closed known (apply at e e') (s ∷ t ∷ []) c are (inl applied) = same_form c (apply_constraint s t) applied (apply_closed s t are.0 are.1.0)
+constraint_closed known (apply at e e') (s ∷ t ∷ []) c are (inr turned) = same_form c (turned_constraint s t) turned (turned_closed s t are.0 are.1.0)
 constraint_closed known (make at parts) ss c are is = same_form c (make_constraint is.0 ss) is.2 (make_closed parts is.0 ss are is.1)
 constraint_closed known (project at e label) (s ∷ []) c are is = same_form c (project_constraint label s) is (project_closed label s are.0)
 constraint_closed known (choice at e e1 e2) (r ∷ s ∷ t ∷ []) c are is = same_form c (choice_constraint r s t) is (choice_closed r s t are.0 are.1.0 are.1.1.0)

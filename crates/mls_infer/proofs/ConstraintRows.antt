@@ -31,7 +31,7 @@ use Rattle.mls_automaton.specs.Heads.{set_value, set_at, record_value, head_valu
 use Rattle.mls_automaton.specs.Models.{IsClosed, IsModel, IsInside}
 use Rattle.mls_automaton.proofs.Lists.{Contains-cases, Contains-here, Contains-filter, Contains-filtered, passes-filtered, Contains-map, All-contained}
 use Rattle.mls_typing.specs.Typed.{IsTypeOf, IsType, with_binder, OfBound, OfFun, one_field, OfProject, OfFix}
-use Rattle.mls_infer.specs.Constraints.{HasTypes, HasStates, no_goals, size, negative, positive, function_head, record_head, bool_head, int_head, states_of, without, bound_constraint, literal_constraint, fun_constraint, fix_constraint, project_constraint}
+use Rattle.mls_infer.specs.Constraints.{HasTypes, HasStates, no_goals, size, negative, positive, function_head, record_head, bool_head, int_head, AreStatesOf, states_of, without, bound_constraint, literal_constraint, fun_constraint, fix_constraint, project_constraint}
 use Rattle.mls_infer.proofs.Grown.{Contains-mapped, AreUpward, grown-model, model-grown, model_agree}
 use Rattle.mls_infer.proofs.HeadValues.{set_one, empty_value, bool_value, int_value, function_head-value, record_head-value}
 use Rattle.mls_typing.proofs.Readings.{two_readings, read_below, read_at, readings_held}
@@ -251,19 +251,19 @@ module _ (x : ℕ) (s : Scheme) (is : HasStates s) (types : ℕ → Predicate) (
             env = above_others h.value it.body_type h.env;
           }
 
-  abbrev head : Head
-  head = function_head (states_of x s.env) (s.root.0 ∷ [])
+  abbrev head : List ℕ → Head
+  head set = function_head set (s.root.0 ∷ [])
 
-  pub fun_row : HasTypes (fun_constraint x s) types f ↔ OfFun x (HasTypes (no_goals s)) types f
-  fun_row = (forth, back)
+  pub fun_row : (set : List ℕ) → AreStatesOf x s set → HasTypes (fun_constraint set x s) types f ↔ OfFun x (HasTypes (no_goals s)) types f
+  fun_row set of_binder = (forth, back)
     where
-      forth : HasTypes (fun_constraint x s) types f → OfFun x (HasTypes (no_goals s)) types f
+      forth : HasTypes (fun_constraint set x s) types f → OfFun x (HasTypes (no_goals s)) types f
       forth h =
           let T : ℕ → Predicate = h.value in
-          let it = grown-model a (positive head ∷ []) [] T h.model in
-          let domain : Predicate = meets (map T (states_of x s.env)) in
-          let one = meets_held h.nodes h.closed T h.held (states_of x s.env) in
-          let value : head_value Positive T head ≡ arrow domain (T s.root.0) = function_head-value Positive T (states_of x s.env) (s.root.0 ∷ []) ∙ ap (arrow domain) (set_one Positive T s.root.0) in
+          let it = grown-model a (positive (head set) ∷ []) [] T h.model in
+          let domain : Predicate = meets (map T (set)) in
+          let one = meets_held h.nodes h.closed T h.held (set) in
+          let value : head_value Positive T (head set) ≡ arrow domain (T s.root.0) = function_head-value Positive T (set) (s.root.0 ∷ []) ∙ ap (arrow domain) (set_one Positive T s.root.0) in
           record {
             domain = domain;
             codomain = T s.root.0;
@@ -277,12 +277,12 @@ module _ (x : ℕ) (s : Scheme) (is : HasStates s) (types : ℕ → Predicate) (
               model = it.0;
               goals = λ p n inside. absurd (nothing_in (p, n) inside);
               root = Implies-refl (T s.root.0);
-              env = entry_above T domain (λ m inside. meets_lower T (states_of x s.env) m inside) h.env;
+              env = entry_above T domain (λ m inside. meets_lower T set m ((of_binder m).1 inside)) h.env;
             };
             below = Implies-trans (arrow domain (T s.root.0)) (T n) f (subst (λ g. Implies g (T n)) value it.1.0) h.root;
           }
 
-      back : OfFun x (HasTypes (no_goals s)) types f → HasTypes (fun_constraint x s) types f
+      back : OfFun x (HasTypes (no_goals s)) types f → HasTypes (fun_constraint set x s) types f
       back it =
           let h = it.body in
           let T : ℕ → Predicate = h.value in
@@ -303,21 +303,21 @@ module _ (x : ℕ) (s : Scheme) (is : HasStates s) (types : ℕ → Predicate) (
           let at_n : n ≡ n + 0 = omega arith in
           let new : V n ≡ result = read_at n T (λ i. result) n 0 at_n in
           let old_held : (m : ℕ) → IsTypeOf b (T m) = λ m. IsIn-longer h.nodes b (T m) h.closed (Extends-trans h.nodes one.0 b one.1 two.1) (h.held m) in
-          let domain_below : Implies it.domain (meets (map V (states_of x s.env))) =
-          meets_greatest V (states_of x s.env) it.domain
-          (All-contained (λ m. Implies it.domain (V m)) (states_of x s.env)
-          (λ m inside. subst (Implies it.domain) (sym (old m (low_states m inside))) (above_states T it.domain h.env m inside))) in
-          let value : head_value Positive V head ≡ arrow (meets (map V (states_of x s.env))) (T s.root.0) =
-          function_head-value Positive V (states_of x s.env) (s.root.0 ∷ []) ∙ ap (arrow (meets (map V (states_of x s.env)))) (set_one Positive V s.root.0 ∙ old s.root.0 is.root.in_range) in
-          let inside : Implies (head_value Positive V head) (V n) =
-          subst (λ g. Implies g (V n)) (sym value) (subst (Implies (arrow (meets (map V (states_of x s.env))) (T s.root.0))) (sym new)
-          (arrow-implies (meets (map V (states_of x s.env))) (T s.root.0) it.domain (T s.root.0) domain_below (Implies-refl (T s.root.0)))) in
+          let domain_below : Implies it.domain (meets (map V (set))) =
+          meets_greatest V (set) it.domain
+          (All-contained (λ m. Implies it.domain (V m)) (set)
+          (λ m inside. subst (Implies it.domain) (sym (old m (low_states m ((of_binder m).0 inside)))) (above_states T it.domain h.env m ((of_binder m).0 inside)))) in
+          let value : head_value Positive V (head set) ≡ arrow (meets (map V (set))) (T s.root.0) =
+          function_head-value Positive V (set) (s.root.0 ∷ []) ∙ ap (arrow (meets (map V (set)))) (set_one Positive V s.root.0 ∙ old s.root.0 is.root.in_range) in
+          let inside : Implies (head_value Positive V (head set)) (V n) =
+          subst (λ g. Implies g (V n)) (sym value) (subst (Implies (arrow (meets (map V (set))) (T s.root.0))) (sym new)
+          (arrow-implies (meets (map V (set))) (T s.root.0) it.domain (T s.root.0) domain_below (Implies-refl (T s.root.0)))) in
           record {
             nodes = b;
             closed = two.1.closed;
             value = V;
             held = readings_held n b T (λ i. result) (λ m low. old_held m) (λ i. result_held);
-            model = model-grown a (positive head ∷ []) [] V (model_agree a is.automaton T V (λ m low. sym (old m low)) h.model) (inside, tt) (λ e there. absurd (nothing_in e there));
+            model = model-grown a (positive (head set) ∷ []) [] V (model_agree a is.automaton T V (λ m low. sym (old m low)) h.model) (inside, tt) (λ e there. absurd (nothing_in e there));
             goals = λ p m there. absurd (nothing_in (p, m) there);
             root =
                 Implies-trans (V n) (arrow it.domain it.codomain) f

@@ -2,28 +2,31 @@
 --     some_there, scheme_there     each part has a scheme
 --     keeps_self, keeps_take       and nothing else is taken
 --     each_more, take_low, not_taken, kept_more       parts of a record in turn
-use Rattle.std.proofs.Common.{◌≡◌, ◌≢◌, ◌⊎◌, inl, inr, ℕ, zero, suc, ◌+◌, ◌<◌, List, [], ◌∷◌, ◌++◌, length, map, take, get_or, All, Contains, refl, sym, ap, ◌∙◌, subst, arith, Some, slice_get}
+--     own_parts                    the constraint over the schemes of the parts themselves
+use Rattle.std.proofs.Common.{◌≡◌, ◌≢◌, ◌⊎◌, inl, inr, ℕ, zero, suc, ◌+◌, ◌<◌, List, [], ◌∷◌, ◌++◌, length, map, take, get_or, All, Contains, refl, sym, ap, ◌∙◌, subst, arith, Some, slice_get, slice_set}
 use Rattle.std.specs.List.{AllPairs}
 use Rattle.std.proofs.lemmas.List.{get_or-take, length-map, length-take-le, take_more}
 use Rattle.std.proofs.lemmas.List.Elements.{All-head, Contains-append_left, Contains-append_right}
 use Rattle.mls_automaton.specs.declared.scheme.Scheme.{Scheme}
-use Rattle.mls_automaton.specs.Schemes.{IsScheme}
 use Rattle.mls_automaton.proofs.Lists.{Contains-cases, Contains-here}
 use Rattle.mls_term.specs.declared.term.Part.{Part}
 use Rattle.mls_term.specs.declared.term.TermForm.{TermForm}
 use Rattle.mls_typing.proofs.Lists.{nothing_in}
 use Rattle.mls_infer.specs.Finished.{Finished, Has, HasEach, child_of}
-use Rattle.mls_infer.specs.Finishing.{children, HasParts, KeepsOthers}
+use Rattle.mls_infer.specs.Constraints.{Constraint, HasStates}
+use Rattle.mls_infer.specs.Merges.{AreAlike}
+use Rattle.mls_infer.specs.Finishing.{children, HasConstraint, HasParts, IsPosed, KeepsOthers}
+use Rattle.mls_infer.proofs.SideBySide.{AllHaveStates}
 use Rattle.mls_infer.proofs.Going.{one_each}
 
-each_some : (done : Finished) (is : List ℕ) (ss : List Scheme) (i : ℕ) → HasEach done is ss → Contains is i → (s : Scheme) × Has done i s × (All IsScheme ss → IsScheme s)
+each_some : (done : Finished) (is : List ℕ) (ss : List Scheme) (i : ℕ) → HasEach done is ss → Contains is i → (s : Scheme) × Has done i s × (All HasStates ss → HasStates s)
 each_some done [] [] i each inside = absurd (nothing_in i inside)
 each_some done [] (s ∷ ss) i each inside = absurd each
 each_some done (j ∷ is) [] i each inside = absurd each
 each_some done (j ∷ is) (s ∷ ss) i each inside = by_case (Contains-cases j is i inside) (each_some done is ss i each.1)
   where
-    by_case : (j ≡ i) ⊎ Contains is i → (Contains is i → (t : Scheme) × Has done i t × (All IsScheme ss → IsScheme t)) → (t : Scheme) × Has done i t × (All IsScheme (s ∷ ss) → IsScheme t)
-    by_case (inl same) later = let P : ℕ → Type 0 = λ i. Has done i s in (s, subst P same each.0, λ all. All-head IsScheme s ss all)
+    by_case : (j ≡ i) ⊎ Contains is i → (Contains is i → (t : Scheme) × Has done i t × (All HasStates ss → HasStates t)) → (t : Scheme) × Has done i t × (All HasStates (s ∷ ss) → HasStates t)
+    by_case (inl same) later = let P : ℕ → Type 0 = λ i. Has done i s in (s, subst P same each.0, λ all. All-head HasStates s ss all)
     by_case (inr there) later = let it = later there in (it.0, it.1, λ all. it.2 (λ k d low. all (suc k) d (omega arith)))
 
 pub one_scheme : (done : Finished) (i : ℕ) (s t : Scheme) → Has done i s → Has done i t → s ≡ t
@@ -33,8 +36,8 @@ module _ (node : TermForm) (done : Finished) (parts : HasParts node done) (i : �
   pub some_there : (s : Scheme) × Has done i s
   some_there = let it = each_some done (children node) parts.schemes i parts.each inside in (it.0, it.1)
 
-  pub scheme_there : (s : Scheme) → Has done i s → IsScheme s
-  scheme_there s has = let it = each_some done (children node) parts.schemes i parts.each inside in subst IsScheme (one_scheme done i it.0 s it.1 has) (it.2 parts.are)
+  pub scheme_there : (s : Scheme) → Has done i s → HasStates s
+  scheme_there s has = let it = each_some done (children node) parts.schemes i parts.each inside in subst HasStates (one_scheme done i it.0 s it.1 has) (it.2 parts.are)
 
 pub keeps_self : (node : TermForm) (done : Finished) → KeepsOthers node done done
 keeps_self node done = record { size = refl; kept = λ j out. refl }
@@ -116,5 +119,22 @@ pub keeps_one : (node : TermForm) (a b : Finished) (i : ℕ) → Contains (child
 keeps_one node a b i inside size kept = keeps_take node a a b i (keeps_self node a) inside size kept
 
 -- the schemes that are taken are those that were there
-pub taken_schemes : (done : Finished) (is : List ℕ) (ss ts : List Scheme) → HasEach done is ss → All IsScheme ss → HasEach done is ts → All IsScheme ts
-taken_schemes done is ss ts each are taken = let P : List Scheme → Type 0 = All IsScheme in subst P (one_each done is ss ts each taken) are
+pub taken_schemes : (done : Finished) (is : List ℕ) (ss ts : List Scheme) → HasEach done is ss → All HasStates ss → HasEach done is ts → All HasStates ts
+taken_schemes done is ss ts each are taken = let P : List Scheme → Type 0 = All HasStates in subst P (one_each done is ss ts each taken) are
+
+-- schemes have their own types
+alike_self : (ss : List Scheme) → AllHaveStates ss → AreAlike ss ss
+alike_self [] are = tt
+alike_self (s ∷ ss) are = ((are.0, λ types f. (λ h. h, λ h. h)), alike_self ss are.1)
+
+-- the constraint over the schemes themselves
+pub own_parts : (node : TermForm) (done : Finished) (ss : List Scheme) (c : Constraint) → HasEach done (children node) ss → AllHaveStates ss → IsPosed node ss c → HasConstraint node done c
+own_parts node done ss c each are posed = record { schemes = ss; each = each; taken = ss; alike = alike_self ss are; is = posed }
+
+-- where one item of a list is changed, the others stay
+pub other_item : {X : Type 0} (xs : List X) (i j : ℕ) (x : X) → j ≢ i → slice_get (slice_set xs i x) j ≡ slice_get xs j
+other_item [] i j x apart = refl
+other_item (y ∷ ys) zero zero x apart = absurd (apart refl)
+other_item (y ∷ ys) zero (suc j) x apart = refl
+other_item (y ∷ ys) (suc i) zero x apart = refl
+other_item (y ∷ ys) (suc i) (suc j) x apart = other_item ys i j x (λ same. apart (ap suc same))

@@ -10,8 +10,6 @@ use Rattle.std.proofs.lemmas.List.Elements.{All-cons}
 use Rattle.std.proofs.lemmas.List.Kept.{AllPairs-cons}
 use Rattle.mls_book.specs.Schemes as book
 use Rattle.mls_automaton.specs.declared.scheme.Scheme.{Scheme}
-use Rattle.mls_automaton.specs.Environments.{BindersRise}
-use Rattle.mls_automaton.specs.Schemes.{IsScheme}
 use Rattle.mls_automaton.proofs.BooksExist.{scheme_exists}
 use Rattle.mls_term.specs.declared.term.TermForm.{TermForm}
 use Rattle.mls_term.specs.declared.term.TermForm.TheVariants as form
@@ -24,18 +22,32 @@ use Rattle.mls_term.proofs.Metatheory.{AreSchemes-let}
 use Rattle.mls_typing.specs.Runs.{is_let, best, none, Infers}
 use Rattle.mls_typing.proofs.Inference.{AreInTurn, parts_in_turn, in_turn_le, infers_right}
 use Rattle.mls_infer.specs.declared.fault.SiteKind.{SiteKind}
-use Rattle.mls_infer.specs.Constraints.{Constraint}
+use Rattle.mls_typing.proofs.Rows.{both_ways}
+use Rattle.mls_infer.specs.Constraints.{Constraint, HasStates, no_goals}
+use Rattle.mls_infer.specs.Merges.{AreAlike, AreMergedSchemes, HaveSameTypes}
 use Rattle.mls_infer.specs.Inference.{AreBestFor, IsKindAt}
 use Rattle.mls_infer.specs.Steps.{IsReadAs, IsSolution, IsConstraintOf}
 use Rattle.mls_infer.specs.Finished.{Finished, Has, HasEach}
 use Rattle.mls_infer.specs.Finishing.{children, IsBuilt, IsPosed, Scope, HasConstraint, HasParts, CanStep, is_copied, is_read, IsAnswer, is_named, is_solved, IsStep, IsStop, GoesOn}
-use Rattle.mls_infer.proofs.Inferred.{Inferred, AllInferred, automata_of, inferred_step, inferred_none}
+use Rattle.mls_infer.proofs.Inferred.{Inferred, AllInferred, all_states, automata_of, inferred_step, inferred_none}
+use Rattle.mls_infer.proofs.MergedSchemes.{merged_exists}
+use Rattle.mls_infer.proofs.NodeKinds.{kind_merged}
 use Rattle.mls_infer.proofs.OneState.{rising_found}
 use Rattle.mls_infer.proofs.Reading.{read_as}
 
--- each automaton with rising binders is read as a scheme
-pub read_scheme : (s : Scheme) → IsScheme s → BindersRise s.env → (u : book.Scheme) × IsReadAs s u
-read_scheme s is rise = let it = scheme_exists s is in (it.0, read_as s is (rising_found s.env rise) it.0 it.1)
+-- schemes with the same types are read alike
+pub read_alike : (s t : Scheme) (u : book.Scheme) → HaveSameTypes (no_goals s) (no_goals t) → IsReadAs t u → IsReadAs s u
+read_alike s t u same read = record { is = read.is; just = λ types f. both_ways (same types f) (read.just types f) }
+
+pub types_back : (c d : Constraint) → HaveSameTypes c d → HaveSameTypes d c
+types_back c d same types f = let it = same types f in (it.1, it.0)
+
+-- each automaton is read as a scheme
+pub read_scheme : (s : Scheme) → HasStates s → (u : book.Scheme) × IsReadAs s u
+read_scheme s states =
+    let it = merged_exists s states in
+    let one = scheme_exists it.0 it.1.is in
+    (one.0, read_alike s it.0 one.0 it.1.types (read_as it.0 it.1.is (rising_found it.0.env it.1.rise) one.0 one.1))
 
 -- wherever the expression is a part of a whole, this is the kind of a node of the whole
 abbrev pub KindIn : Known → ℕ → TermTree → ℕ → SiteKind → Type 0
@@ -73,7 +85,6 @@ module _ (known : Known) (i : ℕ) (m : SiteKind) where
 -- a finished part, whose automaton is there
 pub record Done (known : Known) (n : ℕ) (t : TermTree) (done : Finished) : Type 0 where
   pub part : Inferred known n t
-  pub is : IsScheme part.automaton
   pub there : Has done (n + before t) part.automaton
 
 abbrev pub AllDone : Known → List (ℕ × TermTree) → Finished → Type 0
@@ -91,7 +102,7 @@ pub agree_self : (n : ℕ) (a : Finished) → Agree n a a
 agree_self n a j low = refl
 
 abbrev pub done_later : (known : Known) (n m : ℕ) (t : TermTree) (old new : Finished) → n + before t < m → Agree m old new → Done known n t old → Done known n t new
-done_later known n m t old new low agree it = record { part = it.part; is = it.is; there = agree (n + before t) low ∙ it.there }
+done_later known n m t old new low agree it = record { part = it.part; there = agree (n + before t) low ∙ it.there }
 
 abbrev pub root_of : ℕ × TermTree → ℕ
 root_of part = part.0 + before part.1
@@ -138,16 +149,35 @@ module _ (known : Known) (done : Finished) where
   has_each [] all = tt
   has_each (part ∷ parts) all = (all.0.there, has_each parts all.1)
 
-  all_schemes : (parts : List (ℕ × TermTree)) (all : AllDone known parts done) → All IsScheme (automata_of known parts (inferred_all parts all))
-  all_schemes [] all = λ i d low. absurd (omega arith)
-  all_schemes (part ∷ parts) all = All-cons IsScheme all.0.part.automaton (automata_of known parts (inferred_all parts all.1)) all.0.is (all_schemes parts all.1)
+module _ (known : Known) where
+  -- a part whose automaton is another with the same types
+  abbrev pub alike_part : (n : ℕ) (t : TermTree) (part : Inferred known n t) (s : Scheme) → HasStates s → HaveSameTypes (no_goals part.automaton) (no_goals s) → Inferred known n t
+  alike_part n t part s states same = record {
+    automaton = s;
+    scheme = part.scheme;
+    states = states;
+    read = read_alike s part.automaton part.scheme (types_back (no_goals part.automaton) (no_goals s) same) part.read;
+    infers = part.infers;
+  }
 
-  -- finished parts have most general schemes
-  pub parts_best : (globals : List book.Scheme) (whole : TermTree) → AreSchemes known → (parts : List (ℕ × TermTree)) (all : AllDone known parts done) → ArePartsOf globals whole parts known → AreBestFor known parts (automata_of known parts (inferred_all parts all))
-  parts_best globals whole schemes [] all are = tt
+  retaken : (parts : List (ℕ × TermTree)) (all : AllInferred known parts) (ss : List Scheme) → AreAlike (automata_of known parts all) ss → (others : AllInferred known parts) × (automata_of known parts others ≡ ss)
+  retaken [] all [] alike = (tt, refl)
+  retaken [] all (s ∷ ss) alike = absurd alike
+  retaken (part ∷ parts) all [] alike = absurd alike
+  retaken (part ∷ parts) all (s ∷ ss) alike =
+      let later = retaken parts all.1 ss alike.1 in
+      ((alike_part part.0 part.1 all.0 s alike.0.0 alike.0.1, later.0), λ k. s ∷ later.1 k)
+
+  -- finished parts have most general schemes, with one state for each binder
+  pub parts_best : (globals : List book.Scheme) (whole : TermTree) → AreSchemes known → (parts : List (ℕ × TermTree)) (all : AllInferred known parts) → ArePartsOf globals whole parts known
+      → (ms : List Scheme) × AreMergedSchemes (automata_of known parts all) ms × AreBestFor known parts ms
+  parts_best globals whole schemes [] all are = ([], tt, tt)
   parts_best globals whole schemes (part ∷ parts) all are =
-      let it = infers_right globals whole known part.0 part.1 (best all.0.part.scheme) schemes (first_part globals whole part parts known are) all.0.part.infers in
-      ((all.0.is, all.0.part.scheme, all.0.part.read, it.1), parts_best globals whole schemes parts all.1 (other_parts globals whole part parts known are))
+      let it = infers_right globals whole known part.0 part.1 (best all.0.scheme) schemes (first_part globals whole part parts known are) all.0.infers in
+      let m = merged_exists all.0.automaton all.0.states in
+      let later = parts_best globals whole schemes parts all.1 (other_parts globals whole part parts known are) in
+      let read : IsReadAs m.0 all.0.scheme = read_alike m.0 all.0.automaton all.0.scheme (types_back (no_goals all.0.automaton) (no_goals m.0) m.1.types) all.0.read in
+      (m.0 ∷ later.0, (m.1, later.1), ((m.1.is, all.0.scheme, read, it.1), later.2))
 
 module _ (scope : Scope) (Fails : ℕ → SiteKind → Type 0) (Ends : Finished → Type 0) where
   -- what fails at a part, fails
@@ -174,19 +204,25 @@ module _ (scope : Scope) (Fails : ℕ → SiteKind → Type 0) (Ends : Finished 
     there : HasEach done (children node.form) schemes
     there = let P : List ℕ → Type 0 = λ is. HasEach done is schemes in subst P (sym children_are) (has_each known done (early_parts n t) all)
 
+    all_with_states : (ps : List (ℕ × TermTree)) (them : AllInferred known ps) → All HasStates (automata_of known ps them)
+    all_with_states [] them = λ i d low. absurd (omega arith)
+    all_with_states (part ∷ ps) them = All-cons HasStates them.0.automaton (automata_of known ps them.1) them.0.states (all_with_states ps them.1)
+
     has_parts : HasParts node.form done
     has_parts = record {
       schemes = schemes;
       each = there;
-      are = all_schemes known done (early_parts n t) all;
+      are = all_with_states (early_parts n t) parts;
       distinct = let P : List ℕ → Type 0 = AllPairs (λ i j. i ≢ j) in subst P (sym children_are) (roots_distinct n (n + before t) (early_parts n t) (parts_in_turn n t plain));
       built = built;
     }
 
-    of_parts : (c : Constraint) → HasConstraint node.form done c → IsConstraintOf known t schemes c
+    -- the constraint is posed over automata of the parts
+    of_parts : (c : Constraint) → HasConstraint node.form done c → (others : AllInferred known (early_parts n t)) × IsPosed node.form (automata_of known (early_parts n t) others) c
     of_parts c has =
-        let P : List Scheme → Type 0 = λ ss. IsConstraintOf known t ss c in
-        subst P (one_each done (children node.form) has.schemes schemes has.each there) (posed has.schemes c has.is)
+        let alike : AreAlike schemes has.taken = subst (λ (ss : List Scheme). AreAlike ss has.taken) (one_each done (children node.form) has.schemes schemes has.each there) has.alike in
+        let it = retaken known (early_parts n t) parts has.taken alike in
+        (it.0, subst (λ (ss : List Scheme). IsPosed node.form ss c) (sym it.1) has.is)
 
     -- no node below the first of the expression is a part of it
     no_child : (j : ℕ) → j < n → Contains (children node.form) j → ⊥
@@ -200,23 +236,27 @@ module _ (scope : Scope) (Fails : ℕ → SiteKind → Type 0) (Ends : Finished 
 
     stops : (m : SiteKind) → IsStop node.form done m → Fails (length done) m
     stops m stop =
-        let is : IsConstraintOf known t schemes stop.constraint = of_parts stop.constraint stop.is in
+        let it = of_parts stop.constraint stop.is in
+        let over : List Scheme = automata_of known (early_parts n t) it.0 in
         let P : ℕ → Type 0 = λ i. Fails i m in
         subst P (sym size)
         (failing (n + before t) m
-        (λ globals whole known_are part. record {
+        (λ globals whole known_are part.
+        let merged = parts_best known globals whole known_are (early_parts n t) it.0 (λ k e inside. in_part n t part inside) in
+        let kind = kind_merged m node.form over merged.0 stop.constraint (all_states known (early_parts n t) it.0) merged.1 it.1 stop.first in
+        record {
           n = n;
           t = t;
           known = known;
           part = part;
           number_is = refl;
-          schemes = schemes;
-          best = parts_best known done globals whole known_are (early_parts n t) all (λ k e inside. in_part n t part inside);
-          constraint = stop.constraint;
-          constraint_is = is;
-          first = stop.first;
+          schemes = merged.0;
+          best = merged.2;
+          constraint = kind.0;
+          constraint_is = posed merged.0 kind.0 kind.1;
+          first = kind.2;
         })
-        (inferred_none known n t plain parts stop.constraint is stop.none))
+        (inferred_none known n t plain it.0 stop.constraint (posed over stop.constraint it.1) stop.none))
 
     not_inner : (k : ℕ) → node.form ≡ form.Inner k → ⊥
     not_inner k same = let B : TermForm → Type 0 = IsBuilt in subst B same built
@@ -232,11 +272,15 @@ module _ (scope : Scope) (Fails : ℕ → SiteKind → Type 0) (Ends : Finished 
     goes : (new : Finished) (s : Scheme) → IsStep scope node.form done new s → GoesOn scope Fails Ends rest new
     goes new s step =
         let it = solution_of s step.answer in
-        let it_read = read_scheme s step.is step.rise in
+        let over = of_parts it.0 it.1 in
+        let it_read = read_scheme s step.states in
         let agree : Agree n done new = λ j low. step.kept j (omega arith) (no_child j low) in
         let P : ℕ → Type 0 = λ i. Has new i s in
         going new agree (let longer : length new ≡ suc (length done) = step.longer in omega arith)
-        (record { part = inferred_step known n t plain parts it.0 (of_parts it.0 it.1) s it_read.0 it.2 it_read.1; is = step.is; there = subst P size step.added })
+        (record {
+          part = inferred_step known n t plain over.0 it.0 (posed (automata_of known (early_parts n t) over.0) it.0 over.1) s it_read.0 it.2 it_read.1;
+          there = subst P size step.added;
+        })
 
     pub node_goes : GoesOn scope Fails Ends (node ∷ rest) done
     node_goes = (can has_parts, stops, goes)

@@ -11,7 +11,6 @@ use Rattle.mls_book.specs.Predicates.{bot, top}
 use Rattle.mls_book.specs.Passes.{passes}
 use Rattle.mls_book.specs.Schemes as book
 use Rattle.mls_automaton.specs.declared.scheme.Scheme.{Scheme}
-use Rattle.mls_automaton.specs.Schemes.{IsScheme}
 use Rattle.mls_term.specs.declared.term.TermForm.TheVariants as form
 use Rattle.mls_term.specs.declared.term.TermNode.{TermNode}
 use Rattle.mls_term.specs.Terms.{TermTree, local, inner, global, before}
@@ -28,8 +27,8 @@ use Rattle.mls_infer.specs.Finished.{Finished, Has, HasEach}
 use Rattle.mls_infer.specs.Finishing.{IsPosed, Scope, HasConstraint, is_copied, is_read, IsAnswer, is_named, is_solved, GoesOn}
 use Rattle.mls_infer.proofs.Inferred.{Inferred, inferred_step, inferred_let}
 use Rattle.mls_infer.proofs.JoinedRows.{let_row}
-use Rattle.mls_infer.proofs.OneState.{scheme_states}
-use Rattle.mls_infer.proofs.Going.{read_scheme, Done, Agree, roots_between, roots_distinct, one_each, Going}
+use Rattle.mls_infer.specs.Merges.{AreAlike}
+use Rattle.mls_infer.proofs.Going.{alike_part, read_scheme, Done, Agree, roots_between, roots_distinct, one_each, Going}
 
 -- A constraint of a let has types: where its binders have none, all that it needs is there.
 allows_top : (t : book.Scheme) → book.IsScheme t → Allows t (λ x. bot) top
@@ -62,7 +61,6 @@ module _ (scope : Scope) where
     pub first : scope.first_of k ≡ Some root
     pub low : root < n
     pub automaton : Scheme
-    pub is : IsScheme automaton
     pub states : HasStates automaton
     pub there : Has done root automaton
     pub scheme : book.Scheme
@@ -81,7 +79,6 @@ module _ (scope : Scope) where
     first = it.first;
     low = let low : it.root < n = it.low in omega arith;
     automaton = it.automaton;
-    is = it.is;
     states = it.states;
     there = agree it.root it.low ∙ it.there;
     scheme = it.scheme;
@@ -110,7 +107,6 @@ module _ (scope : Scope) where
           first = ap scope.first_of same ∙ first_is;
           low = omega arith;
           automaton = first.part.automaton;
-          is = first.is;
           states = first.part.states;
           there = first.there;
           scheme = first.part.scheme;
@@ -125,7 +121,6 @@ module _ (scope : Scope) where
           first = it.first;
           low = it.low;
           automaton = it.automaton;
-          is = it.is;
           states = it.states;
           there = it.there;
           scheme = it.scheme;
@@ -141,7 +136,7 @@ module _ (scope : Scope) where
     pub inner_goes : (known : Known) (n at k : ℕ) (done : Finished) (rest : List TermNode) → length done ≡ n → KnowsLet known k n done → Going scope Fails Ends known n (inner at k) rest done → GoesOn scope Fails Ends (record { at = at; form = form.Inner k } ∷ rest) done
     unfolding before
     inner_goes known n at k done rest size it going = (
-      (it.root, it.automaton, it.first, it.there, it.is),
+      (it.root, it.automaton, it.first, it.there, it.states),
       λ m stop. absurd stop.is.is,
       λ new s step.
           let same : s ≡ it.automaton = same_copy s it step.answer in
@@ -152,7 +147,7 @@ module _ (scope : Scope) where
           let here : n + before (inner at k) ≡ n = omega arith in
           going new (λ j low. step.kept j (let low' : j < length done = subst (λ n. j < n) (sym size) low in low') (λ inside. nothing_in j inside))
           (let longer : length new ≡ suc (length done) = step.longer in let longer' : length new ≡ n + suc 0 = omega arith in longer')
-          (record { part = part; is = it.is; there = subst A (size ∙ sym here) (subst H same step.added) }),
+          (record { part = part; there = subst A (size ∙ sym here) (subst H same step.added) }),
     )
       where
         copied_same : (s : Scheme) → (it : KnowsLet known k n done) → (j i : ℕ) → form.Inner k ≡ form.Inner j → scope.first_of j ≡ Some i → Has done i s → s ≡ it.automaton
@@ -177,14 +172,14 @@ module _ (scope : Scope) where
       λ m stop. absurd stop.is.is,
       λ new s step.
           let it = meaning_of s step.answer in
-          let states : HasStates s = scheme_states s step.is step.rise in
+          let states : HasStates s = step.states in
           let known_is : slice_get known.globals g ≡ Some it.0 = ap (λ gs. slice_get gs g) globals ∙ it.1 in
           let part : Inferred known n (global at g) = inferred_step known n (global at g) refl tt (no_goals s) (s, it.0, known_is, states, it.2, refl) s it.0 (own_solution s states) it.2 in
           let A : ℕ → Type 0 = λ i. Has new i s in
           let here : n + before (global at g) ≡ n = omega arith in
           going new (λ j low. step.kept j (let low' : j < length done = subst (λ n. j < n) (sym size) low in low') (λ inside. nothing_in j inside))
           (let longer : length new ≡ suc (length done) = step.longer in let longer' : length new ≡ n + suc 0 = omega arith in longer')
-          (record { part = part; is = step.is; there = subst A (size ∙ sym here) step.added }),
+          (record { part = part; there = subst A (size ∙ sym here) step.added }),
     )
       where
         meaning_of : (s : Scheme) → IsAnswer scope (form.Global g) done s → (t : book.Scheme) × (slice_get scope.globals g ≡ Some t) × IsReadAs s t
@@ -212,41 +207,59 @@ module _ (scope : Scope) where
       abbrev parts : List (ℕ × TermTree)
       parts = (n, e) ∷ (n + suc (before e), e') ∷ []
 
-      let_constraint_is : (c : Constraint) → HasConstraint node.form done c → c ≡ let_constraint first.part.automaton second.part.automaton
-      let_constraint_is c has = at_schemes has.schemes (one_each done (i ∷ j ∷ []) has.schemes schemes has.each let_each) has.is
+      -- the constraint is that of two parts with the same types
+      record IsOverBoth (c : Constraint) : Type 0 where
+        pub one : Inferred known n e
+        pub same : one.scheme ≡ first.part.scheme
+        pub two : Inferred (with_let known k one.scheme) (n + suc (before e)) e'
+        pub is : c ≡ let_constraint one.automaton two.automaton
+
+      let_constraint_is : (c : Constraint) → HasConstraint node.form done c → IsOverBoth c
+      let_constraint_is c has = over has.taken (subst (λ (ss : List Scheme). AreAlike ss has.taken) (one_each done (i ∷ j ∷ []) has.schemes schemes has.each let_each) has.alike) has.is
         where
-          at_schemes : (ss : List Scheme) → ss ≡ schemes → IsPosed node.form ss c → c ≡ let_constraint first.part.automaton second.part.automaton
-          at_schemes ss same posed = let P : List Scheme → Type 0 = λ ss. IsPosed node.form ss c in subst P same posed
+          over : (ss : List Scheme) → AreAlike schemes ss → IsPosed node.form ss c → IsOverBoth c
+          over [] alike posed = absurd alike
+          over (s ∷ []) alike posed = absurd alike.1
+          over (s ∷ t ∷ []) alike posed = record {
+            one = alike_part known n e first.part s alike.0.0 alike.0.1;
+            same = refl;
+            two = alike_part (with_let known k first.part.scheme) (n + suc (before e)) e' second.part t alike.1.0.0 alike.1.0.1;
+            is = posed;
+          }
+          over (s ∷ t ∷ u ∷ ss) alike posed = absurd alike.1.1
 
       pub let_goes : GoesOn scope Fails Ends (node ∷ rest) done
       let_goes = (
         record {
           schemes = schemes;
           each = let_each;
-          are = All-cons IsScheme first.part.automaton (second.part.automaton ∷ []) first.is (All-cons IsScheme second.part.automaton [] second.is (λ i d low. absurd (omega arith)));
+          are = All-cons HasStates first.part.automaton (second.part.automaton ∷ []) first.part.states (All-cons HasStates second.part.automaton [] second.part.states (λ i d low. absurd (omega arith)));
           distinct = roots_distinct n (n + suc (before e) + suc (before e')) parts (refl, (refl, refl));
           built = tt;
         },
         λ m stop.
             let N : Constraint → Type 0 = HasNoTypes in
-            absurd (let_has_types first.part.automaton second.part.automaton first.part.scheme second.part.scheme first.part.states second.part.states first.part.read second.part.read (subst N (let_constraint_is stop.constraint stop.is) stop.none)),
+            let over : IsOverBoth stop.constraint = let_constraint_is stop.constraint stop.is in
+            absurd (let_has_types over.one.automaton over.two.automaton over.one.scheme over.two.scheme over.one.states over.two.states over.one.read over.two.read (subst N over.is stop.none)),
         λ new s step.
-            let solution : IsSolution (let_constraint first.part.automaton second.part.automaton) s = solution_of s step.answer in
-            let it_read = read_scheme s step.is step.rise in
+            let solution = solution_of s step.answer in
+            let over : IsOverBoth solution.0 = let_constraint_is solution.0 solution.1 in
+            let solved : IsSolution (let_constraint over.one.automaton over.two.automaton) s = subst (λ (c : Constraint). IsSolution c s) over.is solution.2 in
+            let it_read = read_scheme s step.states in
             let A : ℕ → Type 0 = λ i. Has new i s in
             going new
             (λ q low. step.kept q (let low' : q < length done = omega arith in low') (outside q low))
             (let longer : length new ≡ suc (length done) = step.longer in let longer' : length new ≡ n + suc (before (local at k e e')) = subst (λ b. length new ≡ n + suc b) (sym whole) (let l : length new ≡ n + suc (suc (before e) + suc (before e')) = omega arith in l) in longer')
-            (record { part = inferred_let known n at k e e' first.part second.part s it_read.0 solution it_read.1; is = step.is; there = subst A (size ∙ ap (λ b. n + b) (sym whole)) step.added }),
+            (record { part = inferred_let known n at k e e' over.one over.two s it_read.0 solved it_read.1; there = subst A (size ∙ ap (λ b. n + b) (sym whole)) step.added }),
       )
         where
           whole : before (local at k e e') ≡ suc (before e) + suc (before e')
           whole = before_let at k e e'
 
-          solution_of : (s : Scheme) → IsAnswer scope node.form done s → IsSolution (let_constraint first.part.automaton second.part.automaton) s
+          solution_of : (s : Scheme) → IsAnswer scope node.form done s → (c : Constraint) × HasConstraint node.form done c × IsSolution c s
           solution_of s (is_named (is_copied q r same is there)) = absurd (cc)
           solution_of s (is_named (is_read g t same known_is is)) = absurd (cc)
-          solution_of s (is_solved c has solution) = let S : Constraint → Type 0 = λ c. IsSolution c s in subst S (let_constraint_is c has) solution
+          solution_of s (is_solved c has solution) = (c, has, solution)
 
           outside : (q : ℕ) → q < n → Contains (i ∷ j ∷ []) q → ⊥
           outside q low inside =

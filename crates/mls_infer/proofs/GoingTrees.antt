@@ -61,7 +61,7 @@ module _ (known : Known) (c : Constraint) where
 
   posed_fix : (at x i : ℕ) (e : TermTree) (ss : List Scheme) → IsPosed (form.Rec x i) ss c → IsConstraintOf known (fix at x e) ss c
   posed_fix at x i e [] posed = absurd posed
-  posed_fix at x i e (s ∷ []) posed = posed
+  posed_fix at x i e (s ∷ []) posed = posed.1
   posed_fix at x i e (s ∷ t ∷ ss) posed = absurd posed
 
   posed_project : (at i : ℕ) (e : TermTree) (label : List ℕ) (ss : List Scheme) → IsPosed (form.Project i label) ss c → IsConstraintOf known (project at e label) ss c

@@ -3,7 +3,7 @@
 --     scheme_read, named_read, named_again, named_copy      a known name has its scheme
 --     reads_more             one more scheme that was read
 --     names_are              what names mean are schemes that need nothing of any binder
-use Rattle.std.proofs.Common.{◌≡◌, ◌≢◌, ◌⊎◌, inl, inr, ℕ, zero, suc, ◌<◌, List, [], ◌∷◌, map, length, get_or, All, refl, sym, ap, ◌∙◌, subst, arith, Some, slice_get}
+use Rattle.std.proofs.Common.{◌≡◌, ◌≢◌, ◌⊎◌, inl, inr, ℕ, zero, suc, ◌<◌, List, [], ◌∷◌, map, length, get_or, All, Contains, refl, sym, ap, ◌∙◌, subst, arith, Some, slice_get}
 use Rattle.std.specs.Prelude.{Option, None, option_map}
 use Rattle.std.specs.BTreeMap.{BTreeMap, get}
 use Rattle.std.proofs.lemmas.Bool.{cases_eq}
@@ -13,7 +13,7 @@ use Rattle.std.specs.Ordering.{nat_cmp}
 use Rattle.std.proofs.lemmas.Option.{slice_get-map, slice_get_within, get_or_from_slice_get}
 use Rattle.mls_book.specs.Schemes as book
 use Rattle.mls_automaton.specs.declared.scheme.Scheme.{Scheme}
-use Rattle.mls_automaton.specs.Environments.{BindersRise}
+use Rattle.mls_automaton.specs.declared.scheme.EnvEntry.{EnvEntry}
 use Rattle.mls_automaton.specs.Schemes.{IsScheme}
 use Rattle.mls_term.specs.declared.term.TermForm.TheVariants as form
 use Rattle.mls_automaton.proofs.BooksExist.{scheme_exists}
@@ -25,6 +25,9 @@ use Rattle.mls_typetext.specs.Schemes.{scheme_of}
 use Rattle.mls_typing.proofs.Instances.{Allows-equivalent}
 use Rattle.mls_typing.proofs.Lists.{nothing_in}
 use Rattle.mls_typing.proofs.Rows.{both_ways}
+use Rattle.mls_infer.specs.declared.constraints.Open.{Open}
+use Rattle.mls_infer.specs.Constraints.{HasStates}
+use Rattle.mls_infer.specs.Posed.{scheme_in}
 use Rattle.mls_infer.specs.Finished.{Finished, Has}
 use Rattle.mls_infer.specs.Finishing.{AreReads, IsRead, Scope, CanStep, IsNamedBy, is_copied, is_read, scope_of}
 use Rattle.mls_infer.specs.Inference.{AreNames}
@@ -76,15 +79,17 @@ scheme_read names g read s are low at is no_env equivalent =
       book = scheme_of read;
       there = there;
       read = read_means read s read_is is no_env equivalent;
-      is = is;
-      rise = subst BindersRise (sym no_env) (λ i j d less low. absurd (omega arith));
+      states = record {
+        automaton = is.automaton;
+        root = is.root;
+        env = λ entry inside. absurd (nothing_in entry (subst (λ (env : List EnvEntry). Contains env entry) no_env inside));
+      };
     }
 
 pub named_again : (names : Names) (firsts : BTreeMap ℕ ℕ) (done : Finished) (g : ℕ) (s copy : Scheme) → IsRead (map scheme_of names.schemes) g s → copy ≡ s → IsNamedBy (scope_of names firsts) (form.Global g) done copy
 named_again names firsts done g s copy it same = record {
   named = is_read g it.book refl it.there (let R : Scheme → Type 0 = λ s. IsReadAs s it.book in subst R (sym same) it.read);
-  is = subst IsScheme (sym same) it.is;
-  rise = let R : Scheme → Type 0 = λ (s : Scheme). BindersRise s.env in subst R (sym same) it.rise;
+  states = subst HasStates (sym same) it.states;
 }
 
 pub named_read : (names : Names) (firsts : BTreeMap ℕ ℕ) (done : Finished) (g : ℕ) (read : ReadScheme) (s : Scheme) → AreNames names → g < length names.schemes → get_or names.schemes g read ≡ read → IsScheme s → s.env ≡ [] → IsEquivalentToRead read s
@@ -92,20 +97,20 @@ pub named_read : (names : Names) (firsts : BTreeMap ℕ ℕ) (done : Finished) (
 named_read names firsts done g read s are low at is no_env equivalent = named_again names firsts done g s s (scheme_read names g read s are low at is no_env equivalent) refl
 
 -- one more scheme that was read
-pub reads_more : (globals : List book.Scheme) (old new : BTreeMap ℕ Scheme) (g : ℕ) (s : Scheme) → AreReads globals old → get nat_cmp new g ≡ Some s → ((k : ℕ) → k ≢ g → get nat_cmp new k ≡ get nat_cmp old k) → IsRead globals g s → AreReads globals new
+pub reads_more : (globals : List book.Scheme) (old new : BTreeMap ℕ Open) (g : ℕ) (s : Open) → AreReads globals old → get nat_cmp new g ≡ Some s → ((k : ℕ) → k ≢ g → get nat_cmp new k ≡ get nat_cmp old k) → IsRead globals g (scheme_in s) → AreReads globals new
 reads_more globals old new g s are here others one k t e = go (cases_eq k g)
   where
-    go : (k ≡ g) ⊎ (k ≢ g) → IsRead globals k t
+    go : (k ≡ g) ⊎ (k ≢ g) → IsRead globals k (scheme_in t)
     go (inl same) =
         let both : Some s ≡ Some t = sym here ∙ (ap (get nat_cmp new) (sym same) ∙ e) in
         let at : s ≡ t = cc in
-        let P : ℕ → Type 0 = λ k. IsRead globals k t in
-        subst P (sym same) (subst (IsRead globals g) at one)
+        let P : ℕ → Type 0 = λ k. IsRead globals k (scheme_in t) in
+        subst P (sym same) (subst (λ (s : Open). IsRead globals g (scheme_in s)) at one)
     go (inr apart) = are k t (sym (others k apart) ∙ e)
 
 -- and a copy of that of a let-bound name
-pub named_copy : (scope : Scope) (k : ℕ) (done : Finished) → CanStep scope (form.Inner k) done → (root : ℕ) (s copy : Scheme) → scope.first_of k ≡ Some root → Has done root s → copy ≡ s → BindersRise s.env → IsNamedBy scope (form.Inner k) done copy
-named_copy scope k done can root s copy first there same rise =
+pub named_copy : (scope : Scope) (k : ℕ) (done : Finished) → CanStep scope (form.Inner k) done → (root : ℕ) (s copy : Scheme) → scope.first_of k ≡ Some root → Has done root s → copy ≡ s → IsNamedBy scope (form.Inner k) done copy
+named_copy scope k done can root s copy first there same =
     let both : Some can.0 ≡ Some root = sym can.2 ∙ first in
     let same_root : can.0 ≡ root = cc in
     let H : ℕ → Type 0 = λ i. Has done i can.1 in
@@ -113,6 +118,5 @@ named_copy scope k done can root s copy first there same rise =
     let to_copy : s ≡ copy = sym same in
     record {
       named = is_copied k root refl first (let C : Scheme → Type 0 = λ s. Has done root s in subst C to_copy there);
-      is = subst IsScheme to_copy (subst IsScheme same_scheme can.4);
-      rise = let R : Scheme → Type 0 = λ (s : Scheme). BindersRise s.env in subst R to_copy rise;
+      states = subst HasStates to_copy (subst HasStates same_scheme can.4);
     }

@@ -2,7 +2,6 @@ pub mod Beside
 pub mod BuiltConstraints
 pub mod ClosedConstraints
 pub mod ConstraintRows
-pub mod ExtendedClashes
 pub mod FieldRows
 pub mod FinishedParts
 pub mod FirstParts
@@ -16,13 +15,19 @@ pub mod JoinedRows
 pub mod KnownSchemes
 pub mod MakeRow
 pub mod MergeLoops
+pub mod MergedKinds
+pub mod MergedSchemes
 pub mod Merges
 pub mod Merging
 pub mod Models
 pub mod NodeAnswers
+pub mod NodeKinds
 pub mod NodeLoop
+pub mod NumberedBinders
 pub mod OneState
+pub mod PlacedClashes
 pub mod Passages
+pub mod PutTogether
 pub mod Reading
 pub mod SideBySide
 pub mod SimplerSchemes

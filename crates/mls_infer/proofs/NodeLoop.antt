@@ -69,8 +69,7 @@ module _ (scope : Scope) (nodes : List TermNode) (i : ℕ) (done : Finished) (go
         (at_node t nodes_are).2 (mid ++ Some s ∷ []) s
         (record {
           answer = answer.answer;
-          is = answer.is;
-          rise = answer.rise;
+          states = answer.states;
           longer = let both : length (mid ++ Some s ∷ []) ≡ length mid + 1 = length-append mid (Some s ∷ []) in omega arith;
           added = subst P size (get_end mid (Some s));
           kept = λ j low' out. get_before mid (Some s) j (omega arith) ∙ keeps.kept j out;

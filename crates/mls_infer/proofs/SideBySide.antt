@@ -1,9 +1,10 @@
 -- Several schemes side by side: a model of all is one of each, and models of each are one of all.
 --     JoinedValues, joined_each     a model of all of them gives what each has
 --     joined_all                    and what each has gives a model of all
-use Rattle.std.proofs.Common.{◌≡◌, ◌⊎◌, inl, inr, ℕ, ◌+◌, ◌<◌, List, [], ◌∷◌, map, sym, ap, ◌∙◌, subst, arith, Contains}
+--     all_have_states               each has the states that constraints ask for
+use Rattle.std.proofs.Common.{◌≡◌, ◌⊎◌, inl, inr, ℕ, ◌+◌, ◌<◌, List, [], ◌∷◌, map, sym, ap, ◌∙◌, subst, arith, All, Contains}
 use Rattle.std.proofs.lemmas.List.{length-map}
-use Rattle.std.proofs.lemmas.List.Elements.{Contains-append_left, Contains-append_right, Contains-append_cases}
+use Rattle.std.proofs.lemmas.List.Elements.{All-head, All-tail, Contains-append_left, Contains-append_right, Contains-append_cases}
 use Rattle.std.proofs.Common.{length-append}
 use Rattle.mls_book.specs.declared.book.Node.{Node}
 use Rattle.mls_book.specs.Books.{IsClosedBook}
@@ -82,6 +83,10 @@ joined_each (s ∷ ss) types (f ∷ fs) h =
 abbrev pub AllHaveStates : List Scheme → Type 0
 AllHaveStates [] = Unit {0}
 AllHaveStates (s ∷ ss) = HasStates s × AllHaveStates ss
+
+pub all_have_states : (ss : List Scheme) → All HasStates ss → AllHaveStates ss
+all_have_states [] are = tt
+all_have_states (s ∷ ss) are = (All-head HasStates s ss are, all_have_states ss (All-tail HasStates s ss are))
 
 -- a model of all, behind which these values stand
 pub record JoinedBefore (ss : List Scheme) (types : ℕ → Predicate) (fs : List Predicate) (tail : ℕ → Predicate) : Type 0 where

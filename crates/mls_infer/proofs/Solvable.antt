@@ -1,6 +1,6 @@
 -- Merged constraints: their goals, their scheme and their types.
 --     goal_in, pair_in     goals as pairs of states, and as the program keeps them
---     between_pairs, goals_later
+--     between_pairs
 --     merged_scheme
 use Rattle.std.proofs.Common.{◌≡◌, ℕ, List, map, subst, Contains, All}
 use Rattle.mls_automaton.specs.declared.automaton.Polarity.TheVariants.{Positive, Negative}
@@ -8,7 +8,7 @@ use Rattle.mls_automaton.specs.declared.state_set.StateId.{StateId}
 use Rattle.mls_automaton.specs.declared.scheme.EnvEntry.{EnvEntry}
 use Rattle.mls_automaton.specs.Automata.{Automaton, IsState}
 use Rattle.mls_automaton.specs.Schemes.{IsScheme}
-use Rattle.mls_automaton.proofs.Lists.{All-contained, Contains-map}
+use Rattle.mls_automaton.proofs.Lists.{Contains-map}
 use Rattle.std.proofs.lemmas.List.Elements.{All-contains}
 use Rattle.mls_biunify.specs.declared.goal.Goal.{Goal}
 use Rattle.mls_biunify.specs.Relations.{IsGoal, IsGoalOf}
@@ -30,10 +30,6 @@ pub between_pairs : (a : Automaton) (goals : List Goal) → All (IsGoalOf a) goa
 between_pairs a goals are p n it = All-contains (IsGoalOf a) goals (record { positive = record { 0 = p }; negative = record { 0 = n } }) are (goal_in goals p n it)
 
 module _ (a b : Automaton) (env fewer : List EnvEntry) (m : Merges a env b fewer) where
-  pub goals_later : (goals : List Goal) → All (IsGoalOf a) goals → All (IsGoalOf b) goals
-  goals_later goals are = All-contained (IsGoalOf b) goals
-      (λ g it. let states = All-contains (IsGoalOf a) goals g are it in (m.states Positive g.positive.0 states.0, m.states Negative g.negative.0 states.1))
-
   pub merged_scheme : (root : StateId) → IsState a Positive root.0 → IsScheme (record { automaton = b; env = fewer; root = root })
   merged_scheme root is = record {
     automaton = m.closed;

@@ -1,11 +1,13 @@
 -- The answers of solving: a solution, or no types.
---     solvable_solution, solvable_none     over constraints in which each binder has one state
+--     scheme_solution, scheme_none         over a scheme in which each binder has one state
+--     solvable_solution, solvable_none     the same, as merged constraints
 --     solution_same, none_same             over constraints with the same types
 --     solvable_scheme, answer_none         and what solving answers over these
 --     free_same, clash_same                equal relations clash alike
 --     without_goals                        without goals the constraints are a solution themselves
 --     solution_kept                        an equivalent scheme is a solution too
-use Rattle.std.proofs.Common.{◌≡◌, ◌↔◌, ℕ, ◌==◌, Bool, true, ◌&&◌, false, [], map, refl, sym, subst, arith, Contains, All}
+--     solution_after                       and so is a solution of a solution
+use Rattle.std.proofs.Common.{◌≡◌, ◌↔◌, ℕ, ◌==◌, Bool, true, ◌&&◌, false, List, map, refl, subst, arith, Contains, All}
 use Rattle.std.specs.List.{list_any}
 use Rattle.std.proofs.lemmas.Bool.{eqb-true}
 use Rattle.std.proofs.lemmas.Bool.Decides.{nat_tests}
@@ -18,22 +20,20 @@ use Rattle.mls_automaton.proofs.Instances.{AreGoals}
 use Rattle.mls_automaton.proofs.Lists.{any_found, found_any}
 use Rattle.mls_automaton.proofs.Reaching.{entry-found}
 use Rattle.mls_biunify.specs.declared.goal.Clash.{Clash}
+use Rattle.mls_biunify.specs.declared.goal.Goal.{Goal}
 use Rattle.mls_biunify.specs.Clashes.{HasNoClash, IsClashOf, IsFirstClash}
 use Rattle.mls_biunify.specs.Relations.{IsGoal, IsGoalOf, IsRelated, IsTable, goal, domain, codomain, field, along}
 use Rattle.mls_biunify.specs.Rooms.{Room, HoldsJust}
 use Rattle.mls_biunify.specs.Solved.{IsSolved}
-use Rattle.mls_biunify.proofs.Following.{goals_between, related_states}
+use Rattle.mls_biunify.proofs.Following.{related_states}
 use Rattle.mls_biunify.proofs.Solution.{Sources}
-use Rattle.mls_biunify.proofs.SolvedInstances.{over, over_solved}
+use Rattle.mls_biunify.proofs.SolvedInstances.{over}
 use Rattle.mls_biunify.proofs.SolvedRooms.{solved-same}
 use Rattle.mls_biunify.proofs.SourceLists.{sources_from_table}
-use Rattle.mls_infer.specs.declared.merge.Solvable.{Solvable}
-use Rattle.mls_infer.specs.Constraints.{Constraint, HasStates, HasTypes, no_goals}
+use Rattle.mls_infer.specs.Constraints.{Constraint, HasStates, no_goals}
 use Rattle.mls_infer.specs.Posed.{goal_pair}
-use Rattle.mls_infer.specs.Merges.{HaveSameTypes, solvable_constraint}
-use Rattle.mls_infer.specs.declared.solve.NoSolution.{NoSolution}
-use Rattle.mls_infer.specs.declared.solve.NoSolution.TheVariants as none
-use Rattle.mls_infer.specs.Solved.{ClashesFirst, GoalsOf, IsClashWithout, IsSolvedFor}
+use Rattle.mls_infer.specs.Merges.{HaveSameTypes}
+use Rattle.mls_infer.specs.Solved.{GoalsOf, IsSolvedFor}
 use Rattle.mls_infer.specs.Steps.{IsSolution, HasNoTypes}
 use Rattle.mls_infer.proofs.Models.{EachFound}
 use Rattle.mls_infer.proofs.Reading.{read_as}
@@ -81,49 +81,41 @@ module _ (room : Room) (R : ℕ → ℕ → Type 0) (just : HoldsJust room R) wh
         found_any (is_pair p n) room.pairs pair ((just p n).1 it) self;
   }
 
-module _ (s : Solvable) (is : IsScheme s.scheme) (rise : BindersRise s.scheme.env) (are : All (IsGoalOf s.scheme.automaton) s.goals) where
+module _ (s : Scheme) (goals : List Goal) (is : IsScheme s) (rise : BindersRise s.env) (are : All (IsGoalOf s.automaton) goals) where
   abbrev c : Constraint
-  c = solvable_constraint s
+  c = record { scheme = s; goals = map goal_pair goals }
 
   abbrev a : Automaton
-  a = s.scheme.automaton
+  a = s.automaton
 
   abbrev R : ℕ → ℕ → Type 0
-  R = IsRelated a (IsGoal s.goals)
+  R = IsRelated a (IsGoal goals)
 
   abbrev S : ℕ → ℕ → Type 0
   S = IsRelated a (GoalsOf c)
 
-  each : EachFound s.scheme.env
-  each = entry-found s.scheme.env rise
+  each : EachFound s.env
+  each = entry-found s.env rise
 
   goals_are : AreGoals a (GoalsOf c)
-  goals_are = between_pairs a s.goals are
+  goals_are = between_pairs a goals are
 
   to_pairs : (p n : ℕ) → R p n → S p n
-  to_pairs = related_more a (IsGoal s.goals) (GoalsOf c) (pair_in s.goals)
+  to_pairs = related_more a (IsGoal goals) (GoalsOf c) (pair_in goals)
 
   from_pairs : (p n : ℕ) → S p n → R p n
-  from_pairs = related_more a (GoalsOf c) (IsGoal s.goals) (goal_in s.goals)
+  from_pairs = related_more a (GoalsOf c) (IsGoal goals) (goal_in goals)
 
-  pub solvable_none : (clash : Clash) → IsClashOf a R clash → HasNoTypes c
-  solvable_none clash it = clash_no_types c is each goals_are clash (to_pairs clash.positive.0 clash.negative.0 it.0, it.1)
+  pub scheme_none : (clash : Clash) → IsClashOf a R clash → HasNoTypes c
+  scheme_none clash it = clash_no_types c is each goals_are clash (to_pairs clash.positive.0 clash.negative.0 it.0, it.1)
 
-  pub solvable_solution : (solved : Automaton) → IsSolvedFor a s.goals solved → IsSolution c (over s.scheme solved)
-  solvable_solution solved it =
+  pub scheme_solution : (solved : Automaton) → IsSolvedFor a goals solved → IsSolution c (over s solved)
+  scheme_solution solved it =
       let just : HoldsJust it.room S = λ p n. (λ h. to_pairs p n ((it.relation p n).0 h), λ h. (it.relation p n).1 (from_pairs p n h)) in
       let free : HasNoClash a S = λ p n h. it.free p n (from_pairs p n h) in
       let solves : IsSolved a S solved = solved-same a R S (λ p n. (to_pairs p n, from_pairs p n)) solved it.is_solved in
       let sources : Sources a S = sources_from_table a S (holds it.room S just) (table it.room S just) (λ p n h. (related_states a (GoalsOf c) is.automaton goals_are p n h).0.in_range) in
       solved_solution c is each goals_are solved solves it.closed free sources
-
-  pub solvable_scheme : (solved : Automaton) → IsSolvedFor a s.goals solved → IsScheme (over s.scheme solved)
-  solvable_scheme solved it = over_solved s.scheme (IsGoal s.goals) is (goals_between a s.goals are) solved it.is_solved it.closed
-
-  -- where solving answers a clash
-  pub answer_none : (d : Constraint) → HaveSameTypes d c → (e : NoSolution) → ClashesFirst a s.goals e → IsClashWithout d e
-  answer_none d same (none.Clash m) it = λ types f h. solvable_none it.clash it.first.clash types f ((same types f).0 h)
-  answer_none d same none.Memory it = tt
 
 -- equal relations clash alike
 pub free_same : (a : Automaton) (R S : ℕ → ℕ → Type 0) → ((p n : ℕ) → R p n ↔ S p n) → HasNoClash a R → HasNoClash a S
@@ -135,24 +127,17 @@ clash_same a R S same c it = record {
   first = λ d is. it.first d ((same d.positive.0 d.negative.0).1 is.0, is.1);
 }
 
--- without goals
-pub without_goals : (s : Solvable) → s.goals ≡ [] → IsScheme s.scheme → BindersRise s.scheme.env → IsSolution (solvable_constraint s) s.scheme
-without_goals s none is rise =
-    let each : EachFound s.scheme.env = entry-found s.scheme.env rise in
-    let same : solvable_constraint s ≡ no_goals s.scheme = λ i. record { scheme = s.scheme; goals = map goal_pair (none i) } in
-    record {
-      states = record { automaton = is.automaton; root = is.root; env = λ entry inside. is.env entry.binder entry.state.0 (each entry inside) };
-      just = λ types f. (λ h. subst (λ (c : Constraint). HasTypes c types f) same h, λ h. subst (λ (c : Constraint). HasTypes c types f) (sym same) h);
-    }
-
 pub solution_same : (c d : Constraint) (s : Scheme) → HaveSameTypes c d → IsSolution d s → IsSolution c s
 solution_same c d s same it = record {
   states = it.states;
   just = λ types f. (λ h. (it.just types f).0 ((same types f).0 h), λ h. (same types f).1 ((it.just types f).1 h));
 }
 
-pub none_same : (c d : Constraint) → HaveSameTypes c d → HasNoTypes d → HasNoTypes c
-none_same c d same none types f h = none types f ((same types f).0 h)
+pub solution_after : (c : Constraint) (s t : Scheme) → IsSolution c s → IsSolution (no_goals s) t → IsSolution c t
+solution_after c s t first second = record {
+  states = second.states;
+  just = λ types f. (λ h. (second.just types f).0 ((first.just types f).0 h), λ h. (first.just types f).1 ((second.just types f).1 h));
+}
 
 pub solution_kept : (c : Constraint) (s t : Scheme) → IsSolution c s → IsScheme s → BindersRise s.env → IsScheme t → BindersRise t.env → AreEquivalentSchemes s t → IsSolution c t
 solution_kept c s t solution is rise is' rise' same =

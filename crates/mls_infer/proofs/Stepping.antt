@@ -4,7 +4,7 @@
 --     solution_merged, solution_equivalent         other solutions
 --     step_solves, step_unsolvable, let_solves     so a step is one of `Infers`
 --     step_best, step_none, let_step               and what it says of the expression
-use Rattle.std.proofs.Common.{◌≡◌, ◌↔◌, ℕ, false, List, [], ◌∷◌, sym, ◌∙◌, subst, Some}
+use Rattle.std.proofs.Common.{◌≡◌, ◌↔◌, inl, inr, ℕ, false, List, [], ◌∷◌, sym, ◌∙◌, subst, Some}
 use Rattle.std.specs.Prelude.{Option}
 use Rattle.mls_book.specs.Predicates.{Predicate}
 use Rattle.mls_book.specs.Schemes as book
@@ -14,13 +14,13 @@ use Rattle.mls_term.specs.Derivations.{Known, with_let, IsBest, HasNone}
 use Rattle.mls_term.specs.WellFormed.{early_parts}
 use Rattle.mls_term.specs.TypingLaws.{AreSchemes}
 use Rattle.mls_typing.specs.Typed.{Allows, EachHas, OfBound, OfFun, OfApply, OfMake, OfProject, OfChoice, OfFix, OfLet}
-use Rattle.mls_infer.specs.Constraints.{Constraint, HasTypes, HasStates, no_goals, int_head, bool_head, bound_constraint, literal_constraint, fun_constraint, apply_constraint, make_constraint, project_constraint, choice_constraint, fix_constraint, let_constraint, IsMerged}
+use Rattle.mls_infer.specs.Constraints.{Constraint, HasTypes, HasStates, no_goals, int_head, bool_head, bound_constraint, literal_constraint, fun_constraint, apply_constraint, turned_constraint, make_constraint, project_constraint, choice_constraint, fix_constraint, let_constraint, IsMerged}
 use Rattle.mls_typing.specs.Runs.{is_let, Row, Solves, IsUnsolvable}
 use Rattle.mls_infer.specs.Steps.{IsReadAs, IsSolution, HasNoTypes, IsConstraintOf}
 use Rattle.mls_typing.proofs.Rows.{both_ways, IsSame, fun_same, fix_same, apply_same, project_same, choice_same, let_same, make_same, AllBest, row_best, row_none, let_best}
 use Rattle.mls_infer.proofs.ConstraintRows.{bound_row, number_row, truth_row, fun_row, fix_row, project_row}
 use Rattle.mls_infer.proofs.SideBySide.{AllHaveStates}
-use Rattle.mls_infer.proofs.JoinedRows.{apply_row, choice_row, let_row}
+use Rattle.mls_infer.proofs.JoinedRows.{apply_row, turned_row, choice_row, let_row}
 use Rattle.mls_infer.proofs.MakeRow.{make_row}
 use Rattle.mls_infer.proofs.Merging.{merged_row}
 use Rattle.mls_typing.proofs.Instances.{Allows-equivalent}
@@ -71,11 +71,15 @@ constraint_row known (bound at x) [] [] c are read is = same_constraint c (bound
 constraint_row known (number at value) [] [] c are read is = same_constraint c (literal_constraint int_head) (Row known (number at value) []) is number_row
 constraint_row known (truth at value) [] [] c are read is = same_constraint c (literal_constraint bool_head) (Row known (truth at value) []) is truth_row
 constraint_row known (fun at x e) (s ∷ []) (t ∷ []) c are read is =
-    same_constraint c (fun_constraint x s) (OfFun x (Allows t)) is
-    (λ types f. both_ways (fun_row x s are.0 types f) (fun_same x (HasTypes (no_goals s)) (Allows t) read.0.just types f))
+    same_constraint c (fun_constraint is.0 x s) (OfFun x (Allows t)) is.2
+    (λ types f. both_ways (fun_row x s are.0 types f is.0 is.1) (fun_same x (HasTypes (no_goals s)) (Allows t) read.0.just types f))
 constraint_row known (apply at e e') (s ∷ s' ∷ []) (t ∷ t' ∷ []) c are read is =
-    same_constraint c (apply_constraint s s') (OfApply (Allows t) (Allows t')) is
-    (λ types f. both_ways (apply_row s s' are.0 are.1.0 types f) (apply_same (HasTypes (no_goals s)) (Allows t) (HasTypes (no_goals s')) (Allows t') read.0.just read.1.0.just types f))
+    elim is [
+      | inl applied ↦ same_constraint c (apply_constraint s s') (OfApply (Allows t) (Allows t')) applied
+          (λ types f. both_ways (apply_row s s' are.0 are.1.0 types f) (apply_same (HasTypes (no_goals s)) (Allows t) (HasTypes (no_goals s')) (Allows t') read.0.just read.1.0.just types f))
+      | inr turned ↦ same_constraint c (turned_constraint s s') (OfApply (Allows t) (Allows t')) turned
+          (λ types f. both_ways (turned_row s s' are.0 are.1.0 types f) (apply_same (HasTypes (no_goals s)) (Allows t) (HasTypes (no_goals s')) (Allows t') read.0.just read.1.0.just types f))
+    ]
 constraint_row known (make at parts) ss ts c are read is =
     same_constraint c (make_constraint is.0 ss) (OfMake parts (EachHas Allows parts ts)) is.2
     (λ types f. both_ways (make_row parts is.0 ss are is.1 types f) (make_same parts (EachHas (λ s. HasTypes (no_goals s)) parts ss) (EachHas Allows parts ts) (each_read parts ss ts read) types f))

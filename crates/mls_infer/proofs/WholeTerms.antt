@@ -22,7 +22,7 @@ use Rattle.mls_typing.specs.Typed.{Allows}
 use Rattle.mls_typing.proofs.Answered.{answers_are_best, answers_are_first, closed_is_best, best_allows_types}
 use Rattle.mls_typing.proofs.Lists.{nothing_in}
 use Rattle.mls_typing.proofs.Rows.{both_ways}
-use Rattle.mls_infer.specs.Constraints.{HasTypes, no_goals}
+use Rattle.mls_infer.specs.Constraints.{HasStates, HasTypes, no_goals}
 use Rattle.mls_infer.specs.Steps.{IsReadAs}
 use Rattle.mls_infer.specs.Finished.{Finished}
 use Rattle.mls_infer.specs.Inference.{IsKindAt}
@@ -35,7 +35,7 @@ use Rattle.mls_infer.proofs.Reading.{read_as}
 abbrev closed : book.Scheme → book.Scheme
 closed s = record { book = s.book; env = finmap.empty; root = s.root }
 
-pub without_env_is : (s : Scheme) → IsScheme s → IsScheme (without_env s)
+pub without_env_is : (s : Scheme) → HasStates s → IsScheme (without_env s)
 without_env_is s is = record { automaton = is.automaton; root = is.root; env = λ x n e. absurd (cc) }
 
 module _ (types : ℕ → Predicate) (f : Predicate) where
@@ -91,7 +91,7 @@ module _ (globals : List book.Scheme) (whole : TermTree) (all : AllSchemes globa
 
     each_best : (u : book.Scheme) → IsSchemeOf (without_env s) u → IsBest start whole u
     each_best u is_book =
-        let read : IsReadAs (without_env s) u = read_as (without_env s) (without_env_is s it.is) (λ entry inside. absurd (nothing_in entry inside)) u is_book in
+        let read : IsReadAs (without_env s) u = read_as (without_env s) (without_env_is s it.part.states) (λ entry inside. absurd (nothing_in entry inside)) u is_book in
         (best_allows_types start whole u start_schemes read.is).1
         (λ types f.
         both_ways ((best_allows_types start whole (closed r) start_schemes closed_is).0 closed_best types f)
@@ -100,7 +100,7 @@ module _ (globals : List book.Scheme) (whole : TermTree) (all : AllSchemes globa
         (both_ways (types_same types f s) (read.just types f)))))
 
     is_inferred : IsInferred globals whole done
-    is_inferred = record { scheme = s; there = let P : ℕ → Type 0 = λ i. slice_get done i ≡ Some (Some s) in let here : 0 + before whole ≡ before whole = omega arith in subst P here it.there; is = it.is; best = each_best }
+    is_inferred = record { scheme = s; there = let P : ℕ → Type 0 = λ i. slice_get done i ≡ Some (Some s) in let here : 0 + before whole ≡ before whole = omega arith in subst P here it.there; is = it.part.states; best = each_best }
 
 -- so the loop goes on from the first node to the end
 module _ (scope : Scope) (whole : TermTree) (all : AllSchemes scope.globals) (closed_globals : (g : ℕ) (u : book.Scheme) → slice_get scope.globals g ≡ Some u → u.env ≡ finmap.empty) (scoped : IsScoped [] [] (length scope.globals) whole) where

@@ -1,7 +1,7 @@
 -- The constraints of each form: an automaton over those of the parts, with goals. What models of it give, the
 -- expression has.
-use Rattle.std.specs.Prelude.{◌≡◌, ◌⊎◌, ℕ, suc, ◌+◌, true, false, not, List, [], ◌∷◌, ◌++◌, map, filter, length, All}
-use Rattle.std.specs.Prelude.{Contains, IsSome, ◌↔◌, Some, None}
+use Rattle.std.specs.Prelude.{◌≡◌, ◌⊎◌, ℕ, suc, ◌+◌, ◌≤◌, true, false, not, List, [], ◌∷◌, ◌++◌, map, filter, length}
+use Rattle.std.specs.Prelude.{All, Contains, IsSome, ◌↔◌, Some, None}
 use Rattle.std.specs.Ordering.{nat_cmp, eq_by_cmp}
 use Rattle.mls_book.specs.declared.book.Node.{Node}
 use Rattle.mls_book.specs.Books.{IsClosedBook}
@@ -119,6 +119,10 @@ states_of x env = map (λ (entry : EnvEntry). entry.state.0)
 abbrev pub without : ℕ → List EnvEntry → List EnvEntry
 without x env = filter (λ (entry : EnvEntry). not (eq_by_cmp nat_cmp entry.binder x)) env
 
+-- the binder has one state at most
+abbrev pub HasOneState : ℕ → Scheme → Type 0
+HasOneState x s = length (states_of x s.env) ≤ 1
+
 -- The rows.
 
 -- a binder: what flows in, flows out
@@ -133,13 +137,17 @@ abbrev pub literal_constraint : Head → Constraint
 literal_constraint h = no_goals
     (record { automaton = record { states = positive h ∷ []; flows = [] }; env = []; root = id 0 })
 
--- a function: from the states of its binder to the root of its body
-abbrev pub fun_constraint : ℕ → Scheme → Constraint
-fun_constraint x s = no_goals (record {
-  automaton = grown s.automaton (positive (function_head (states_of x s.env) (s.root.0 ∷ [])) ∷ []) [];
+-- a function: from these states, which are those of its binder, to the root of its body
+abbrev pub fun_constraint : List ℕ → ℕ → Scheme → Constraint
+fun_constraint domain x s = no_goals (record {
+  automaton = grown s.automaton (positive (function_head domain (s.root.0 ∷ [])) ∷ []) [];
   env = without x s.env;
   root = id (size s.automaton);
 })
+
+-- the states of a binder, each once or more, in whatever order
+abbrev pub AreStatesOf : ℕ → Scheme → List ℕ → Type 0
+AreStatesOf x s domain = (n : ℕ) → Contains domain n ↔ Contains (states_of x s.env) n
 
 -- a recursion: the root of its body is below each state of its binder
 abbrev pub fix_constraint : ℕ → Scheme → Constraint
@@ -162,20 +170,32 @@ project_constraint label s =
       goals = (s.root.0, suc (suc n)) ∷ [];
     }
 
--- an application: the root of the function is below the functions from the root of the argument
-abbrev pub apply_constraint : Scheme → Scheme → Constraint
-apply_constraint s t =
-    let j = joined (s ∷ t ∷ []) in
+-- an application over both parts side by side: the root of the function is below the functions from the root of the
+-- argument
+abbrev pub application_over : ℕ → ℕ → Joined → Constraint
+application_over function argument j =
     let n = size j.automaton in
     record {
       scheme = record {
         automaton = grown j.automaton (negative empty_head ∷ positive empty_head ∷ negative
-            (function_head ((size s.automaton + t.root.0) ∷ []) (n ∷ [])) ∷ []) (flow n (suc n) ∷ []);
+            (function_head (argument ∷ []) (n ∷ [])) ∷ []) (flow n (suc n) ∷ []);
         env = j.env;
         root = id (suc n);
       };
-      goals = (s.root.0, suc (suc n)) ∷ [];
+      goals = (function, suc (suc n)) ∷ [];
     }
+
+-- the automaton of the function in front
+abbrev pub apply_constraint : Scheme → Scheme → Constraint
+apply_constraint s t = application_over s.root.0 (size s.automaton + t.root.0) (joined (s ∷ t ∷ []))
+
+-- the automaton of the argument in front
+abbrev pub turned_constraint : Scheme → Scheme → Constraint
+turned_constraint s t = application_over (size t.automaton + s.root.0) t.root.0 (joined (t ∷ s ∷ []))
+
+-- an application, with the automata of the two side by side in either order
+abbrev pub IsApplied : Scheme → Scheme → Constraint → Type 0
+IsApplied s t c = (c ≡ apply_constraint s t) ⊎ (c ≡ turned_constraint s t)
 
 -- a conditional: the root of the condition is below `bool`, those of the branches below one new state
 abbrev pub choice_constraint : Scheme → Scheme → Scheme → Constraint

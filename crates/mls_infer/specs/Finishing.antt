@@ -6,8 +6,7 @@ use Rattle.std.specs.Ordering.{nat_cmp, eq_by_cmp}
 use Rattle.std.specs.List.{AllPairs}
 use Rattle.mls_book.specs.Schemes as book
 use Rattle.mls_automaton.specs.declared.scheme.Scheme.{Scheme}
-use Rattle.mls_automaton.specs.Environments.{BindersRise}
-use Rattle.mls_automaton.specs.Schemes.{IsScheme, IsSchemeOf}
+use Rattle.mls_automaton.specs.Schemes.{IsSchemeOf}
 use Rattle.mls_term.specs.declared.term.TermForm.{TermForm}
 use Rattle.mls_term.specs.declared.term.TermForm.TheVariants as form
 use Rattle.mls_term.specs.declared.term.TermNode.{TermNode}
@@ -21,18 +20,20 @@ use Rattle.mls_infer.specs.declared.fault.InferFault.{InferFault}
 use Rattle.mls_infer.specs.declared.fault.InferFault.TheVariants as fault
 use Rattle.mls_infer.specs.declared.fault.SiteKind.{SiteKind}
 use Rattle.mls_infer.specs.declared.constraints.Constraints.{Constraints}
+use Rattle.mls_infer.specs.declared.constraints.Open.{Open}
 use Rattle.mls_infer.specs.declared.node.Source.{Source}
 use Rattle.mls_infer.specs.declared.node.Source.TheVariants as source
 use Rattle.mls_infer.specs.declared.solve.NoSolution.{NoSolution}
 use Rattle.mls_infer.specs.declared.solve.NoSolution.TheVariants as no_solution
 use Rattle.mls_infer.specs.Constraints.{Constraint, HasStates, int_head, bool_head, bound_constraint}
-use Rattle.mls_infer.specs.Constraints.{literal_constraint, fun_constraint}
-use Rattle.mls_infer.specs.Constraints.{fix_constraint, apply_constraint, project_constraint, choice_constraint}
+use Rattle.mls_infer.specs.Constraints.{AreStatesOf, HasOneState, IsApplied, literal_constraint, fun_constraint}
+use Rattle.mls_infer.specs.Constraints.{fix_constraint, project_constraint, choice_constraint}
+use Rattle.mls_infer.specs.Merges.{AreAlike}
 use Rattle.mls_infer.specs.Constraints.{let_constraint}
 use Rattle.mls_infer.specs.Finished.{Finished, Has, HasEach, child_of}
 use Rattle.mls_infer.specs.Inference.{IsKindAt, schemes_in}
 use Rattle.mls_infer.specs.Joining.{part_labels}
-use Rattle.mls_infer.specs.Posed.{IsMadeOf, IsGoalOf, constraint_of}
+use Rattle.mls_infer.specs.Posed.{IsMadeOf, IsGoalOf, constraint_of, scheme_in}
 use Rattle.mls_infer.specs.Solved.{TellsFirstClash}
 use Rattle.mls_infer.specs.Steps.{IsReadAs, IsSolution, HasNoTypes}
 
@@ -59,13 +60,13 @@ abbrev pub IsPosed : TermForm → List Scheme → Constraint → Type 0
 IsPosed (form.Bound x) [] c = c ≡ bound_constraint x
 IsPosed (form.Number value) [] c = c ≡ literal_constraint int_head
 IsPosed (form.Truth value) [] c = c ≡ literal_constraint bool_head
-IsPosed (form.Fun x e) (s ∷ []) c = c ≡ fun_constraint x s
-IsPosed (form.Apply f a) (s ∷ t ∷ []) c = c ≡ apply_constraint s t
+IsPosed (form.Fun x e) (s ∷ []) c = (domain : List ℕ) × AreStatesOf x s domain × (c ≡ fun_constraint domain x s)
+IsPosed (form.Apply f a) (s ∷ t ∷ []) c = IsApplied s t c
 IsPosed (form.Make parts) ss c = IsMadeOf (part_labels parts) ss c
 IsPosed (form.Project e label) (s ∷ []) c = c ≡ project_constraint label s
 IsPosed (form.If c e f) (r ∷ s ∷ t ∷ []) d = d ≡ choice_constraint r s t
 IsPosed (form.Let k e f) (s ∷ t ∷ []) c = c ≡ let_constraint s t
-IsPosed (form.Rec x e) (s ∷ []) c = c ≡ fix_constraint x s
+IsPosed (form.Rec x e) (s ∷ []) c = HasOneState x s × (c ≡ fix_constraint x s)
 IsPosed _ ss c = ⊥
 
 -- Schemes of the names that are in scope: those of the environment, and for each let the root of its first part.
@@ -73,23 +74,25 @@ pub record Scope : Type 0 where
   pub globals : List book.Scheme
   pub first_of : ℕ → Option ℕ
 
--- the constraint of a node over the schemes of its parts
+-- the constraint of a node over the schemes of its parts, or over others with the same types
 pub record HasConstraint (node : TermForm) (done : Finished) (c : Constraint) : Type 0 where
   pub schemes : List Scheme
   pub each : HasEach done (children node) schemes
-  pub is : IsPosed node schemes c
+  pub taken : List Scheme
+  pub alike : AreAlike schemes taken
+  pub is : IsPosed node taken c
 
 -- the schemes of the parts of a node are there, each under a number of its own
 pub record HasParts (node : TermForm) (done : Finished) : Type 0 where
   pub schemes : List Scheme
   pub each : HasEach done (children node) schemes
-  pub are : All IsScheme schemes
+  pub are : All HasStates schemes
   pub distinct : AllPairs (λ i j. i ≢ j) (children node)
   pub built : IsBuilt node
 
 -- a node can be inferred
 abbrev pub CanStep : Scope → TermForm → Finished → Type 0
-CanStep scope (form.Inner k) done = (i : ℕ) × (s : Scheme) × (scope.first_of k ≡ Some i) × Has done i s × IsScheme s
+CanStep scope (form.Inner k) done = (i : ℕ) × (s : Scheme) × (scope.first_of k ≡ Some i) × Has done i s × HasStates s
 CanStep scope (form.Global g) done = g < length scope.globals
 CanStep scope node done = HasParts node done
 
@@ -112,8 +115,7 @@ pub record KeepsOthers (node : TermForm) (old new : Finished) : Type 0 where
 -- the scheme of a node is added behind the others, and its parts alone may be gone
 pub record IsStep (scope : Scope) (node : TermForm) (old new : Finished) (s : Scheme) : Type 0 where
   pub answer : IsAnswer scope node old s
-  pub is : IsScheme s
-  pub rise : BindersRise s.env
+  pub states : HasStates s
   pub longer : length new ≡ suc (length old)
   pub added : Has new (length old) s
   pub kept : (j : ℕ) → j < length old → (Contains (children node) j → ⊥) → slice_get new j ≡ slice_get old j
@@ -180,7 +182,7 @@ without_env s = record { automaton = s.automaton; env = []; root = s.root }
 pub record IsInferred (globals : List book.Scheme) (whole : TermTree) (done : Finished) : Type 0 where
   pub scheme : Scheme
   pub there : Has done (before whole) scheme
-  pub is : IsScheme scheme
+  pub is : HasStates scheme
   pub best : (u : book.Scheme) → IsSchemeOf (without_env scheme) u → IsBest (at_start globals) whole u
 
 -- the loop goes on with these nodes of an expression
@@ -201,33 +203,30 @@ pub record IsPosedBy (node : TermForm) (done : Finished) (c : Constraints) : Typ
   pub states : HasStates (constraint_of c).scheme
   pub goals : All (IsGoalOf c.automaton) c.goals
 
--- a scheme with rising binders, of a known name
+-- the scheme of a known name
 pub record IsNamedBy (scope : Scope) (node : TermForm) (done : Finished) (s : Scheme) : Type 0 where
   pub named : IsNamed scope node done s
-  pub is : IsScheme s
-  pub rise : BindersRise s.env
+  pub states : HasStates s
 
 -- each of these is the scheme of the name of this number
 pub record IsRead (globals : List book.Scheme) (g : ℕ) (s : Scheme) : Type 0 where
   pub book : book.Scheme
   pub there : slice_get globals g ≡ Some book
   pub read : IsReadAs s book
-  pub is : IsScheme s
-  pub rise : BindersRise s.env
+  pub states : HasStates s
 
-abbrev pub AreReads : List book.Scheme → BTreeMap ℕ Scheme → Type 0
-AreReads globals reads = (g : ℕ) (s : Scheme) → get nat_cmp reads g ≡ Some s → IsRead globals g s
+abbrev pub AreReads : List book.Scheme → BTreeMap ℕ Open → Type 0
+AreReads globals reads = (g : ℕ) (part : Open) → get nat_cmp reads g ≡ Some part → IsRead globals g (scheme_in part)
 
 -- a node was made the scheme of a known name, or a constraint
 abbrev pub IsPosedAs : Scope → TermForm → Finished → Source → Type 0
-IsPosedAs scope node done (source.Named s) = IsNamedBy scope node done s
+IsPosedAs scope node done (source.Named part) = IsNamedBy scope node done (scheme_in part)
 IsPosedAs scope node done (source.Built c) = IsPosedBy node done c
 
 -- the scheme of a node is known, and it is not yet among the others
 pub record IsAnswerBy (scope : Scope) (node : TermForm) (done : Finished) (s : Scheme) : Type 0 where
   pub answer : IsAnswer scope node done s
-  pub is : IsScheme s
-  pub rise : BindersRise s.env
+  pub states : HasStates s
 
 -- solving stopped at a node
 abbrev pub StopsAt : TermForm → Finished → NoSolution → Type 0

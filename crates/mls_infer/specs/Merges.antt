@@ -1,5 +1,5 @@
 -- Constraints whose binders have fewer states, with the same types.
-use Rattle.std.specs.Prelude.{◌≡◌, ◌≢◌, ◌↔◌, ℕ, ◌<◌, ◌≤◌, List, ◌++◌, map, length, get_or, take, Contains}
+use Rattle.std.specs.Prelude.{◌≡◌, ◌≢◌, ◌↔◌, ℕ, ◌<◌, ◌≤◌, List, [], ◌∷◌, ◌++◌, length, get_or, take, Contains}
 use Rattle.mls_book.specs.Predicates.{Predicate}
 use Rattle.mls_automaton.specs.declared.automaton.Polarity.{Polarity}
 use Rattle.mls_automaton.specs.declared.automaton.Polarity.TheVariants.{Positive, Negative}
@@ -9,12 +9,9 @@ use Rattle.mls_automaton.specs.Automata.{Automaton, HasFlow, head_at, IsState}
 use Rattle.mls_automaton.specs.Environments.{BindersRise}
 use Rattle.mls_automaton.specs.Models.{IsClosed}
 use Rattle.mls_scheme.specs.steps.Meeting.{AddsMet}
-use Rattle.mls_infer.specs.declared.merge.Solvable.{Solvable}
-use Rattle.mls_infer.specs.Constraints.{Constraint, HasTypes}
-use Rattle.mls_infer.specs.Posed.{goal_pair}
-
-abbrev pub solvable_constraint : Solvable → Constraint
-solvable_constraint s = record { scheme = s.scheme; goals = map goal_pair s.goals }
+use Rattle.mls_automaton.specs.declared.scheme.Scheme.{Scheme}
+use Rattle.mls_automaton.specs.Schemes.{IsScheme}
+use Rattle.mls_infer.specs.Constraints.{Constraint, HasOneState, HasStates, HasTypes, no_goals, states_of}
 
 -- models of the two give the same types
 abbrev pub HaveSameTypes : Constraint → Constraint → Type 0
@@ -56,6 +53,27 @@ pub record Merges (a : Automaton) (env : List EnvEntry) (b : Automaton) (fewer :
   pub types : (others : List EnvEntry) (root : StateId) (goals : List (ℕ × ℕ)) → AreNegative a others
       → IsState a Positive root.0 → AreBetween a goals
       → HaveSameTypes (over a (env ++ others) root goals) (over b (fewer ++ others) root goals)
+
+-- A scheme in which each binder has one state, with the same types: it has further states behind those of the other. A
+-- binder that has one state at most keeps it.
+pub record IsMergedScheme (s m : Scheme) : Type 0 where
+  pub is : IsScheme m
+  pub rise : BindersRise m.env
+  pub extended : IsExtended s.automaton m.automaton
+  pub root : m.root ≡ s.root
+  pub types : HaveSameTypes (no_goals s) (no_goals m)
+  pub one : (x : ℕ) → HasOneState x s → states_of x m.env ≡ states_of x s.env
+
+abbrev pub AreMergedSchemes : List Scheme → List Scheme → Type 0
+AreMergedSchemes [] [] = Unit {0}
+AreMergedSchemes (s ∷ ss) (m ∷ ms) = IsMergedScheme s m × AreMergedSchemes ss ms
+AreMergedSchemes _ _ = ⊥
+
+-- schemes with the same types, pair by pair
+abbrev pub AreAlike : List Scheme → List Scheme → Type 0
+AreAlike [] [] = Unit {0}
+AreAlike (s ∷ ss) (t ∷ ts) = (HasStates t × HaveSameTypes (no_goals s) (no_goals t)) × AreAlike ss ts
+AreAlike _ _ = ⊥
 
 -- the new state has the combined head and all edges of the two
 pub record IsMet (first second state : ℕ) (old new : Automaton) : Type 0 where

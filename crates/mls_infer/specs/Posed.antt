@@ -6,12 +6,17 @@ use Rattle.mls_automaton.specs.declared.scheme.Scheme.{Scheme}
 use Rattle.mls_automaton.specs.Automata.{Automaton, IsState}
 use Rattle.mls_biunify.specs.declared.goal.Goal.{Goal}
 use Rattle.mls_infer.specs.declared.constraints.Constraints.{Constraints}
+use Rattle.mls_infer.specs.declared.constraints.Open.{Open}
 use Rattle.mls_infer.specs.Constraints.{Constraint, AreFieldsOf, joined, make_constraint}
 use Rattle.mls_term.specs.Terms.{TermFields}
 use Rattle.mls_term.specs.Derivations.{labels_of}
 
 abbrev pub goal_pair : Goal → ℕ × ℕ
 goal_pair g = (g.positive.0, g.negative.0)
+
+-- a part without goals
+abbrev pub scheme_in : Open → Scheme
+scheme_in o = record { automaton = o.automaton; env = o.env; root = o.root }
 
 abbrev pub constraint_of : Constraints → Constraint
 constraint_of c = record {

@@ -10,7 +10,7 @@ use Rattle.mls_term.specs.Terms.{TermTree, bound, inner, global, number, truth, 
 use Rattle.mls_term.specs.Derivations.{Known}
 use Rattle.mls_typing.specs.Typed.{Allows}
 use Rattle.mls_infer.specs.Constraints.{Constraint, HasTypes, HasStates, no_goals, joined, int_head, bool_head}
-use Rattle.mls_infer.specs.Constraints.{bound_constraint, literal_constraint, fun_constraint, apply_constraint}
+use Rattle.mls_infer.specs.Constraints.{AreStatesOf, bound_constraint, literal_constraint, fun_constraint, IsApplied}
 use Rattle.mls_infer.specs.Constraints.{AreFieldsOf, make_constraint, project_constraint, choice_constraint}
 use Rattle.mls_infer.specs.Constraints.{fix_constraint}
 
@@ -39,8 +39,9 @@ IsConstraintOf known (global at g) [] c = (s : Scheme) × (t : book.Scheme) × (
 IsConstraintOf known (bound at x) [] c = c ≡ bound_constraint x
 IsConstraintOf known (number at value) [] c = c ≡ literal_constraint int_head
 IsConstraintOf known (truth at value) [] c = c ≡ literal_constraint bool_head
-IsConstraintOf known (fun at x e) (s ∷ []) c = c ≡ fun_constraint x s
-IsConstraintOf known (apply at e e') (s ∷ t ∷ []) c = c ≡ apply_constraint s t
+IsConstraintOf known (fun at x e) (s ∷ []) c =
+    (domain : List ℕ) × AreStatesOf x s domain × (c ≡ fun_constraint domain x s)
+IsConstraintOf known (apply at e e') (s ∷ t ∷ []) c = IsApplied s t c
 IsConstraintOf known (make at parts) ss c = (fields : List FieldSet) × AreFieldsOf parts (joined ss).roots fields
     × (c ≡ make_constraint fields ss)
 IsConstraintOf known (project at e label) (s ∷ []) c = c ≡ project_constraint label s

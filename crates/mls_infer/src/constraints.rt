@@ -7,6 +7,14 @@ use mls_automaton::state_set::StateId;
 use mls_base::list::List;
 use mls_biunify::goal::Goal;
 
+/// A scheme over an automaton, in which a binder may have several states.
+#[derive(Drop)]
+pub struct Open {
+    pub automaton: Automaton,
+    pub env: List<EnvEntry>,
+    pub root: StateId,
+}
+
 /// A scheme over an automaton, in which a binder may have several states, and goals between states.
 #[derive(Drop)]
 pub struct Constraints {

@@ -1,21 +1,22 @@
-//! The schemes of finished parts.
+//! Finished parts.
 ghost use Rattle.std.specs.Prelude.{◌≡◌, ◌≢◌, ◌++◌, ◌∷◌, [], length, map, slice_get, Contains, IfOk, OnOk, Some};
 ghost use Rattle.std.specs.List.{AllPairs};
 ghost use Rattle.mls_automaton.specs.declared.scheme.Scheme.{Scheme};
 ghost use Rattle.mls_infer.specs.Finished.{Has, HasEach, child_of};
+ghost use Rattle.mls_infer.specs.Posed.{scheme_in};
 
-use mls_automaton::scheme::Scheme;
+use crate::constraints::Open;
 use mls_base::list::List;
 use mls_base::memory::Memory;
 use mls_term::term::Part;
 use std::alloc::Global;
 use std::marker::Model;
 
-/// The schemes of finished parts, each under the number of its root, until the node above takes it. Contracts see the
-/// list.
+/// The finished parts, each under the number of its root, until the node above takes it. Contracts see the list of
+/// their schemes.
 #[derive(Drop)]
 pub(crate) struct Finished {
-    schemes: Vec<Option<Scheme>>,
+    parts: Vec<Option<Open>>,
 }
 
 impl Model for Finished {
@@ -23,7 +24,9 @@ impl Model for Finished {
 
     ghost Value = { Finished };
 
-    ghost view = { λ a. a.schemes.items };
+    ghost use Rattle.mls_infer.specs.Finished.{schemes_in};
+
+    ghost view = { λ a. schemes_in a.parts.items };
 }
 
 impl Finished {
@@ -32,59 +35,55 @@ impl Finished {
         ensures { result ≡ [] }
     {
         Finished {
-            schemes: Vec::new(alloc),
+            parts: Vec::new(alloc),
         }
     }
 
-    /// Adds the scheme of the next node.
-    pub(crate) fn push(&mut self, scheme: Scheme) -> Result<(), Memory>
-        ensures { OnOk result (self.new ≡ self.old ++ Some scheme ∷ []) }
+    /// Adds the next node.
+    pub(crate) fn push(&mut self, part: Open) -> Result<(), Memory>
+        ensures { OnOk result (self.new ≡ self.old ++ Some (scheme_in part) ∷ []) }
     {
-        self.schemes.push(Some(scheme))?;
+        self.parts.push(Some(part))?;
         Ok(())
     }
 
-    /// Takes the scheme of a part.
-    pub(crate) fn take(&mut self, i: usize) -> Scheme
+    /// Takes a part.
+    pub(crate) fn take(&mut self, i: usize) -> Open
         requires there { (s : Scheme) × Has self.old i s }
-        ensures taken { Has self.old i result }
+        ensures taken { Has self.old i (scheme_in result) }
         ensures kept { (j : _) → j ≢ i → slice_get self.new j ≡ slice_get self.old j }
         ensures size { length self.new ≡ length self.old }
     {
-        match self.schemes[i].take() {
-            Some(scheme) => scheme,
+        match self.parts[i].take() {
+            Some(part) => part,
             None => unreachable!(),
         }
     }
 
-    /// The scheme of a part.
-    pub(crate) fn get(&self, i: usize) -> &Scheme
+    /// A part.
+    pub(crate) fn get(&self, i: usize) -> &Open
         requires { (s : Scheme) × Has self.now i s }
-        ensures { Has self.now i result.now }
+        ensures { Has self.now i (scheme_in result.now) }
     {
-        match &self.schemes[i] {
-            Some(scheme) => scheme,
+        match &self.parts[i] {
+            Some(part) => part,
             None => unreachable!(),
         }
     }
 
-    /// Takes the schemes of the parts of a record.
-    pub(crate) fn take_each(
-        &mut self,
-        alloc: Global,
-        parts: &[Part],
-    ) -> Result<List<Scheme>, Memory>
+    /// Takes the parts of a record.
+    pub(crate) fn take_each(&mut self, alloc: Global, parts: &[Part]) -> Result<List<Open>, Memory>
         requires there { (ss : _) × HasEach self.old (map child_of parts.now) ss }
         requires distinct { AllPairs (λ i j. i ≢ j) (map child_of parts.now) }
-        ensures taken { IfOk result (λ ss. HasEach self.old (map child_of parts.now) ss) }
+        ensures taken { IfOk result (λ taken. HasEach self.old (map child_of parts.now) (map scheme_in taken)) }
         ensures kept { OnOk result ((j : _) → (Contains (map child_of parts.now) j → ⊥)
             → slice_get self.new j ≡ slice_get self.old j) }
         ensures size { length self.new ≡ length self.old }
     {
-        let mut schemes = List::new(alloc);
+        let mut taken = List::new(alloc);
         for part in parts {
-            schemes.push(self.take(part.child))?;
+            taken.push(self.take(part.child))?;
         }
-        Ok(schemes)
+        Ok(taken)
     }
 }

@@ -3,10 +3,9 @@ ghost use Rattle.std.specs.Prelude.{◌≡◌, [], All, IfErr, IfOk, OnOk, lengt
 ghost use Rattle.std.specs.BTreeMap.{get};
 ghost use Rattle.std.specs.Ordering.{nat_cmp};
 ghost use Rattle.mls_automaton.specs.declared.scheme.Scheme.{Scheme};
-ghost use Rattle.mls_automaton.specs.Environments.{BindersRise};
 ghost use Rattle.mls_automaton.specs.Schemes.{IsScheme};
 ghost use Rattle.mls_infer.specs.Constraints.{Constraint, HasStates};
-ghost use Rattle.mls_infer.specs.Posed.{IsGoalOf, constraint_of};
+ghost use Rattle.mls_infer.specs.Posed.{IsGoalOf, constraint_of, scheme_in};
 ghost use Rattle.mls_infer.specs.Solved.{IsClashWithout, TellsFirstClash};
 ghost use Rattle.mls_infer.specs.Steps.{IsSolution};
 ghost use Rattle.mls_shape.specs.Simplified.{IsSimplified};
@@ -17,10 +16,11 @@ ghost use Rattle.mls_infer.specs.Finishing.{KeepsOthers};
 ghost use Rattle.mls_infer.specs.Finishing.{StopsAt, first_in, scope_of};
 ghost use Rattle.mls_infer.specs.Inference.{AreNames, IsBestFor, IsFirstWithout, TellsKindOf, schemes_in};
 
-use crate::constraints::Constraints;
+use crate::constraints::{Constraints, Open};
 use crate::fault::{InferFault, Site};
 use crate::finished::Finished;
 use crate::firsts::firsts_of;
+use crate::merge::{merged, opened};
 use crate::node::{Source, posed};
 use crate::reads::{Reads, reads_of};
 use crate::solve::{NoSolution, solve};
@@ -99,10 +99,10 @@ fn infer_nodes(
     for i in 0..nodes.len() {
         let node = &nodes[i].form;
         let mut walk = walks.walk_of(node, is_among(&named, i));
-        match scheme_of(alloc, names, reads, firsts, &mut done, node, &mut walk) {
-            Ok(scheme) => {
+        match part_of(alloc, names, reads, firsts, &mut done, node, &mut walk) {
+            Ok(part) => {
                 walks.note(walk)?;
-                done.push(scheme)?;
+                done.push(part)?;
             }
             Err(NoSolution::Clash(kind)) => {
                 return Err(InferFault::NoScheme(Site { node: i, kind }));
@@ -113,8 +113,8 @@ fn infer_nodes(
     Ok(done)
 }
 
-// The scheme of a node. That of a let's first part is simplified, as each use of the let's name copies it.
-fn scheme_of(
+// The part of a node. That of a let's first part is simplified, as each use of the let's name copies it.
+fn part_of(
     alloc: Global,
     names: &Names,
     reads: &Reads,
@@ -122,61 +122,70 @@ fn scheme_of(
     done: &mut Finished,
     node: &TermForm,
     walk: &mut Walk,
-) -> Result<Scheme, NoSolution>
+) -> Result<Open, NoSolution>
     requires names { AreNames names.now }
     requires reads { AreReads (schemes_in names.now) reads.now }
     requires can { CanStep (scope_of names.now firsts.now) node.now done.old }
-    ensures answer { IfOk result (IsAnswerBy (scope_of names.now firsts.now) node.now done.old) }
+    ensures answer { IfOk result (λ part. IsAnswerBy (scope_of names.now firsts.now) node.now done.old
+        (scheme_in part)) }
     ensures others { OnOk result (KeepsOthers node.now done.old done.new) }
     ensures stops { IfErr result (StopsAt node.now done.old) }
 {
-    match posed(alloc, names, reads, firsts, done, node)? {
-        Source::Named(scheme) => {
-            walk.weigh_all(&scheme.automaton);
-            Ok(scheme)
+    match posed(alloc, names, reads, firsts, done, node, walk.is_turned)? {
+        Source::Named(part) => {
+            walk.weigh(&part.automaton);
+            Ok(part)
         }
         Source::Built(c) => solved(alloc, c, walk),
     }
 }
 
-// The scheme with just the types of the constraints, simplified or not.
-fn solved(alloc: Global, c: Constraints, walk: &mut Walk) -> Result<Scheme, NoSolution>
+// The part with just the types of the constraints, simplified or not.
+fn solved(alloc: Global, c: Constraints, walk: &mut Walk) -> Result<Open, NoSolution>
     requires states { HasStates (constraint_of c).scheme }
     requires goals { All (IsGoalOf c.automaton) c.goals }
-    ensures solution { IfOk result (IsSolution (constraint_of c)) }
-    ensures scheme { IfOk result IsScheme }
-    ensures rise { IfOk result (λ (s : Scheme). BindersRise s.env) }
+    ensures solution { IfOk result (λ part. IsSolution (constraint_of c) (scheme_in part)) }
     ensures none { IfErr result (IsClashWithout (constraint_of c)) }
     ensures first { IfErr result (TellsFirstClash (constraint_of c)) }
 {
-    let states = c.automaton.len();
-    let scheme = solve(alloc, c)?;
-    walk.weigh(&scheme, states);
-    if !walk.simplifies {
-        let kept = trimmed(scheme, walk)?;
+    let part = solve(alloc, c)?;
+    if walk.simplifies {
+        let simple = simplified(alloc, part, walk)?;
+        return Ok(simple);
+    }
+    if walk.is_due() {
+        let kept = trimmed(alloc, part, walk)?;
         return Ok(kept);
     }
-    let simple = simplify(alloc, &scheme)?;
-    simple.env.as_slice();
-    walk.done(simple.automaton.len());
-    Ok(simple)
+    Ok(part)
 }
 
-// The scheme over the states alone that are reached, where a walk is due; else the scheme as it is.
-fn trimmed(scheme: Scheme, walk: &mut Walk) -> Result<Scheme, Memory>
-    requires scheme { IsScheme scheme }
-    requires rise { BindersRise scheme.env }
-    ensures solution { IfOk result (λ s. (c : Constraint) → IsSolution c scheme → IsSolution c s) }
-    ensures scheme { IfOk result IsScheme }
-    ensures rise { IfOk result (λ (s : Scheme). BindersRise s.env) }
+// The part, simplified, with one state for each binder.
+fn simplified(alloc: Global, part: Open, walk: &mut Walk) -> Result<Open, Memory>
+    requires { HasStates (scheme_in part) }
+    ensures { IfOk result (λ simple. (c : Constraint) → IsSolution c (scheme_in part)
+        → IsSolution c (scheme_in simple)) }
 {
-    if !walk.is_due(scheme.automaton.len()) {
-        return Ok(scheme);
-    }
+    let scheme = merged(alloc, part)?;
+    let simple = simplify(alloc, &scheme)?;
+    simple.env.as_slice();
+    walk.done(&simple.automaton);
+    let part = opened(alloc, simple)?;
+    Ok(part)
+}
+
+// The part over the states alone that are reached, with one state for each binder.
+fn trimmed(alloc: Global, part: Open, walk: &mut Walk) -> Result<Open, Memory>
+    requires { HasStates (scheme_in part) }
+    ensures { IfOk result (λ kept. (c : Constraint) → IsSolution c (scheme_in part)
+        → IsSolution c (scheme_in kept)) }
+{
+    let scheme = merged(alloc, part)?;
     let kept = scheme.keep_reachable()?;
     kept.env.as_slice();
-    walk.done(kept.automaton.len());
-    Ok(kept)
+    walk.done(&kept.automaton);
+    let part = opened(alloc, kept)?;
+    Ok(part)
 }
 
 fn is_among(named: &BTreeSet<usize>, i: usize) -> bool {

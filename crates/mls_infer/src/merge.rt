@@ -1,59 +1,140 @@
 //! One state for each binder: the states of a binder give way to one with the combined head and the edges of all.
-ghost use Rattle.std.specs.Prelude.{◌≡◌, ◌↔◌, ◌⊎◌, ◌<◌, ◌∷◌, [], length, All, Contains, IfOk, OnOk};
+ghost use Rattle.std.specs.Prelude.{◌≡◌, ◌↔◌, ◌⊎◌, ◌<◌, ◌∷◌, [], filter, length, All, Contains, IfOk, OnOk};
+ghost use Rattle.std.specs.Ordering.{nat_cmp, eq_by_cmp};
 ghost use Rattle.mls_automaton.specs.declared.automaton.Polarity.TheVariants.{Positive, Negative};
+ghost use Rattle.mls_automaton.specs.declared.scheme.EnvEntry.{EnvEntry};
+ghost use Rattle.mls_automaton.specs.declared.scheme.Scheme.{Scheme};
 ghost use Rattle.mls_automaton.specs.Automata.{HasFlow, IsState};
 ghost use Rattle.mls_automaton.specs.Environments.{BindersRise};
 ghost use Rattle.mls_automaton.specs.Models.{IsClosed};
 ghost use Rattle.mls_automaton.specs.Schemes.{IsScheme};
-ghost use Rattle.mls_biunify.specs.Relations.{IsGoalOf};
-ghost use Rattle.mls_infer.specs.Constraints.{HasStates};
-ghost use Rattle.mls_infer.specs.Merges.{AreNegative, BindersAscend, HasSameMembers, HaveSameTypes, IsExtended};
-ghost use Rattle.mls_infer.specs.Merges.{IsGroup, IsMet, Merges, solvable_constraint};
-ghost use Rattle.mls_infer.specs.Posed.{constraint_of};
+ghost use Rattle.mls_infer.specs.Constraints.{HasOneState, HasStates, no_goals, without};
+ghost use Rattle.mls_infer.specs.Merges.{AreNegative, BindersAscend, HasSameMembers, HaveSameTypes};
+ghost use Rattle.mls_infer.specs.Merges.{IsGroup, IsMet, Merges};
+ghost use Rattle.mls_infer.specs.Posed.{scheme_in};
+ghost use Rattle.mls_infer.specs.Steps.{IsSolution};
 
-use crate::constraints::Constraints;
+use crate::constraints::Open;
 use mls_automaton::automaton::{Automaton, Polarity};
 use mls_automaton::combine::combine_heads;
 use mls_automaton::scheme::{Env, EnvEntry, Scheme};
 use mls_automaton::state_set::{StateId, StateSet};
 use mls_base::list::List;
 use mls_base::memory::Memory;
-use mls_biunify::goal::Goal;
 use std::alloc::Global;
 
-/// A scheme in which each binder has one state, and goals between its states.
-#[derive(Drop)]
-pub(crate) struct Solvable {
-    pub scheme: Scheme,
-    pub goals: List<Goal>,
-}
-
-/// The constraints with one state for each binder. States of one binder are put together two at a time, and what comes
-/// of that again, so that each edge and head is gone through as often as their number has binary digits.
+/// The scheme in which each binder has one state, with the same types.
 ///
 /// # Errors
 ///
 /// `Memory` where memory is wanting.
-pub(crate) fn merge(alloc: Global, c: Constraints) -> Result<Solvable, Memory>
-    requires states { HasStates (constraint_of c).scheme }
-    requires goals { All (IsGoalOf c.automaton) c.goals }
-    ensures types { IfOk result (λ merged. HaveSameTypes (constraint_of c) (solvable_constraint merged)) }
-    ensures scheme { IfOk result (λ merged. IsScheme merged.scheme) }
-    ensures rise { IfOk result (λ merged. BindersRise merged.scheme.env) }
-    ensures goals { IfOk result (λ merged. All (IsGoalOf merged.scheme.automaton) merged.goals) }
-    ensures extended { IfOk result (λ merged. IsExtended c.automaton merged.scheme.automaton) }
-    ensures same { IfOk result (λ merged. merged.goals ≡ c.goals) }
+pub(crate) fn merged(alloc: Global, part: Open) -> Result<Scheme, Memory>
+    requires { HasStates (scheme_in part) }
+    ensures scheme { IfOk result IsScheme }
+    ensures rise { IfOk result (λ (s : Scheme). BindersRise s.env) }
+    ensures solution { IfOk result (IsSolution (no_goals (scheme_in part))) }
 {
-    let mut automaton = c.automaton;
-    let env = merged_env(alloc, &mut automaton, c.env.as_slice())?;
-    Ok(Solvable {
-        scheme: Scheme {
-            automaton,
-            env,
-            root: c.root,
-        },
-        goals: c.goals,
+    let mut automaton = part.automaton;
+    let env = merged_env(alloc, &mut automaton, part.env.as_slice())?;
+    Ok(Scheme {
+        automaton,
+        env,
+        root: part.root,
     })
+}
+
+/// One state for this binder; the entries of the others stay. Where it has one state at most, the part stays as it is.
+///
+/// # Errors
+///
+/// `Memory` where memory is wanting.
+pub(crate) fn with_one_state(alloc: Global, binder: usize, part: Open) -> Result<Open, Memory>
+    requires { HasStates (scheme_in part) }
+    ensures states { IfOk result (λ o. HasStates (scheme_in o)) }
+    ensures one { IfOk result (λ o. HasOneState binder (scheme_in o)) }
+    ensures others { IfOk result (λ o. without binder o.env ≡ without binder part.env) }
+    ensures types { IfOk result (λ o. HaveSameTypes (no_goals (scheme_in part)) (no_goals (scheme_in o))) }
+{
+    let entries = entries_of(alloc, binder, part.env.as_slice())?;
+    if entries.len() <= 1 {
+        return Ok(part);
+    }
+    let mut env = entries_without(alloc, binder, part.env.as_slice())?;
+    let mut automaton = part.automaton;
+    let entry = merged_entry(alloc, &mut automaton, binder, entries.as_slice())?;
+    env.push(entry)?;
+    Ok(Open {
+        automaton,
+        env,
+        root: part.root,
+    })
+}
+
+/// The same scheme, whose binders have one state each, as a part.
+///
+/// # Errors
+///
+/// `Memory` where memory is wanting.
+pub(crate) fn opened(alloc: Global, scheme: Scheme) -> Result<Open, Memory>
+    requires { IsScheme scheme }
+    ensures same { IfOk result (λ o. scheme_in o ≡ scheme) }
+    ensures states { IfOk result (λ o. HasStates (scheme_in o)) }
+{
+    let env = all_entries(alloc, scheme.env.as_slice())?;
+    Ok(Open {
+        automaton: scheme.automaton,
+        env,
+        root: scheme.root,
+    })
+}
+
+/// A scheme that has no binder, as a part.
+pub(crate) fn without_binders(alloc: Global, scheme: Scheme) -> Open
+    requires { scheme.env ≡ [] }
+    ensures { scheme_in result ≡ scheme }
+{
+    Open {
+        automaton: scheme.automaton,
+        env: List::new(alloc),
+        root: scheme.root,
+    }
+}
+
+// All entries, as a list.
+fn all_entries(alloc: Global, env: &[EnvEntry]) -> Result<List<EnvEntry>, Memory>
+    ensures { IfOk result (λ entries. entries ≡ env.now) }
+{
+    let mut entries = List::new(alloc);
+    for entry in env {
+        entries.push(*entry)?;
+    }
+    Ok(entries)
+}
+
+// The entries of a binder.
+fn entries_of(alloc: Global, binder: usize, env: &[EnvEntry]) -> Result<List<EnvEntry>, Memory>
+    ensures { IfOk result (λ entries. entries ≡ filter (λ (e : EnvEntry). eq_by_cmp nat_cmp e.binder binder) env.now) }
+{
+    let mut entries = List::new(alloc);
+    for entry in env {
+        if entry.binder == binder {
+            entries.push(*entry)?;
+        }
+    }
+    Ok(entries)
+}
+
+// The entries of the other binders.
+fn entries_without(alloc: Global, binder: usize, env: &[EnvEntry]) -> Result<List<EnvEntry>, Memory>
+    ensures { IfOk result (λ others. others ≡ without binder env.now) }
+{
+    let mut others = List::new(alloc);
+    for entry in env {
+        if entry.binder != binder {
+            others.push(*entry)?;
+        }
+    }
+    Ok(others)
 }
 
 // Adds a state for each binder that has several.

@@ -2,23 +2,21 @@
 ghost use Rattle.std.specs.Prelude.{◌≡◌, ◌<◌, ◌∷◌, [], length, map, All, IfOk, OnOk, Some, option_copied};
 ghost use Rattle.std.specs.BTreeMap.{get};
 ghost use Rattle.std.specs.Ordering.{nat_cmp};
-ghost use Rattle.mls_automaton.specs.declared.scheme.Scheme.{Scheme};
-ghost use Rattle.mls_automaton.specs.Environments.{BindersRise};
-ghost use Rattle.mls_automaton.specs.Schemes.{IsScheme};
 ghost use Rattle.mls_term.specs.declared.term.TermForm.TheVariants as form;
 ghost use Rattle.mls_infer.specs.Finished.{Has, child_of};
 ghost use Rattle.mls_infer.specs.Finishing.{AreReads, CanStep, HasParts, IsNamedBy, IsPosedAs, IsPosedBy, KeepsOthers};
 ghost use Rattle.mls_infer.specs.Finishing.{scope_of};
 ghost use Rattle.mls_infer.specs.Inference.{AreNames, schemes_in};
+ghost use Rattle.mls_infer.specs.Posed.{scheme_in};
 
-use crate::constraints::Constraints;
+use crate::constraints::{Constraints, Open};
 use crate::finished::Finished;
+use crate::merge::{with_one_state, without_binders};
 use crate::reads::Reads;
 use crate::rows::{
     application, bound, conditional, function, let_in, number, projection, record, record_of_one,
     recursion, truth,
 };
-use mls_automaton::scheme::Scheme;
 use mls_base::memory::Memory;
 use mls_book::name::Name;
 use mls_scheme::read::scheme_of_read;
@@ -30,7 +28,7 @@ use std::collections::BTreeMap;
 /// The scheme of a known name, or the constraint of another node.
 #[derive(Drop)]
 pub enum Source {
-    Named(Scheme),
+    Named(Open),
     Built(Constraints),
 }
 
@@ -42,6 +40,7 @@ pub(crate) fn posed(
     firsts: &BTreeMap<usize, usize>,
     done: &mut Finished,
     node: &TermForm,
+    is_turned: bool,
 ) -> Result<Source, Memory>
     requires names { AreNames names.now }
     requires reads { AreReads (schemes_in names.now) reads.now }
@@ -58,7 +57,7 @@ pub(crate) fn posed(
         TermForm::Fun(x, e) => Ok(Source::Built(of_function(alloc, done, *x, *e)?)),
         TermForm::Rec(x, e) => Ok(Source::Built(of_recursion(alloc, done, *x, *e)?)),
         TermForm::Project(e, label) => Ok(Source::Built(of_projection(alloc, done, *e, label)?)),
-        TermForm::Apply(f, a) => Ok(Source::Built(of_application(alloc, done, *f, *a)?)),
+        TermForm::Apply(f, a) => Ok(Source::Built(of_application(alloc, done, *f, *a, is_turned)?)),
         TermForm::If(c, e, f) => Ok(Source::Built(of_conditional(alloc, done, *c, *e, *f)?)),
         TermForm::Make(parts) => Ok(Source::Built(of_record(alloc, done, parts)?)),
         TermForm::Let(k, e, f) => Ok(Source::Built(of_let(alloc, done, *k, *e, *f)?)),
@@ -71,9 +70,10 @@ fn of_inner(
     firsts: &BTreeMap<usize, usize>,
     done: &Finished,
     k: usize,
-) -> Result<Scheme, Memory>
+) -> Result<Open, Memory>
     requires { CanStep (scope_of names.now firsts.now) (form.Inner k) done.now }
-    ensures { IfOk result (IsNamedBy (scope_of names.now firsts.now) (form.Inner k) done.now) }
+    ensures { IfOk result (λ part. IsNamedBy (scope_of names.now firsts.now) (form.Inner k) done.now
+        (scheme_in part)) }
 {
     match firsts.get(&k).copied() {
         Some(root) => {
@@ -84,17 +84,15 @@ fn of_inner(
     }
 }
 
-pub(crate) fn copied(scheme: &Scheme) -> Result<Scheme, Memory>
-    ensures same { IfOk result (λ copy. copy ≡ scheme.now) }
-    ensures rise { IfOk result (λ copy. BindersRise scheme.now.env) }
+fn copied(part: &Open) -> Result<Open, Memory>
+    ensures { IfOk result (λ copy. scheme_in copy ≡ scheme_in part.now) }
 {
-    let automaton = scheme.automaton.copy()?;
-    let env = scheme.env.clone()?;
-    env.as_slice();
-    Ok(Scheme {
+    let automaton = part.automaton.copy()?;
+    let env = part.env.clone()?;
+    Ok(Open {
         automaton,
         env,
-        root: scheme.root,
+        root: part.root,
     })
 }
 
@@ -106,11 +104,12 @@ fn of_global(
     firsts: &BTreeMap<usize, usize>,
     done: &Finished,
     g: usize,
-) -> Result<Scheme, Memory>
+) -> Result<Open, Memory>
     requires names { AreNames names.now }
     requires reads { AreReads (schemes_in names.now) reads.now }
     requires there { g < length (schemes_in names.now) }
-    ensures { IfOk result (IsNamedBy (scope_of names.now firsts.now) (form.Global g) done.now) }
+    ensures { IfOk result (λ part. IsNamedBy (scope_of names.now firsts.now) (form.Global g) done.now
+        (scheme_in part)) }
 {
     match reads.get(&g) {
         Some(scheme) => {
@@ -127,13 +126,15 @@ fn read_now(
     firsts: &BTreeMap<usize, usize>,
     done: &Finished,
     g: usize,
-) -> Result<Scheme, Memory>
+) -> Result<Open, Memory>
     requires names { AreNames names.now }
     requires there { g < length (schemes_in names.now) }
-    ensures { IfOk result (IsNamedBy (scope_of names.now firsts.now) (form.Global g) done.now) }
+    ensures { IfOk result (λ part. IsNamedBy (scope_of names.now firsts.now) (form.Global g) done.now
+        (scheme_in part)) }
 {
     let scheme = scheme_of_read(alloc, &names.schemes.as_slice()[g])?;
-    Ok(scheme)
+    let part = without_binders(alloc, scheme);
+    Ok(part)
 }
 
 fn of_bound(alloc: Global, done: &Finished, x: usize) -> Result<Constraints, Memory>
@@ -180,6 +181,7 @@ fn of_recursion(
     ensures others { OnOk result (KeepsOthers (form.Rec x e) done.old done.new) }
 {
     let body = done.take(e);
+    let body = with_one_state(alloc, x, body)?;
     let posed = recursion(alloc, x, body)?;
     Ok(posed)
 }
@@ -195,9 +197,16 @@ fn of_projection(
     ensures others { OnOk result (KeepsOthers (form.Project e label.now) done.old done.new) }
 {
     let body = done.take(e);
-    let label = label.clone()?;
+    let label = copied_label(label)?;
     let posed = projection(alloc, label, body)?;
     Ok(posed)
+}
+
+fn copied_label(label: &Name) -> Result<Name, Memory>
+    ensures { IfOk result (λ copy. copy ≡ label.now) }
+{
+    let copy = label.clone()?;
+    Ok(copy)
 }
 
 fn of_application(
@@ -205,6 +214,7 @@ fn of_application(
     done: &mut Finished,
     f: usize,
     a: usize,
+    is_turned: bool,
 ) -> Result<Constraints, Memory>
     requires { HasParts (form.Apply f a) done.old }
     ensures posed { IfOk result (IsPosedBy (form.Apply f a) done.old) }
@@ -212,7 +222,7 @@ fn of_application(
 {
     let function = done.take(f);
     let argument = done.take(a);
-    let posed = application(alloc, function, &argument)?;
+    let posed = application(alloc, function, argument, is_turned)?;
     Ok(posed)
 }
 

@@ -1,27 +1,27 @@
 //! The constraints of each form of expressions, over the schemes of its parts.
-ghost use Rattle.std.specs.Prelude.{◌≡◌, ◌≢◌, ◌+◌, ◌<◌, ◌++◌, ◌∷◌, [], suc, length, get_or, map, option_map, All};
-ghost use Rattle.std.specs.Prelude.{IfOk, OnOk, None};
+ghost use Rattle.std.specs.Prelude.{◌≡◌, ◌≢◌, ◌↔◌, ◌⊎◌, ℕ, ◌+◌, ◌<◌, ◌≤◌, ◌++◌, ◌∷◌, [], suc, List, length};
+ghost use Rattle.std.specs.Prelude.{get_or, map, option_map, All, Contains, IfOk, OnOk, None};
 ghost use Rattle.std.specs.BTreeMap.{IsOrdered};
 ghost use Rattle.std.specs.List.{AllPairs};
 ghost use Rattle.std.specs.Ordering.{nat_cmp};
 ghost use Rattle.std.specs.Cmp.Lexicographic.{slice_cmp};
-ghost use Rattle.mls_automaton.specs.declared.scheme.Scheme.{Scheme};
-ghost use Rattle.mls_automaton.specs.Environments.{BindersRise};
-ghost use Rattle.mls_automaton.specs.Schemes.{IsScheme, state_of};
+ghost use Rattle.mls_automaton.specs.Schemes.{state_of};
 ghost use Rattle.mls_automaton.specs.declared.state_set.StateId.{StateId};
 ghost use Rattle.mls_infer.specs.Constraints.{HasStates, bool_head, int_head, function_head, joined, record_head};
 ghost use Rattle.mls_infer.specs.Constraints.{size, states_of, without};
 ghost use Rattle.mls_infer.specs.Constraints.{bound_constraint, literal_constraint, fun_constraint, fix_constraint};
-ghost use Rattle.mls_infer.specs.Constraints.{apply_constraint, project_constraint, choice_constraint, let_constraint};
+ghost use Rattle.mls_infer.specs.Constraints.{application_over, apply_constraint, turned_constraint, IsApplied};
+ghost use Rattle.mls_infer.specs.Constraints.{project_constraint, choice_constraint, let_constraint};
+ghost use Rattle.mls_infer.specs.Constraints.{AreStatesOf, HasOneState};
 ghost use Rattle.mls_automaton.specs.Automata.{HasTrueFlows};
 ghost use Rattle.mls_automaton.specs.Embeddings.{appended};
-ghost use Rattle.mls_infer.specs.Posed.{constraint_of, goal_pair, IsGoalOf, IsMadeOf};
+ghost use Rattle.mls_infer.specs.Posed.{constraint_of, goal_pair, scheme_in, IsGoalOf, IsMadeOf};
 ghost use Rattle.mls_infer.specs.Joining.{field_of, listed, raised_entries, with_passage};
 ghost use Rattle.mls_infer.specs.Joining.{AreRows, number_of, part_labels, row_field};
 
-use crate::constraints::Constraints;
+use crate::constraints::{Constraints, Open};
 use mls_automaton::automaton::{Arms, Automaton, FieldSet, FieldSets, Head, Polarity};
-use mls_automaton::scheme::{Env, EnvEntry, Scheme};
+use mls_automaton::scheme::EnvEntry;
 use mls_automaton::state_set::{StateId, StateSet};
 use mls_base::list::List;
 use mls_base::memory::Memory;
@@ -92,15 +92,16 @@ fn literal(alloc: Global, head: Head) -> Result<Constraints, Memory>
 }
 
 /// Of a function: from the states of its binder to the root of its body.
-pub(crate) fn function(alloc: Global, binder: usize, body: Scheme) -> Result<Constraints, Memory>
-    requires { IsScheme body }
-    ensures constraint { IfOk result (λ c. constraint_of c ≡ fun_constraint binder body) }
+pub(crate) fn function(alloc: Global, binder: usize, body: Open) -> Result<Constraints, Memory>
+    requires { HasStates (scheme_in body) }
+    ensures constraint { IfOk result (λ c. (domain : List ℕ) × AreStatesOf binder (scheme_in body) domain
+        × (constraint_of c ≡ fun_constraint domain binder (scheme_in body))) }
     ensures states { IfOk result (λ c. HasStates (constraint_of c).scheme) }
     ensures goals { IfOk result (λ c. All (IsGoalOf c.automaton) c.goals) }
 {
-    let domain = set_of(alloc, state_of(&body.env, binder))?;
+    let domain = states_of(alloc, body.env.as_slice(), binder)?;
     let codomain = StateSet::one(alloc, body.root)?;
-    let env = without(alloc, &body.env, binder)?;
+    let env = without(alloc, body.env.as_slice(), binder)?;
     let mut automaton = body.automaton;
     let mut head = Head::empty();
     head.function = Some(Arms { domain, codomain });
@@ -113,15 +114,16 @@ pub(crate) fn function(alloc: Global, binder: usize, body: Scheme) -> Result<Con
     })
 }
 
-/// Of a recursion: the root of its body is below the states of its binder.
-pub(crate) fn recursion(alloc: Global, binder: usize, body: Scheme) -> Result<Constraints, Memory>
-    requires { IsScheme body }
-    ensures constraint { IfOk result (λ c. constraint_of c ≡ fix_constraint binder body) }
+/// Of a recursion: the root of its body is below the state of its binder, if it has one.
+pub(crate) fn recursion(alloc: Global, binder: usize, body: Open) -> Result<Constraints, Memory>
+    requires states { HasStates (scheme_in body) }
+    requires one { HasOneState binder (scheme_in body) }
+    ensures constraint { IfOk result (λ c. constraint_of c ≡ fix_constraint binder (scheme_in body)) }
     ensures states { IfOk result (λ c. HasStates (constraint_of c).scheme) }
     ensures goals { IfOk result (λ c. All (IsGoalOf c.automaton) c.goals) }
 {
-    let goals = goals_to(alloc, body.root, state_of(&body.env, binder))?;
-    let env = without(alloc, &body.env, binder)?;
+    let goals = goals_to(alloc, body.root, state_of(body.env.as_slice(), binder))?;
+    let env = without(alloc, body.env.as_slice(), binder)?;
     Ok(Constraints {
         automaton: body.automaton,
         env,
@@ -131,13 +133,12 @@ pub(crate) fn recursion(alloc: Global, binder: usize, body: Scheme) -> Result<Co
 }
 
 /// Of a projection: the root of its body is below the records with the field.
-pub(crate) fn projection(alloc: Global, label: Name, body: Scheme) -> Result<Constraints, Memory>
-    requires { IsScheme body }
-    ensures constraint { IfOk result (λ c. constraint_of c ≡ project_constraint label body) }
+pub(crate) fn projection(alloc: Global, label: Name, body: Open) -> Result<Constraints, Memory>
+    requires { HasStates (scheme_in body) }
+    ensures constraint { IfOk result (λ c. constraint_of c ≡ project_constraint label (scheme_in body)) }
     ensures states { IfOk result (λ c. HasStates (constraint_of c).scheme) }
     ensures goals { IfOk result (λ c. All (IsGoalOf c.automaton) c.goals) }
 {
-    let env = entries_of(alloc, &body.env)?;
     let mut automaton = body.automaton;
     let (field, root) = add_passage(&mut automaton)?;
     let head = field_head(alloc, label, field)?;
@@ -145,32 +146,82 @@ pub(crate) fn projection(alloc: Global, label: Name, body: Scheme) -> Result<Con
     let goals = one_goal(alloc, body.root, demand)?;
     Ok(Constraints {
         automaton,
-        env,
+        env: body.env,
         root,
         goals,
     })
 }
 
-/// Of an application: the root of the function is below the functions from the root of the argument.
+/// Of an application: the root of the function is below the functions from the root of the argument. One of the two
+/// automata stays in its place, that of the argument where this is wanted; the other is copied behind it.
 pub(crate) fn application(
     alloc: Global,
-    function: Scheme,
-    argument: &Scheme,
+    function: Open,
+    argument: Open,
+    is_turned: bool,
 ) -> Result<Constraints, Memory>
-    requires function { IsScheme function }
-    requires argument { IsScheme argument.now }
-    ensures constraint { IfOk result (λ c. constraint_of c ≡ apply_constraint function argument.now) }
+    requires function { HasStates (scheme_in function) }
+    requires argument { HasStates (scheme_in argument) }
+    ensures constraint { IfOk result (λ c. IsApplied (scheme_in function) (scheme_in argument) (constraint_of c)) }
+    ensures states { IfOk result (λ c. HasStates (constraint_of c).scheme) }
+    ensures goals { IfOk result (λ c. All (IsGoalOf c.automaton) c.goals) }
+{
+    if is_turned {
+        let turned = turned(alloc, &function, argument)?;
+        return Ok(turned);
+    }
+    let applied = applied(alloc, function, &argument)?;
+    Ok(applied)
+}
+
+// The automaton of the function in front.
+fn applied(alloc: Global, function: Open, argument: &Open) -> Result<Constraints, Memory>
+    requires function { HasStates (scheme_in function) }
+    requires argument { HasStates (scheme_in argument.now) }
+    ensures constraint { IfOk result (λ c. constraint_of c
+        ≡ apply_constraint (scheme_in function) (scheme_in argument.now)) }
     ensures states { IfOk result (λ c. HasStates (constraint_of c).scheme) }
     ensures goals { IfOk result (λ c. All (IsGoalOf c.automaton) c.goals) }
 {
     let function_root = function.root;
-    let mut both = Joint::one(alloc, function)?;
-    let domain = both.add(argument)?;
+    let mut both = Joint::one(function);
+    let argument_root = both.add(argument)?;
+    let posed = application_of(alloc, both, function_root, argument_root)?;
+    Ok(posed)
+}
+
+// The automaton of the argument in front.
+fn turned(alloc: Global, function: &Open, argument: Open) -> Result<Constraints, Memory>
+    requires function { HasStates (scheme_in function.now) }
+    requires argument { HasStates (scheme_in argument) }
+    ensures constraint { IfOk result (λ c. constraint_of c
+        ≡ turned_constraint (scheme_in function.now) (scheme_in argument)) }
+    ensures states { IfOk result (λ c. HasStates (constraint_of c).scheme) }
+    ensures goals { IfOk result (λ c. All (IsGoalOf c.automaton) c.goals) }
+{
+    let argument_root = argument.root;
+    let mut both = Joint::one(argument);
+    let function_root = both.add(function)?;
+    let posed = application_of(alloc, both, function_root, argument_root)?;
+    Ok(posed)
+}
+
+// The function with this root is below the functions from the argument's root to a new state.
+fn application_of(
+    alloc: Global,
+    both: Joint,
+    function: StateId,
+    argument: StateId,
+) -> Result<Constraints, Memory>
+    requires { HasTrueFlows both.automaton }
+    ensures { IfOk result (λ c. constraint_of c ≡ application_over function.0 argument.0
+        (record { automaton = both.automaton; env = both.env; roots = [] })) }
+{
     let mut automaton = both.automaton;
     let (codomain, root) = add_passage(&mut automaton)?;
-    let head = function_head(alloc, domain, codomain)?;
+    let head = function_head(alloc, argument, codomain)?;
     let demand = automaton.state(Polarity::Negative, head)?;
-    let goals = one_goal(alloc, function_root, demand)?;
+    let goals = one_goal(alloc, function, demand)?;
     Ok(Constraints {
         automaton,
         env: both.env,
@@ -182,19 +233,20 @@ pub(crate) fn application(
 /// Of a conditional: the root of the condition is below `bool`, those of the branches below one new state.
 pub(crate) fn conditional(
     alloc: Global,
-    condition: Scheme,
-    first: &Scheme,
-    second: &Scheme,
+    condition: Open,
+    first: &Open,
+    second: &Open,
 ) -> Result<Constraints, Memory>
-    requires condition { IsScheme condition }
-    requires first { IsScheme first.now }
-    requires second { IsScheme second.now }
-    ensures constraint { IfOk result (λ c. constraint_of c ≡ choice_constraint condition first.now second.now) }
+    requires condition { HasStates (scheme_in condition) }
+    requires first { HasStates (scheme_in first.now) }
+    requires second { HasStates (scheme_in second.now) }
+    ensures constraint { IfOk result (λ c. constraint_of c
+        ≡ choice_constraint (scheme_in condition) (scheme_in first.now) (scheme_in second.now)) }
     ensures states { IfOk result (λ c. HasStates (constraint_of c).scheme) }
     ensures goals { IfOk result (λ c. All (IsGoalOf c.automaton) c.goals) }
 {
     let condition_root = condition.root;
-    let mut all = Joint::one(alloc, condition)?;
+    let mut all = Joint::one(condition);
     let first_root = all.add(first)?;
     let second_root = all.add(second)?;
     let mut automaton = all.automaton;
@@ -214,15 +266,12 @@ pub(crate) fn conditional(
 }
 
 /// Of a record: its fields are the roots of its parts.
-pub(crate) fn record(
-    alloc: Global,
-    parts: &Parts,
-    schemes: &[Scheme],
-) -> Result<Constraints, Memory>
-    requires schemes { All IsScheme schemes.now }
+pub(crate) fn record(alloc: Global, parts: &Parts, schemes: &[Open]) -> Result<Constraints, Memory>
+    requires schemes { All HasStates (map scheme_in schemes.now) }
     requires each { length parts.now ≡ length schemes.now }
     requires labels { AllPairs (λ x y. x ≢ y) (part_labels parts.now) }
-    ensures constraint { IfOk result (λ c. IsMadeOf (part_labels parts.now) schemes.now (constraint_of c)) }
+    ensures constraint { IfOk result (λ c. IsMadeOf (part_labels parts.now) (map scheme_in schemes.now)
+        (constraint_of c)) }
     ensures states { IfOk result (λ c. HasStates (constraint_of c).scheme) }
     ensures goals { IfOk result (λ c. All (IsGoalOf c.automaton) c.goals) }
 {
@@ -243,19 +292,14 @@ pub(crate) fn record(
 }
 
 /// Of a record of one part: the automaton of the part with one more state.
-pub(crate) fn record_of_one(
-    alloc: Global,
-    parts: &Parts,
-    part: Scheme,
-) -> Result<Constraints, Memory>
-    requires part { IsScheme part }
+pub(crate) fn record_of_one(alloc: Global, parts: &Parts, part: Open) -> Result<Constraints, Memory>
+    requires part { HasStates (scheme_in part) }
     requires one { length parts.now ≡ 1 }
     requires labels { AllPairs (λ x y. x ≢ y) (part_labels parts.now) }
-    ensures constraint { IfOk result (λ c. IsMadeOf (part_labels parts.now) (part ∷ []) (constraint_of c)) }
+    ensures constraint { IfOk result (λ c. IsMadeOf (part_labels parts.now) (scheme_in part ∷ []) (constraint_of c)) }
     ensures states { IfOk result (λ c. HasStates (constraint_of c).scheme) }
     ensures goals { IfOk result (λ c. All (IsGoalOf c.automaton) c.goals) }
 {
-    let env = entries_of(alloc, &part.env)?;
     let named = parts.as_slice();
     let rows = rows_of(alloc, named, &[part.root])?;
     let fields = fields_of(alloc, &rows)?;
@@ -264,21 +308,21 @@ pub(crate) fn record_of_one(
     let root = automaton.state(Polarity::Positive, head)?;
     Ok(Constraints {
         automaton,
-        env,
+        env: part.env,
         root,
         goals: List::new(alloc),
     })
 }
 
 /// Of a let: the second part, and what the first part needs.
-pub(crate) fn let_in(alloc: Global, bound: Scheme, body: &Scheme) -> Result<Constraints, Memory>
-    requires bound { IsScheme bound }
-    requires body { IsScheme body.now }
-    ensures constraint { IfOk result (λ c. constraint_of c ≡ let_constraint bound body.now) }
+pub(crate) fn let_in(alloc: Global, bound: Open, body: &Open) -> Result<Constraints, Memory>
+    requires bound { HasStates (scheme_in bound) }
+    requires body { HasStates (scheme_in body.now) }
+    ensures constraint { IfOk result (λ c. constraint_of c ≡ let_constraint (scheme_in bound) (scheme_in body.now)) }
     ensures states { IfOk result (λ c. HasStates (constraint_of c).scheme) }
     ensures goals { IfOk result (λ c. All (IsGoalOf c.automaton) c.goals) }
 {
-    let mut both = Joint::one(alloc, bound)?;
+    let mut both = Joint::one(bound);
     let root = both.add(body)?;
     Ok(Constraints {
         automaton: both.automaton,
@@ -308,25 +352,22 @@ impl Joint {
     }
 
     // One scheme.
-    fn one(alloc: Global, scheme: Scheme) -> Result<Joint, Memory>
-        ensures automaton { IfOk result (λ j. j.automaton ≡ scheme.automaton) }
-        ensures env { IfOk result (λ j. j.env ≡ scheme.env) }
-        ensures rise { IfOk result (λ j. BindersRise scheme.env) }
+    fn one(scheme: Open) -> Joint
+        ensures automaton { result.automaton ≡ scheme.automaton }
+        ensures env { result.env ≡ scheme.env }
     {
-        let env = entries_of(alloc, &scheme.env)?;
-        Ok(Joint {
+        Joint {
             automaton: scheme.automaton,
-            env,
-        })
+            env: scheme.env,
+        }
     }
 
     // Adds a scheme behind the others, and answers where its root is then.
-    fn add(&mut self, other: &Scheme) -> Result<StateId, Memory>
+    fn add(&mut self, other: &Open) -> Result<StateId, Memory>
         ensures automaton { OnOk result (self.new.automaton ≡ appended self.old.automaton other.now.automaton) }
         ensures env { OnOk result (self.new.env
             ≡ self.old.env ++ raised_entries (size self.old.automaton) other.now.env) }
         ensures root { IfOk result (λ root. root.0 ≡ size self.old.automaton + other.now.root.0) }
-        ensures rise { IfOk result (λ root. BindersRise other.now.env) }
     {
         let up = self.automaton.append(&other.automaton)?;
         add_raised(&mut self.env, other.env.as_slice(), up)?;
@@ -335,11 +376,10 @@ impl Joint {
 }
 
 // All schemes side by side, and where their roots are.
-fn side_by_side(alloc: Global, schemes: &[Scheme]) -> Result<(Joint, List<StateId>), Memory>
-    ensures automaton { IfOk result (λ all. all.0.automaton ≡ (joined schemes.now).automaton) }
-    ensures env { IfOk result (λ all. all.0.env ≡ (joined schemes.now).env) }
-    ensures roots { IfOk result (λ all. map number_of all.1 ≡ (joined schemes.now).roots) }
-    ensures rise { IfOk result (λ all. All (λ (s : Scheme). BindersRise s.env) schemes.now) }
+fn side_by_side(alloc: Global, schemes: &[Open]) -> Result<(Joint, List<StateId>), Memory>
+    ensures automaton { IfOk result (λ all. all.0.automaton ≡ (joined (map scheme_in schemes.now)).automaton) }
+    ensures env { IfOk result (λ all. all.0.env ≡ (joined (map scheme_in schemes.now)).env) }
+    ensures roots { IfOk result (λ all. map number_of all.1 ≡ (joined (map scheme_in schemes.now)).roots) }
 {
     let mut all = Joint::new(alloc);
     let mut roots = List::new(alloc);
@@ -489,24 +529,36 @@ fn add_goal(goals: &mut List<Goal>, positive: StateId, negative: StateId) -> Res
     Ok(())
 }
 
-// All entries of an environment.
-fn entries_of(alloc: Global, env: &Env) -> Result<List<EnvEntry>, Memory>
-    ensures entries { IfOk result (λ entries. entries ≡ env.now) }
-    ensures rise { IfOk result (λ entries. BindersRise env.now) }
+// The states of a binder.
+fn states_of(alloc: Global, env: &[EnvEntry], binder: usize) -> Result<StateSet, Memory>
+    ensures { IfOk result (λ set. (n : ℕ) → Contains set n ↔ Contains (states_of binder env.now) n) }
 {
-    let mut entries = List::new(alloc);
-    for entry in env.as_slice() {
-        entries.push(*entry)?;
+    let mut set = StateSet::new(alloc);
+    for entry in env {
+        add_state(&mut set, entry, binder)?;
     }
-    Ok(entries)
+    Ok(set)
+}
+
+// Adds the state of an entry, where it is one of this binder.
+fn add_state(set: &mut StateSet, entry: &EnvEntry, binder: usize) -> Result<(), Memory>
+    ensures { OnOk result ((n : ℕ) → Contains set.new n ↔ ((entry.now.binder ≡ binder) × (n ≡ entry.now.state.0))
+        ⊎ Contains set.old n) }
+{
+    if entry.binder == binder {
+        set.insert(entry.state)?;
+        return Ok(());
+    }
+    Ok(())
 }
 
 // The only state of a binder, if it has one.
-fn state_of(env: &Env, binder: usize) -> Option<StateId>
+fn state_of(env: &[EnvEntry], binder: usize) -> Option<StateId>
+    requires { length (states_of binder env.now) ≤ 1 }
     ensures { listed result ≡ states_of binder env.now }
 {
-    let entries = env.as_slice();
-    found(entries, binder)
+    let state = found(env, binder);
+    state
 }
 
 fn found(entries: &[EnvEntry], binder: usize) -> Option<StateId>
@@ -516,15 +568,6 @@ fn found(entries: &[EnvEntry], binder: usize) -> Option<StateId>
         .iter()
         .find(|entry| entry.binder == binder)
         .map(|entry| entry.state)
-}
-
-fn set_of(alloc: Global, state: Option<StateId>) -> Result<StateSet, Memory>
-    ensures { IfOk result (λ set. set ≡ listed state) }
-{
-    match state {
-        Some(state) => StateSet::one(alloc, state),
-        None => Ok(StateSet::new(alloc)),
-    }
 }
 
 // The goal that a state is below this one, if it is there.
@@ -542,12 +585,11 @@ fn goals_to(
 }
 
 // The entries of the other binders.
-fn without(alloc: Global, env: &Env, binder: usize) -> Result<List<EnvEntry>, Memory>
-    ensures others { IfOk result (λ others. others ≡ without binder env.now) }
-    ensures rise { IfOk result (λ others. BindersRise env.now) }
+fn without(alloc: Global, env: &[EnvEntry], binder: usize) -> Result<List<EnvEntry>, Memory>
+    ensures { IfOk result (λ others. others ≡ without binder env.now) }
 {
     let mut others = List::new(alloc);
-    for entry in env.as_slice() {
+    for entry in env {
         if entry.binder != binder {
             others.push(*entry)?;
         }

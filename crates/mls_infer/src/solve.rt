@@ -1,23 +1,18 @@
-//! Constraints are solved: the scheme with their types, or why there is none.
+//! Constraints are solved: the part with their types, or why there is none.
 ghost use Rattle.std.specs.Prelude.{◌≡◌, All, IfErr, IfOk};
-ghost use Rattle.mls_automaton.specs.declared.scheme.Scheme.{Scheme};
 ghost use Rattle.mls_automaton.specs.Automata.{head_at};
-ghost use Rattle.mls_automaton.specs.Environments.{BindersRise};
 ghost use Rattle.mls_automaton.specs.Models.{IsClosed};
-ghost use Rattle.mls_automaton.specs.Schemes.{IsScheme};
 ghost use Rattle.mls_biunify.specs.Clashes.{Clashes, label_of};
 ghost use Rattle.mls_biunify.specs.Relations.{IsGoalOf};
 ghost use Rattle.mls_infer.specs.Constraints.{HasStates};
-ghost use Rattle.mls_infer.specs.Posed.{constraint_of};
+ghost use Rattle.mls_infer.specs.Posed.{constraint_of, scheme_in};
 ghost use Rattle.mls_infer.specs.Solved.{ClashesFirst, HasField, IsClashWithout, IsSolvedFor, TellsFirstClash};
 ghost use Rattle.mls_infer.specs.Solved.{TellsKind};
 ghost use Rattle.mls_infer.specs.Steps.{IsSolution};
 
-use crate::constraints::Constraints;
+use crate::constraints::{Constraints, Open};
 use crate::fault::SiteKind;
-use crate::merge::{Solvable, merge};
 use mls_automaton::automaton::{Automaton, Head};
-use mls_automaton::scheme::Scheme;
 use mls_base::memory::Memory;
 use mls_biunify::goal::{Clash, ClashKind, Goal};
 use mls_biunify::search::{first_clash_of, search};
@@ -44,31 +39,32 @@ impl From<Memory> for NoSolution {
     }
 }
 
-/// The scheme that has just the types of the constraints. Without goals it is that of the constraints themselves; else
+/// The part that has just the types of the constraints. Without goals it is that of the constraints themselves; else
 /// their automaton is solved in place, in time that grows with the pairs that are related and the states at their
-/// edges.
+/// edges. A binder keeps the states that it has.
 ///
 /// # Errors
 ///
 /// `Clash` where the constraints have no types: the first of the clashes. `Memory` where memory is wanting.
-pub fn solve(alloc: Global, c: Constraints) -> Result<Scheme, NoSolution>
+pub(crate) fn solve(alloc: Global, c: Constraints) -> Result<Open, NoSolution>
     requires states { HasStates (constraint_of c).scheme }
     requires goals { All (IsGoalOf c.automaton) c.goals }
-    ensures solution { IfOk result (IsSolution (constraint_of c)) }
-    ensures scheme { IfOk result IsScheme }
-    ensures rise { IfOk result (λ (s : Scheme). BindersRise s.env) }
+    ensures solution { IfOk result (λ o. IsSolution (constraint_of c) (scheme_in o)) }
     ensures none { IfErr result (IsClashWithout (constraint_of c)) }
     ensures first { IfErr result (TellsFirstClash (constraint_of c)) }
 {
-    let Solvable { scheme, goals } = merge(alloc, c)?;
-    if goals.is_empty() {
-        return Ok(scheme);
+    if c.goals.is_empty() {
+        return Ok(Open {
+            automaton: c.automaton,
+            env: c.env,
+            root: c.root,
+        });
     }
-    let automaton = solved(alloc, scheme.automaton, goals.as_slice())?;
-    Ok(Scheme {
+    let automaton = solved(alloc, c.automaton, c.goals.as_slice())?;
+    Ok(Open {
         automaton,
-        env: scheme.env,
-        root: scheme.root,
+        env: c.env,
+        root: c.root,
     })
 }
 

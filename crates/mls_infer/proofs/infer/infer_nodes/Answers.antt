@@ -4,6 +4,7 @@ use Rattle.mls_infer.specs.Finished.{Finished}
 use Rattle.mls_infer.specs.Inference.{IsKindAt}
 use Rattle.mls_term.specs.WellFormed.{IsFirstNone}
 use Rattle.mls_infer.specs.Finishing.{Scope, GoesOnIn, IsAnswerBy, IsStop, KeepsOthers, scope_of}
+use Rattle.mls_infer.specs.Posed.{scheme_in}
 use Rattle.mls_infer.proofs.NodeLoop.{GoesFrom, each_tree, stops_here, goes_further, infers_whole}
 use Rattle.mls_infer.proofs.infer.infer_nodes.Goals as goal
 
@@ -43,20 +44,20 @@ loop-i-preserved c =
     let nodes : List TermNode = c.args.nodes.now in
     let node : TermNode = c.index-nodes-i.result in
     let i : ℕ = c.loop-i.i in
-    let mid : Finished = c.scheme_of.new.done in
+    let mid : Finished = c.part_of.new.done in
     let low : i < length nodes = search rules in
     let is : get_or nodes i node ≡ node = search rules in
-    let pushed : c.push.new.self ≡ mid ++ Some c.in-Ok.scheme ∷ [] = search rules in
-    let answer : IsAnswerBy scope node.form c.loop-i.done c.in-Ok.scheme = subst (λ (node : TermNode). IsAnswerBy scope node.form c.loop-i.done c.in-Ok.scheme) is c.in-Ok.ensures.answer in
+    let pushed : c.push.new.self ≡ mid ++ Some (scheme_in c.in-Ok.part) ∷ [] = search rules in
+    let answer : IsAnswerBy scope node.form c.loop-i.done (scheme_in c.in-Ok.part) = subst (λ (node : TermNode). IsAnswerBy scope node.form c.loop-i.done (scheme_in c.in-Ok.part)) is c.in-Ok.ensures.answer in
     let others : KeepsOthers node.form c.loop-i.done mid = subst (λ (node : TermNode). KeepsOthers node.form c.loop-i.done mid) is c.in-Ok.ensures.others in
-    let further : GoesFrom scope nodes (suc i) (mid ++ Some c.in-Ok.scheme ∷ []) = goes_further scope nodes i c.loop-i.done c.loop-i.invariant.1 low node is mid c.in-Ok.scheme answer others in
+    let further : GoesFrom scope nodes (suc i) (mid ++ Some (scheme_in c.in-Ok.part) ∷ []) = goes_further scope nodes i c.loop-i.done c.loop-i.invariant.1 low node is mid (scheme_in c.in-Ok.part) answer others in
     let one_more : suc i ≡ i + 1 = omega arith in
-    let F : ℕ → Type 0 = λ n. GoesFrom scope nodes n (mid ++ Some c.in-Ok.scheme ∷ []) in
+    let F : ℕ → Type 0 = λ n. GoesFrom scope nodes n (mid ++ Some (scheme_in c.in-Ok.part) ∷ []) in
     let G : Finished → Type 0 = λ done. GoesFrom scope nodes (i + 1) done in
     let size : length mid ≡ length c.loop-i.done = others.size in
     let so_far : length c.loop-i.done ≡ i = c.loop-i.invariant.0 in
-    let longer : length (mid ++ Some c.in-Ok.scheme ∷ []) ≡ length mid + 1 = length-append mid (Some c.in-Ok.scheme ∷ []) in
-    let whole : length c.push.new.self ≡ length (mid ++ Some c.in-Ok.scheme ∷ []) = ap length pushed in
+    let longer : length (mid ++ Some (scheme_in c.in-Ok.part) ∷ []) ≡ length mid + 1 = length-append mid (Some (scheme_in c.in-Ok.part) ∷ []) in
+    let whole : length c.push.new.self ≡ length (mid ++ Some (scheme_in c.in-Ok.part) ∷ []) = ap length pushed in
     (omega arith, subst G (sym pushed) (subst F one_more further))
 
 pub returns-clause-ok : goal.returns-clause-ok

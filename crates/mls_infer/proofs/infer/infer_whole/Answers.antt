@@ -8,6 +8,7 @@ use Rattle.mls_term.specs.WellFormed.{IsTerm}
 use Rattle.mls_infer.specs.Finished.{Has}
 use Rattle.mls_infer.specs.Finishing.{IsInferred}
 use Rattle.mls_infer.specs.Inference.{schemes_in}
+use Rattle.mls_infer.specs.Posed.{scheme_in}
 use Rattle.mls_infer.proofs.NodeLoop.{begins, last_node, whole_answer}
 use Rattle.mls_infer.proofs.infer.infer_whole.Goals as goal
 
@@ -42,7 +43,7 @@ returns-clause-scheme c =
     let are : nodes ≡ postorder 0 t = c.as_slice-nodes.ensures ∙ c.requires.term.nodes_are in
     let size : length nodes ≡ suc (before t) = last_node nodes t are in
     let last : length nodes - 1 ≡ before t = omega arith in
-    let s : Scheme = c.take-whole.result in
+    let s : Scheme = scheme_in c.take-whole.result in
     let there : Has c.in_ok-done.done (before t) s = subst (λ (i : ℕ). Has c.in_ok-done.done i s) last c.take-whole.ensures.taken in
     subst (λ (env : List EnvEntry). IsScheme (record { automaton = s.automaton; env = env; root = s.root })) (sym c.new.ensures)
     (whole_answer (schemes_in c.args.names.now) t c.in_ok-done.done (c.in_ok-done.ensures.ok t are) s there).0
@@ -50,7 +51,7 @@ returns-clause-scheme c =
 pub returns-clause-best : goal.returns-clause-best
 returns-clause-best c =
     let nodes : List TermNode = c.as_slice-nodes.result.now in
-    let s : Scheme = c.take-whole.result in
+    let s : Scheme = scheme_in c.take-whole.result in
     λ t u term_are is_book.
     let are : nodes ≡ postorder 0 t = c.as_slice-nodes.ensures ∙ term_are in
     let size : length nodes ≡ suc (before t) = last_node nodes t are in

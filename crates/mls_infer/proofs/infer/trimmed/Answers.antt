@@ -1,7 +1,14 @@
-use Rattle.mls_infer.proofs.SolvedConstraints.{solution_kept}
+use Rattle.std.proofs.Common.{subst, sym}
+use Rattle.mls_automaton.specs.declared.scheme.Scheme.{Scheme}
+use Rattle.mls_infer.specs.Posed.{scheme_in}
+use Rattle.mls_infer.specs.Steps.{IsSolution}
+use Rattle.mls_infer.proofs.SolvedConstraints.{solution_after, solution_kept}
 use Rattle.mls_infer.proofs.infer.trimmed.Goals as goal
 
-pub returns-clause-solution : goal.returns-clause-solution
-returns-clause-solution c = λ d solution.
-    solution_kept d c.args.scheme c.in_ok-kept.kept solution c.requires.scheme c.requires.rise c.in_ok-kept.ensures.scheme c.as_slice.ensures.rise
-    c.in_ok-kept.ensures.equivalent
+pub returns : goal.returns
+returns c = λ d solution.
+    let s : Scheme = c.in_ok-scheme.scheme in
+    let merged : IsSolution d s = solution_after d (scheme_in c.args.part) s solution c.in_ok-scheme.ensures.solution in
+    let kept : IsSolution d c.in_ok-kept.kept =
+    solution_kept d s c.in_ok-kept.kept merged c.in_ok-scheme.ensures.scheme c.in_ok-scheme.ensures.rise c.in_ok-kept.ensures.scheme c.as_slice.ensures.rise c.in_ok-kept.ensures.equivalent in
+    subst (IsSolution d) (sym c.in_ok-part.ensures.same) kept

@@ -3,20 +3,19 @@ use Rattle.mls_automaton.specs.Automata.{Automaton, with_state}
 use Rattle.mls_automaton.specs.Embeddings.{appended}
 use Rattle.mls_automaton.specs.declared.scheme.Scheme.{Scheme}
 use Rattle.mls_infer.specs.Constraints.{negative, size, bool_head}
-use Rattle.mls_infer.specs.Posed.{goal_pair}
+use Rattle.mls_infer.specs.Posed.{goal_pair, scheme_in}
 use Rattle.mls_infer.specs.Joining.{raised_entries, with_passage}
 use Rattle.mls_infer.proofs.BuiltConstraints.{choice_built}
 use Rattle.mls_infer.specs.Constraints.{choice_constraint}
 use Rattle.mls_infer.proofs.ClosedConstraints.{choice_closed}
-use Rattle.mls_infer.proofs.OneState.{scheme_states}
 use Rattle.mls_infer.proofs.WellBuilt.{states_built, goals_built}
 use Rattle.mls_infer.proofs.rows.conditional.Goals as goal
 
 pub returns-clause-constraint : goal.returns-clause-constraint
 returns-clause-constraint c =
-    let r : Scheme = c.args.condition in
-    let s : Scheme = c.args.first.now in
-    let t : Scheme = c.args.second.now in
+    let r : Scheme = scheme_in c.args.condition in
+    let s : Scheme = scheme_in c.args.first.now in
+    let t : Scheme = scheme_in c.args.second.now in
     let a : Automaton = c.add.new.self.automaton in
     let b : Automaton = c.add-2.new.self.automaton in
     let a_is : a ≡ appended r.automaton s.automaton = search rules in
@@ -36,10 +35,10 @@ returns-clause-constraint c =
 
 pub returns-clause-states : goal.returns-clause-states
 returns-clause-states c =
-    states_built (record { automaton = c.add_passage.new.automaton; env = c.add-2.new.self.env; root = c.in_ok-either.root; goals = c.add_goal-2.new.goals }) (choice_constraint c.args.condition c.args.first.now c.args.second.now) (returns-clause-constraint c)
-    (choice_closed c.args.condition c.args.first.now c.args.second.now (scheme_states c.args.condition c.requires.condition c.in_ok-all.ensures.rise) (scheme_states c.args.first.now c.requires.first c.in_ok-first_root.ensures.rise) (scheme_states c.args.second.now c.requires.second c.in_ok-second_root.ensures.rise))
+    states_built (record { automaton = c.add_passage.new.automaton; env = c.add-2.new.self.env; root = c.in_ok-either.root; goals = c.add_goal-2.new.goals }) (choice_constraint (scheme_in c.args.condition) (scheme_in c.args.first.now) (scheme_in c.args.second.now)) (returns-clause-constraint c)
+    (choice_closed (scheme_in c.args.condition) (scheme_in c.args.first.now) (scheme_in c.args.second.now) c.requires.condition c.requires.first c.requires.second)
 
 pub returns-clause-goals : goal.returns-clause-goals
 returns-clause-goals c =
-    goals_built (record { automaton = c.add_passage.new.automaton; env = c.add-2.new.self.env; root = c.in_ok-either.root; goals = c.add_goal-2.new.goals }) (choice_constraint c.args.condition c.args.first.now c.args.second.now) (returns-clause-constraint c)
-    (choice_closed c.args.condition c.args.first.now c.args.second.now (scheme_states c.args.condition c.requires.condition c.in_ok-all.ensures.rise) (scheme_states c.args.first.now c.requires.first c.in_ok-first_root.ensures.rise) (scheme_states c.args.second.now c.requires.second c.in_ok-second_root.ensures.rise))
+    goals_built (record { automaton = c.add_passage.new.automaton; env = c.add-2.new.self.env; root = c.in_ok-either.root; goals = c.add_goal-2.new.goals }) (choice_constraint (scheme_in c.args.condition) (scheme_in c.args.first.now) (scheme_in c.args.second.now)) (returns-clause-constraint c)
+    (choice_closed (scheme_in c.args.condition) (scheme_in c.args.first.now) (scheme_in c.args.second.now) c.requires.condition c.requires.first c.requires.second)

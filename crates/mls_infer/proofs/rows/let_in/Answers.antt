@@ -1,7 +1,7 @@
 use Rattle.std.proofs.Common.{rules}
 use Rattle.mls_infer.specs.Constraints.{let_constraint}
+use Rattle.mls_infer.specs.Posed.{scheme_in}
 use Rattle.mls_infer.proofs.ClosedConstraints.{let_closed}
-use Rattle.mls_infer.proofs.OneState.{scheme_states}
 use Rattle.mls_infer.proofs.WellBuilt.{states_built, goals_built}
 use Rattle.mls_infer.proofs.rows.let_in.Goals as goal
 
@@ -10,10 +10,10 @@ returns-clause-constraint c = search rules
 
 pub returns-clause-states : goal.returns-clause-states
 returns-clause-states c =
-    states_built (record { automaton = c.add.new.self.automaton; env = c.add.new.self.env; root = c.in_ok-root.root; goals = c.new.result }) (let_constraint c.args.bound c.args.body.now) (returns-clause-constraint c)
-    (let_closed c.args.bound c.args.body.now (scheme_states c.args.bound c.requires.bound c.in_ok-both.ensures.rise) (scheme_states c.args.body.now c.requires.body c.in_ok-root.ensures.rise))
+    states_built (record { automaton = c.add.new.self.automaton; env = c.add.new.self.env; root = c.in_ok-root.root; goals = c.new.result }) (let_constraint (scheme_in c.args.bound) (scheme_in c.args.body.now)) (returns-clause-constraint c)
+    (let_closed (scheme_in c.args.bound) (scheme_in c.args.body.now) c.requires.bound c.requires.body)
 
 pub returns-clause-goals : goal.returns-clause-goals
 returns-clause-goals c =
-    goals_built (record { automaton = c.add.new.self.automaton; env = c.add.new.self.env; root = c.in_ok-root.root; goals = c.new.result }) (let_constraint c.args.bound c.args.body.now) (returns-clause-constraint c)
-    (let_closed c.args.bound c.args.body.now (scheme_states c.args.bound c.requires.bound c.in_ok-both.ensures.rise) (scheme_states c.args.body.now c.requires.body c.in_ok-root.ensures.rise))
+    goals_built (record { automaton = c.add.new.self.automaton; env = c.add.new.self.env; root = c.in_ok-root.root; goals = c.new.result }) (let_constraint (scheme_in c.args.bound) (scheme_in c.args.body.now)) (returns-clause-constraint c)
+    (let_closed (scheme_in c.args.bound) (scheme_in c.args.body.now) c.requires.bound c.requires.body)

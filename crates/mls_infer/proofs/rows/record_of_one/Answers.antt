@@ -5,13 +5,12 @@ use Rattle.mls_automaton.specs.declared.scheme.Scheme.{Scheme}
 use Rattle.mls_automaton.specs.Automata.{with_state}
 use Rattle.mls_term.specs.declared.term.Part.{Part}
 use Rattle.mls_infer.specs.Constraints.{AreFieldsOf, Joined, joined, positive, record_head, size, make_constraint}
-use Rattle.mls_infer.specs.Posed.{constraint_of, goal_pair, IsMadeOf}
+use Rattle.mls_infer.specs.Posed.{constraint_of, goal_pair, scheme_in, IsMadeOf}
 use Rattle.mls_infer.specs.Joining.{Rows, part_labels, row_field, AreRows}
 use Rattle.mls_infer.proofs.Beside.{joined_one}
 use Rattle.mls_infer.proofs.BuiltConstraints.{make_built}
 use Rattle.mls_infer.proofs.FieldRows.{fields_made, some_parts, same_labels}
 use Rattle.mls_infer.proofs.ClosedConstraints.{make_closed}
-use Rattle.mls_infer.proofs.OneState.{scheme_states}
 use Rattle.mls_infer.proofs.WellBuilt.{states_built, goals_built}
 use Rattle.mls_infer.specs.declared.constraints.Constraints.{Constraints}
 use Rattle.mls_infer.proofs.rows.record_of_one.Goals as goal
@@ -21,7 +20,7 @@ rows_of-requires-clause-each c = ap length c.as_slice-named.ensures ∙ c.requir
 
 pub returns-clause-constraint : goal.returns-clause-constraint
 returns-clause-constraint c =
-    let s : Scheme = c.args.part in
+    let s : Scheme = scheme_in c.args.part in
     let ss : List Scheme = s ∷ [] in
     let parts : List Part = c.args.parts.now in
     let labels : List (List ℕ) = part_labels parts in
@@ -40,26 +39,26 @@ returns-clause-constraint c =
     let one : Joined = joined ss in (
       fields,
       (λ ps is. subst (λ rs. AreFieldsOf ps rs fields) (sym (ap (λ (j : Joined). j.roots) (joined_one s))) (fields_made labels roots rows c.in_ok-fields.ensures.ordered many are' ps is)),
-      make_built ss fields s.automaton c.state.new.self c.in_ok-env.env c.in_ok-root.root.0 c.fields_head-head.result (map goal_pair c.new.result)
-          (sym (ap (λ (j : Joined). j.automaton) (joined_one s))) (c.in_ok-env.ensures.entries ∙ sym (ap (λ (j : Joined). j.env) (joined_one s))) b_is head_is root_is goals_is,
+      make_built ss fields s.automaton c.state.new.self s.env c.in_ok-root.root.0 c.fields_head-head.result (map goal_pair c.new.result)
+          (sym (ap (λ (j : Joined). j.automaton) (joined_one s))) (sym (ap (λ (j : Joined). j.env) (joined_one s))) b_is head_is root_is goals_is,
     )
 
 pub returns-clause-states : goal.returns-clause-states
 returns-clause-states c =
-    let s : Scheme = c.args.part in
+    let s : Scheme = scheme_in c.args.part in
     let ss : List Scheme = s ∷ [] in
     let labels : List (List ℕ) = part_labels c.args.parts.now in
-    let made : Constraints = record { automaton = c.state.new.self; env = c.in_ok-env.env; root = c.in_ok-root.root; goals = c.new.result } in
+    let made : Constraints = record { automaton = c.state.new.self; env = c.args.part.env; root = c.in_ok-root.root; goals = c.new.result } in
     let it : IsMadeOf labels ss (constraint_of made) = returns-clause-constraint c in
     states_built made (make_constraint it.0 ss) it.2
-    (make_closed (some_parts labels) it.0 ss (scheme_states s c.requires.part c.in_ok-env.ensures.rise, tt) (it.1 (some_parts labels) (same_labels labels)))
+    (make_closed (some_parts labels) it.0 ss (c.requires.part, tt) (it.1 (some_parts labels) (same_labels labels)))
 
 pub returns-clause-goals : goal.returns-clause-goals
 returns-clause-goals c =
-    let s : Scheme = c.args.part in
+    let s : Scheme = scheme_in c.args.part in
     let ss : List Scheme = s ∷ [] in
     let labels : List (List ℕ) = part_labels c.args.parts.now in
-    let made : Constraints = record { automaton = c.state.new.self; env = c.in_ok-env.env; root = c.in_ok-root.root; goals = c.new.result } in
+    let made : Constraints = record { automaton = c.state.new.self; env = c.args.part.env; root = c.in_ok-root.root; goals = c.new.result } in
     let it : IsMadeOf labels ss (constraint_of made) = returns-clause-constraint c in
     goals_built made (make_constraint it.0 ss) it.2
-    (make_closed (some_parts labels) it.0 ss (scheme_states s c.requires.part c.in_ok-env.ensures.rise, tt) (it.1 (some_parts labels) (same_labels labels)))
+    (make_closed (some_parts labels) it.0 ss (c.requires.part, tt) (it.1 (some_parts labels) (same_labels labels)))

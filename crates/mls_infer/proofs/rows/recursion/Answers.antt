@@ -1,7 +1,7 @@
 use Rattle.std.proofs.Common.{rules}
 use Rattle.mls_infer.specs.Constraints.{fix_constraint}
+use Rattle.mls_infer.specs.Posed.{scheme_in}
 use Rattle.mls_infer.proofs.ClosedConstraints.{fix_closed}
-use Rattle.mls_infer.proofs.OneState.{scheme_states}
 use Rattle.mls_infer.proofs.WellBuilt.{states_built, goals_built}
 use Rattle.mls_infer.proofs.rows.recursion.Goals as goal
 
@@ -10,10 +10,10 @@ returns-clause-constraint c = search rules
 
 pub returns-clause-states : goal.returns-clause-states
 returns-clause-states c =
-    states_built (record { automaton = c.args.body.automaton; env = c.in_ok-env.env; root = c.args.body.root; goals = c.in_ok-goals.goals }) (fix_constraint c.args.binder c.args.body) (returns-clause-constraint c)
-    (fix_closed c.args.binder c.args.body (scheme_states c.args.body c.requires c.in_ok-env.ensures.rise))
+    states_built (record { automaton = c.args.body.automaton; env = c.in_ok-env.env; root = c.args.body.root; goals = c.in_ok-goals.goals }) (fix_constraint c.args.binder (scheme_in c.args.body)) (returns-clause-constraint c)
+    (fix_closed c.args.binder (scheme_in c.args.body) c.requires.states)
 
 pub returns-clause-goals : goal.returns-clause-goals
 returns-clause-goals c =
-    goals_built (record { automaton = c.args.body.automaton; env = c.in_ok-env.env; root = c.args.body.root; goals = c.in_ok-goals.goals }) (fix_constraint c.args.binder c.args.body) (returns-clause-constraint c)
-    (fix_closed c.args.binder c.args.body (scheme_states c.args.body c.requires c.in_ok-env.ensures.rise))
+    goals_built (record { automaton = c.args.body.automaton; env = c.in_ok-env.env; root = c.args.body.root; goals = c.in_ok-goals.goals }) (fix_constraint c.args.binder (scheme_in c.args.body)) (returns-clause-constraint c)
+    (fix_closed c.args.binder (scheme_in c.args.body) c.requires.states)

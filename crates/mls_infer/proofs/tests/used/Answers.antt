@@ -3,5 +3,5 @@ use Rattle.mls_automaton.specs.Schemes.{IsScheme}
 use Rattle.mls_scheme.proofs.SmallestSchemes.{lambda_is_scheme}
 use Rattle.mls_infer.proofs.tests.used.Goals as goal
 
-pub returns : goal.returns
-returns c = subst IsScheme (sym c.in_ok-scheme.ensures) (lambda_is_scheme c.args.binder)
+pub opened-requires : goal.opened-requires
+opened-requires c = subst IsScheme (sym c.in_ok-scheme.ensures) (lambda_is_scheme c.args.binder)
