@@ -1,7 +1,8 @@
 -- Pairs by each of their states.
---     put_members      a member more in the set of a key
---     found_none, found_more      a pair more
-use Rattle.std.proofs.Common.{◌≡◌, ◌≢◌, ◌⊎◌, inl, inr, true, ℕ, ◌<◌, List, [], ◌∷◌, ◌++◌, sym, ap, ◌∙◌, subst, arith, Contains, Some}
+--     put_members, members_there, members_none      a member more in the set of a key
+--     pairs_more, pairs_same, relates_more          a pair more, by its first state
+--     index_more                                    a pair more, by its second state
+use Rattle.std.proofs.Common.{◌≡◌, ◌≢◌, ◌⊎◌, inl, inr, true, ℕ, ◌<◌, List, [], ◌∷◌, ◌++◌, sym, ap, ◌∙◌, subst, arith, Contains, Some, None}
 use Rattle.std.specs.Prelude.{◌↔◌, Result, Ok, Err, OnOk, is_ok}
 use Rattle.std.specs.BTreeMap.{BTreeMap, get}
 use Rattle.std.specs.Ordering.{nat_cmp}
@@ -9,9 +10,9 @@ use Rattle.std.proofs.lemmas.Bool.{cases_eq}
 use Rattle.std.proofs.lemmas.List.Elements.{Contains-append_cases, Contains-append_left, Contains-append_right}
 use Rattle.mls_automaton.proofs.Lists.{Contains-cases, Contains-here}
 use Rattle.mls_biunify.specs.Rooms.{Room, Holds}
-use Rattle.mls_biunify.specs.steps.Finding.{HasMember, IsIndexOf}
+use Rattle.mls_biunify.specs.steps.Finding.{HasMember}
 use Rattle.mls_biunify.specs.steps.Growth.{Relates}
-use Rattle.mls_biunify.proofs.Relating.{Relates-none}
+use Rattle.mls_biunify.proofs.Relating.{Relates-kept, Relates-none}
 
 same_member : (sets : BTreeMap ℕ (List ℕ)) (k m : ℕ) (set : List ℕ) → get nat_cmp sets k ≡ Some set → HasMember sets k m → Contains set m
 same_member sets k m set is it =
@@ -19,10 +20,15 @@ same_member sets k m set is it =
     let same : it.0 ≡ set = cc in
     subst (λ (xs : List ℕ). Contains xs m) same it.2
 
-module _ (old mid new : BTreeMap ℕ (List ℕ)) (key member : ℕ) (set more : List ℕ) (members : (m : ℕ) → Contains set m ↔ HasMember old key m) (others : (k : ℕ) → k ≢ key → get nat_cmp mid k ≡ get nat_cmp old k) (added : (j : ℕ) → Contains more j ↔ (j ≡ member) ⊎ Contains set j) (here : get nat_cmp new key ≡ Some more) (others' : (k : ℕ) → k ≢ key → get nat_cmp new k ≡ get nat_cmp mid k) where
-  elsewhere : (k : ℕ) → k ≢ key → get nat_cmp new k ≡ get nat_cmp old k
-  elsewhere k apart = others' k apart ∙ others k apart
+-- the set that is there has the members of the key, and where none is there, the key has none
+pub members_there : (sets : BTreeMap ℕ (List ℕ)) (k : ℕ) (set : List ℕ) → get nat_cmp sets k ≡ Some set → (m : ℕ) → Contains set m ↔ HasMember sets k m
+members_there sets k set is m = (λ it. (set, is, it), λ it. same_member sets k m set is it)
 
+pub members_none : (sets : BTreeMap ℕ (List ℕ)) (k : ℕ) → get nat_cmp sets k ≡ None → (m : ℕ) → HasMember sets k m → ⊥
+members_none sets k is m it = let both : Some it.0 ≡ None = sym it.1 ∙ is in absurd (cc)
+
+-- a member more in the set of a key
+module _ (old new : BTreeMap ℕ (List ℕ)) (key member : ℕ) (set more : List ℕ) (members : (m : ℕ) → Contains set m ↔ HasMember old key m) (added : (j : ℕ) → Contains more j ↔ (j ≡ member) ⊎ Contains set j) (here : get nat_cmp new key ≡ Some more) (elsewhere : (k : ℕ) → k ≢ key → get nat_cmp new k ≡ get nat_cmp old k) where
   pub put_members : (k m : ℕ) → HasMember new k m ↔ HasMember old k m ⊎ ((k ≡ key) × (m ≡ member))
   put_members k m = go (cases_eq k key)
     where
@@ -50,7 +56,7 @@ module _ (old mid new : BTreeMap ℕ (List ℕ)) (key member : ℕ) (set more : 
       )
 
 -- a pair more
-module _ (pairs : List (ℕ × ℕ)) (forward backward forward' backward' : BTreeMap ℕ (List ℕ)) (p n : ℕ) (are : IsIndexOf pairs forward backward) (more : (k m : ℕ) → HasMember forward' k m ↔ HasMember forward k m ⊎ ((k ≡ p) × (m ≡ n))) (more' : (k m : ℕ) → HasMember backward' k m ↔ HasMember backward k m ⊎ ((k ≡ n) × (m ≡ p))) where
+module _ (pairs : List (ℕ × ℕ)) (p n : ℕ) where
   abbrev longer : List (ℕ × ℕ)
   longer = pairs ++ (p, n) ∷ []
 
@@ -71,18 +77,6 @@ module _ (pairs : List (ℕ × ℕ)) (forward backward forward' backward' : BTre
       let pair : (q, m) ≡ (p, n) = λ i. (same.0 i, same.1 i) in
       Contains-append_right pairs ((p, n) ∷ []) (q, m) (subst (λ (x : ℕ × ℕ). Contains ((p, n) ∷ []) x) (sym pair) (Contains-here (p, n) []))
 
-  pub found_more : IsIndexOf longer forward' backward'
-  found_more = record {
-    below = λ q m. (
-      λ it. cases_pair q m (elim ((more q m).0 it) [ inl before ↦ inl ((are.below q m).0 before) | inr same ↦ inr same ]),
-      λ it. (more q m).1 (elim (pair_cases q m it) [ inl before ↦ inl ((are.below q m).1 before) | inr same ↦ inr same ]),
-    );
-    above = λ q m. (
-      λ it. cases_pair q m (elim ((more' m q).0 it) [ inl before ↦ inl ((are.above q m).0 before) | inr same ↦ inr (same.1, same.0) ]),
-      λ it. (more' m q).1 (elim (pair_cases q m it) [ inl before ↦ inl ((are.above q m).1 before) | inr same ↦ inr (same.1, same.0) ]),
-    );
-  }
-
   pub relates_more : (old new : Room) → old.pairs ≡ pairs → new.pairs ≡ longer → new.positives ≡ old.positives → new.negatives ≡ old.negatives → new.rows ≡ old.rows → new.columns ≡ old.columns → Relates old new (λ q m. (q ≡ p) × (m ≡ n))
   relates_more old new is is' positives negatives rows columns = record {
     positives = positives;
@@ -97,6 +91,24 @@ module _ (pairs : List (ℕ × ℕ)) (forward backward forward' backward' : BTre
     complete = λ q m same. subst (λ xs. Contains xs (q, m)) (sym is') (cases_pair q m (inr same));
   }
 
+-- a pair more, by its first state
+module _ (pairs : List (ℕ × ℕ)) (forward forward' : BTreeMap ℕ (List ℕ)) (p n : ℕ) (are : (q m : ℕ) → HasMember forward q m ↔ Contains pairs (q, m)) (more : (k m : ℕ) → HasMember forward' k m ↔ HasMember forward k m ⊎ ((k ≡ p) × (m ≡ n))) where
+  pub pairs_more : (q m : ℕ) → HasMember forward' q m ↔ Contains (pairs ++ (p, n) ∷ []) (q, m)
+  pairs_more q m = (
+    λ it. cases_pair pairs p n q m (elim ((more q m).0 it) [ inl before ↦ inl ((are q m).0 before) | inr same ↦ inr same ]),
+    λ it. (more q m).1 (elim (pair_cases pairs p n q m it) [ inl before ↦ inl ((are q m).1 before) | inr same ↦ inr same ]),
+  )
+
+  -- one that is there
+  pub pairs_same : HasMember forward p n → (q m : ℕ) → HasMember forward' q m ↔ Contains pairs (q, m)
+  pairs_same there q m = (
+    λ it. elim ((more q m).0 it) [
+      | inl before ↦ (are q m).0 before
+      | inr same ↦ subst (λ k. Contains pairs (k, m)) (sym same.0) (subst (λ k. Contains pairs (p, k)) (sym same.1) ((are p n).0 there))
+    ],
+    λ it. (more q m).1 (inl ((are q m).1 it)),
+  )
+
 -- what an index finds is what the pairs of a room hold
 pub by_pairs : (pairs pairs' : List (ℕ × ℕ)) → pairs ≡ pairs' → (p n : ℕ) (Found There : Type 0) → Found ↔ There → There ↔ Contains pairs (p, n) → Found ↔ Contains pairs' (p, n)
 by_pairs pairs pairs' is p n Found There one two = (
@@ -109,6 +121,17 @@ pub held_already : (room : Room) (pairs : List (ℕ × ℕ)) → pairs ≡ room.
 held_already room pairs is p n there =
     let held : Holds room p n = subst (λ (xs : List (ℕ × ℕ)). Contains xs (p, n)) is there in
     Relates-none room (λ q m. (q ≡ p) × (m ≡ n)) (λ q m same. subst (λ k. Holds room k m) (sym same.0) (subst (λ k. Holds room p k) (sym same.1) held))
+
+-- a pair more, by its second state
+pub index_more : (old new : Room) (backward backward' : BTreeMap ℕ (List ℕ)) (p n : ℕ) → Relates old new (λ q m. (q ≡ p) × (m ≡ n)) → ((q m : ℕ) → HasMember backward m q ↔ Holds old q m)
+    → ((k m : ℕ) → HasMember backward' k m ↔ HasMember backward k m ⊎ ((k ≡ n) × (m ≡ p))) → (q m : ℕ) → HasMember backward' m q ↔ Holds new q m
+index_more old new backward backward' p n it are more q m = (
+  λ has. elim ((more m q).0 has) [
+    | inl before ↦ Relates-kept old new (λ q m. (q ≡ p) × (m ≡ n)) it q m ((are q m).0 before)
+    | inr same ↦ it.complete q m (same.1, same.0)
+  ],
+  λ held. (more m q).1 (elim (it.sound q m held) [ inl before ↦ inl ((are q m).1 before) | inr same ↦ inr (same.1, same.0) ]),
+)
 
 -- what a call ensures on success
 pub on_ok : {E : Type 0} {X : Type 0} (result : Result X E) (P : Type 0) → is_ok result ≡ true → OnOk result P → P

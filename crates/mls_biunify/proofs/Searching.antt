@@ -4,34 +4,30 @@
 --     chained-by, chained-related             chains of direct pairs
 --     direct_states, found_states             the states of its pairs
 --     searched-none, searched-direct, searched-found, searched-all, searched-same      the search
-use Rattle.std.proofs.Common.{◌≡◌, ◌⊎◌, inl, inr, ℕ, ◌+◌, ◌<◌, ◌≤◌, List, [], ◌∷◌, Contains, length, take, drop, get_or, refl, sym, ap, ◌∙◌, subst, arith, length-append}
+use Rattle.std.proofs.Common.{◌≡◌, ◌⊎◌, inl, inr, ℕ, ◌+◌, ◌<◌, ◌≤◌, List, [], Contains, length, take, drop, get_or, refl, sym, ap, ◌∙◌, subst, arith, length-append}
 use Rattle.std.proofs.lemmas.List.{get_or_default, take-append-drop, take-append-le}
 use Rattle.std.proofs.lemmas.List.Elements.{Contains-append_left}
 use Rattle.std.specs.Prelude.{◌↔◌}
 use Rattle.mls_automaton.specs.declared.automaton.Polarity.TheVariants.{Positive, Negative}
 use Rattle.mls_automaton.specs.Automata.{Automaton, HasFlow, IsPartner, IsState, head_at}
 use Rattle.mls_automaton.specs.Models.{IsClosed}
-use Rattle.mls_automaton.proofs.Lists.{Contains-here}
 use Rattle.mls_biunify.specs.Relations.{IsRelated, goal, domain, codomain, field, along}
 use Rattle.mls_biunify.specs.Rooms.{Room, Holds, HoldsJust, HoldsStates}
 use Rattle.mls_biunify.specs.steps.Growth.{BySome, Relates}
 use Rattle.mls_biunify.specs.steps.Consequences.{ByHeads}
 use Rattle.mls_biunify.specs.steps.Chains.{ByDirect, ByEdgeFrom, ByEdgeTo, HasTaken, IsChained, IsSearched, onward, single}
 use Rattle.mls_biunify.proofs.Following.{related_states}
-use Rattle.mls_biunify.proofs.Members.{only, partner_of_negative, partner_of_positive}
+use Rattle.mls_biunify.proofs.Members.{partner_of_negative, partner_of_positive}
 use Rattle.mls_biunify.proofs.Relating.{Relates-kept, Relates-same, taken-cases, take-all}
 use Rattle.mls_biunify.proofs.Taking.{by_heads-related, codomain-by_heads, domain-by_heads, field-by_heads, related-through}
 
 -- the pairs of one column
 pub column_to : (old new : Room) (from to : ℕ) (numbers copy items : List ℕ) → ((p : ℕ) → Contains numbers p ↔ Holds old p from) → copy ≡ numbers → items ≡ copy
-    → Relates old new (λ p n. Contains items p × Contains (to ∷ []) n) → Relates old new (λ p n. (n ≡ to) × Holds old p from)
+    → Relates old new (BySome items (λ k p n. (p ≡ k) × (n ≡ to))) → Relates old new (λ p n. (n ≡ to) × Holds old p from)
 column_to old new from to numbers copy items are same same' it =
-    Relates-same old new (λ p n. Contains items p × Contains (to ∷ []) n) (λ p n. (n ≡ to) × Holds old p from) it
-    (λ p n by. (only to n by.1, (are p).0 (subst (λ (xs : List ℕ). Contains xs p) same (subst (λ (xs : List ℕ). Contains xs p) same' by.0))))
-    (λ p n by. (
-      subst (λ (xs : List ℕ). Contains xs p) (sym same') (subst (λ (xs : List ℕ). Contains xs p) (sym same) ((are p).1 by.1)),
-      subst (λ m. Contains (to ∷ []) m) (sym by.0) (Contains-here to []),
-    ))
+    Relates-same old new (BySome items (λ k p n. (p ≡ k) × (n ≡ to))) (λ p n. (n ≡ to) × Holds old p from) it
+    (λ p n by. (by.2.1, (are p).0 (subst (λ (xs : List ℕ). Contains xs p) (same' ∙ same) (subst (λ k. Contains items k) (sym by.2.0) by.1))))
+    (λ p n by. (p, subst (λ (xs : List ℕ). Contains xs p) (sym (same' ∙ same)) ((are p).1 by.1), (refl, by.0)))
 
 -- it is that of the room before its last pairs were found, where these are related to the same state
 pub column_before : (old mid new : Room) (from to : ℕ) (xs : List ℕ) → Relates old mid (BySome xs (λ k p n. (n ≡ to) × Holds old p k)) → Relates mid new (λ p n. (n ≡ to) × Holds mid p from) → Relates mid new (λ p n. (n ≡ to) × Holds old p from)

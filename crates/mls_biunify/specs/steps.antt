@@ -11,6 +11,7 @@ pub mod FirstClashes
 pub mod Solving
 pub mod Links
 pub mod Finding
+pub mod PairParts
 pub mod FoundParts
 pub mod Settling
 pub mod TwoWay

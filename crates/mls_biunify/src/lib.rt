@@ -13,6 +13,7 @@ pub mod laws;
 mod links;
 pub mod live;
 pub mod materialise;
+mod pairs;
 mod reach;
 mod relation;
 mod rename;

@@ -14,6 +14,7 @@ ghost use Rattle.mls_biunify.specs.steps.Consequences.{ByFunctions, ByField, ByR
 use crate::clash::{clash_of, earlier};
 use crate::found::Found;
 use crate::goal::{Clash, Goal};
+use crate::pairs::Pairs;
 use mls_automaton::automaton::{Arms, Automaton, FieldSet, FieldSets, Head};
 use mls_automaton::state_set::StateId;
 use mls_base::memory::Memory;
@@ -30,7 +31,7 @@ pub fn search(alloc: Global, a: &Automaton, goals: &[Goal]) -> Result<Found, Mem
     ensures relation { IfOk result (λ found. HoldsJust found (IsRelated a.now (IsGoal goals.now))) }
     ensures states { IfOk result (HoldsStates a.now) }
 {
-    let mut direct = Found::new(alloc);
+    let mut direct = Pairs::new(alloc);
     add_goals(&mut direct, goals)?;
     let found = close(alloc, &mut direct, a)?;
     Ok(found)
@@ -76,7 +77,7 @@ fn clash_at(found: &Found, a: &Automaton, i: usize) -> Option<Clash>
 }
 
 // Adds the goals.
-fn add_goals(found: &mut Found, goals: &[Goal]) -> Result<(), Memory>
+fn add_goals(found: &mut Pairs, goals: &[Goal]) -> Result<(), Memory>
     ensures { OnOk result (Relates found.old found.new (IsGoal goals.now)) }
 {
     for goal in goals {
@@ -88,7 +89,7 @@ fn add_goals(found: &mut Found, goals: &[Goal]) -> Result<(), Memory>
 // Finds all that follows from the direct pairs. Those that follow by heads are direct too. Found pairs and direct ones
 // are taken once each, in the order in which they came. A found pair goes on along an edge by a direct one alone, so a
 // chain of pairs is found from its first pair on.
-fn close(alloc: Global, direct: &mut Found, a: &Automaton) -> Result<Found, Memory>
+fn close(alloc: Global, direct: &mut Pairs, a: &Automaton) -> Result<Found, Memory>
     requires closed { IsClosed a.now }
     requires states { HoldsStates a.now direct.old }
     ensures { IfOk result (λ found. HoldsJust found (IsRelated a.now (Holds direct.old))) }
@@ -150,7 +151,7 @@ fn add_before(
 // What follows from a found pair by its heads is direct, and a direct pair behind an edge from it leads to a found one.
 fn take_found(
     found: &mut Found,
-    direct: &mut Found,
+    direct: &mut Pairs,
     a: &Automaton,
     pair: (StateId, StateId),
 ) -> Result<(), Memory>
@@ -171,7 +172,7 @@ fn take_found(
 // Relates the positive state of a found pair to what is direct of a state with an edge from its negative state.
 fn add_after(
     found: &mut Found,
-    direct: &Found,
+    direct: &Pairs,
     a: &Automaton,
     positive: StateId,
     negative: StateId,
@@ -182,7 +183,7 @@ fn add_after(
         (ByEdgeFrom a.now (Holds direct.now) positive.0 negative.0)) }
 {
     for q in a.partners(negative).as_slice() {
-        add_set(found, positive.0, direct.below(StateId(*q)))?;
+        relate_to_all(found, positive.0, direct.below(StateId(*q)))?;
     }
     Ok(())
 }
@@ -192,7 +193,27 @@ fn add_column(alloc: Global, found: &mut Found, from: usize, to: usize) -> Resul
     ensures { OnOk result (Relates found.old found.new (λ p n. (n ≡ to) × Holds found.old p from)) }
 {
     let positives = copied(alloc, found.above(StateId(from)))?;
-    add_sets(found, positives.as_slice(), &[to])?;
+    relate_all_to(found, positives.as_slice(), to)?;
+    Ok(())
+}
+
+// Relates a positive state to each of the negative ones.
+fn relate_to_all(found: &mut Found, positive: usize, negatives: &[usize]) -> Result<(), Memory>
+    ensures { OnOk result (Relates found.old found.new (BySome negatives.now (λ m p n. (p ≡ positive) × (n ≡ m)))) }
+{
+    for n in negatives {
+        found.add(positive, *n)?;
+    }
+    Ok(())
+}
+
+// Relates each of the positive states to a negative one.
+fn relate_all_to(found: &mut Found, positives: &[usize], negative: usize) -> Result<(), Memory>
+    ensures { OnOk result (Relates found.old found.new (BySome positives.now (λ m p n. (p ≡ m) × (n ≡ negative)))) }
+{
+    for p in positives {
+        found.add(*p, negative)?;
+    }
     Ok(())
 }
 
@@ -207,7 +228,7 @@ fn copied(alloc: Global, numbers: &[usize]) -> Result<Vec<usize>, Memory>
 }
 
 // Adds what follows by the heads of a positive and a negative state.
-fn add_by_heads(found: &mut Found, upper: &Head, lower: &Head) -> Result<(), Memory>
+fn add_by_heads(found: &mut Pairs, upper: &Head, lower: &Head) -> Result<(), Memory>
     ensures { OnOk result (Relates found.old found.new (ByHeads upper.now lower.now)) }
 {
     add_by_functions(found, &upper.function, &lower.function)?;
@@ -216,7 +237,7 @@ fn add_by_heads(found: &mut Found, upper: &Head, lower: &Head) -> Result<(), Mem
 }
 
 fn add_by_functions(
-    found: &mut Found,
+    found: &mut Pairs,
     upper: &Option<Arms>,
     lower: &Option<Arms>,
 ) -> Result<(), Memory>
@@ -233,7 +254,7 @@ fn add_by_functions(
 }
 
 fn add_by_records(
-    found: &mut Found,
+    found: &mut Pairs,
     upper: &Option<FieldSets>,
     lower: &Option<FieldSets>,
 ) -> Result<(), Memory>
@@ -248,7 +269,7 @@ fn add_by_records(
     Ok(())
 }
 
-fn add_fields(found: &mut Found, fields: &FieldSets, others: &[FieldSet]) -> Result<(), Memory>
+fn add_fields(found: &mut Pairs, fields: &FieldSets, others: &[FieldSet]) -> Result<(), Memory>
     ensures { OnOk result (Relates found.old found.new (BySome others.now (ByField fields.now))) }
 {
     for other in others {
@@ -257,7 +278,7 @@ fn add_fields(found: &mut Found, fields: &FieldSets, others: &[FieldSet]) -> Res
     Ok(())
 }
 
-fn add_field(found: &mut Found, fields: &FieldSets, other: &FieldSet) -> Result<(), Memory>
+fn add_field(found: &mut Pairs, fields: &FieldSets, other: &FieldSet) -> Result<(), Memory>
     ensures { OnOk result (Relates found.old found.new (ByField fields.now other.now)) }
 {
     if let Some(set) = fields.get(&other.label) {
@@ -267,8 +288,8 @@ fn add_field(found: &mut Found, fields: &FieldSets, other: &FieldSet) -> Result<
     Ok(())
 }
 
-// Relates each of the positive states to each of the negative ones.
-fn add_sets(found: &mut Found, positives: &[usize], negatives: &[usize]) -> Result<(), Memory>
+// Adds the pairs of each of the positive states and each of the negative ones.
+fn add_sets(found: &mut Pairs, positives: &[usize], negatives: &[usize]) -> Result<(), Memory>
     ensures { OnOk result (Relates found.old found.new (λ p n. Contains positives.now p × Contains negatives.now n)) }
 {
     for p in positives {
@@ -277,8 +298,8 @@ fn add_sets(found: &mut Found, positives: &[usize], negatives: &[usize]) -> Resu
     Ok(())
 }
 
-// Relates a positive state to each of the negative ones.
-fn add_set(found: &mut Found, positive: usize, negatives: &[usize]) -> Result<(), Memory>
+// Adds the pairs of a positive state and each of the negative ones.
+fn add_set(found: &mut Pairs, positive: usize, negatives: &[usize]) -> Result<(), Memory>
     ensures { OnOk result (Relates found.old found.new (BySome negatives.now (λ m p n. (p ≡ positive) × (n ≡ m)))) }
 {
     for n in negatives {

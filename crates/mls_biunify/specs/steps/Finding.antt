@@ -1,13 +1,8 @@
 -- Pairs by each of their states.
-use Rattle.std.specs.Prelude.{◌≡◌, ◌↔◌, ℕ, List, Contains, Some}
+use Rattle.std.specs.Prelude.{◌≡◌, ℕ, List, Contains, Some}
 use Rattle.std.specs.BTreeMap.{BTreeMap, get}
 use Rattle.std.specs.Ordering.{nat_cmp}
 
 -- the set of this key has the member
 abbrev pub HasMember : BTreeMap ℕ (List ℕ) → ℕ → ℕ → Type 0
 HasMember sets k m = (set : List ℕ) × (get nat_cmp sets k ≡ Some set) × Contains set m
-
--- the sets have just the pairs of the list, by their first and by their second states
-pub record IsIndexOf (pairs : List (ℕ × ℕ)) (forward backward : BTreeMap ℕ (List ℕ)) : Type 0 where
-  pub below : (p n : ℕ) → HasMember forward p n ↔ Contains pairs (p, n)
-  pub above : (p n : ℕ) → HasMember backward n p ↔ Contains pairs (p, n)

@@ -1,11 +1,12 @@
 -- What holds of the parts of a table of found pairs.
-use Rattle.std.specs.Prelude.{[]}
-use Rattle.mls_biunify.specs.Rooms.{Room}
-use Rattle.mls_biunify.specs.steps.Finding.{IsIndexOf}
+use Rattle.std.specs.Prelude.{◌↔◌, ℕ}
+use Rattle.mls_biunify.specs.Rooms.{Room, Holds}
+use Rattle.mls_biunify.specs.steps.Finding.{HasMember}
 use Rattle.mls_biunify.specs.declared.found.Found.TheInside.{Inside}
 
 abbrev pub found_view : Inside → Room
-found_view a = record { positives = 0; negatives = 0; rows = []; columns = []; pairs = a.pairs.items }
+found_view a = a.forward
 
+-- the sets have just the pairs, by their second states
 abbrev pub IsFound : Inside → Type 0
-IsFound a = IsIndexOf a.pairs.items a.below a.above
+IsFound a = (p n : ℕ) → HasMember a.above n p ↔ Holds a.forward p n

@@ -23,8 +23,19 @@ fn add(ids: &mut NodeIds, marked: &mut BTreeSet<usize>, id: NodeId) -> Result<()
     Ok(())
 }
 
-/// The nodes, each once, in the order in which they stand first.
-pub(crate) fn distinct(alloc: Global, ids: &NodeIds) -> Result<NodeIds, Memory>
+// The nodes once more.
+fn copied(alloc: Global, ids: &[NodeId]) -> Result<NodeIds, Memory>
+    ensures { IfOk result (λ copy. copy ≡ ids.now) }
+{
+    let mut copy = NodeIds::new(alloc);
+    for id in ids {
+        copy.push(*id)?;
+    }
+    Ok(copy)
+}
+
+// The nodes, each once, in the order in which they stand first.
+fn each_once(alloc: Global, ids: &NodeIds) -> Result<NodeIds, Memory>
     ensures { IfOk result (λ left. (i : ℕ) → IsNodeIn left i ↔ IsNodeIn ids.now i) }
 {
     let mut left = NodeIds::new(alloc);
@@ -32,5 +43,17 @@ pub(crate) fn distinct(alloc: Global, ids: &NodeIds) -> Result<NodeIds, Memory>
     for id in ids.as_slice() {
         add(&mut left, &mut marked, *id)?;
     }
+    Ok(left)
+}
+
+/// The nodes, each once, in the order in which they stand first.
+pub(crate) fn distinct(alloc: Global, ids: &NodeIds) -> Result<NodeIds, Memory>
+    ensures { IfOk result (λ left. (i : ℕ) → IsNodeIn left i ↔ IsNodeIn ids.now i) }
+{
+    if ids.len() < 2 {
+        let left = copied(alloc, ids.as_slice())?;
+        return Ok(left);
+    }
+    let left = each_once(alloc, ids)?;
     Ok(left)
 }

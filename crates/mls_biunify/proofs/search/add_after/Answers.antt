@@ -6,10 +6,10 @@ use Rattle.mls_biunify.proofs.search.add_after.Goals as goal
 
 pub loop-q-preserved : goal.loop-q-preserved
 loop-q-preserved c =
-    Relates-more c.args.found.now c.loop-q.found c.add_set.new.found c.as_slice-q-items.result.now c.loop-q.q-index 0 (λ q p n. (p ≡ c.args.positive.0) × Holds c.args.direct.now q n)
+    Relates-more c.args.found.now c.loop-q.found c.relate_to_all.new.found c.as_slice-q-items.result.now c.loop-q.q-index 0 (λ q p n. (p ≡ c.args.positive.0) × Holds c.args.direct.now q n)
     c.loop-q-test.true c.loop-q.invariant
-    (row_to c.loop-q.found c.add_set.new.found c.args.direct.now (get_or c.as_slice-q-items.result.now c.loop-q.q-index 0) c.args.positive.0
-    c.below.result.now c.below.ensures c.in_ok-add_set.ensures)
+    (row_to c.loop-q.found c.relate_to_all.new.found c.args.direct.now (get_or c.as_slice-q-items.result.now c.loop-q.q-index 0) c.args.positive.0
+    c.below.result.now c.below.ensures c.in_ok-relate_to_all.ensures)
 
 pub returns : goal.returns
 returns c =

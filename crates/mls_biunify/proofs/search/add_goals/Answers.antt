@@ -11,7 +11,7 @@ no_goal = record { positive = record { 0 = 0 }; negative = record { 0 = 0 } }
 pub loop-goal-preserved : goal.loop-goal-preserved
 loop-goal-preserved c =
     Relates-more c.args.found.now c.loop-goal.found c.add.new.self c.args.goals.now c.loop-goal.goal-index no_goal ByGoal
-    c.loop-goal-test.true c.loop-goal.invariant c.in_ok-add.ensures
+    c.loop-goal-test.true c.loop-goal.invariant c.in_ok-add.ensures.pair
 
 pub returns : goal.returns
 returns c =

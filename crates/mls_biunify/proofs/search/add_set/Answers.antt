@@ -5,7 +5,7 @@ use Rattle.mls_biunify.proofs.search.add_set.Goals as goal
 pub loop-n-preserved : goal.loop-n-preserved
 loop-n-preserved c =
     Relates-more c.args.found.now c.loop-n.found c.add.new.self c.args.negatives.now c.loop-n.n-index 0 (λ m p n. (p ≡ c.args.positive) × (n ≡ m))
-    c.loop-n-test.true c.loop-n.invariant c.in_ok-add.ensures
+    c.loop-n-test.true c.loop-n.invariant c.in_ok-add.ensures.pair
 
 pub returns : goal.returns
 returns c =

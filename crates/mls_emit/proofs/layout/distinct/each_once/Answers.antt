@@ -4,7 +4,7 @@ use Rattle.mls_book.specs.declared.book.NodeId.{NodeId}
 use Rattle.mls_emit.specs.Trees.{IsNodeIn}
 use Rattle.mls_emit.proofs.Distinct.{distinct_same}
 use Rattle.mls_emit.proofs.Gathering.{BySome, gathers_more, gathers_all, gathers_same, gathered}
-use Rattle.mls_emit.proofs.layout.distinct.distinct.Goals as goal
+use Rattle.mls_emit.proofs.layout.distinct.each_once.Goals as goal
 
 pub loop-id-preserved : goal.loop-id-preserved
 loop-id-preserved c = record {

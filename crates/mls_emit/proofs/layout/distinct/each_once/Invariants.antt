@@ -2,7 +2,7 @@ use Rattle.std.proofs.Common.{◌≡◌, take}
 use Rattle.mls_book.specs.declared.book.NodeId.{NodeId}
 use Rattle.mls_emit.specs.steps.Sources.{Gathers, HasMarked}
 use Rattle.mls_emit.proofs.Gathering.{BySome}
-use Rattle.mls_emit.proofs.layout.distinct.distinct.Given as goal
+use Rattle.mls_emit.proofs.layout.distinct.each_once.Given as goal
 
 -- those so far, each once
 abbrev pub invariant-loop-id : goal.invariant-loop-id
