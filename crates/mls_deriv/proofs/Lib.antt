@@ -22,6 +22,7 @@ pub mod Walks
 pub mod Passed
 pub mod Written
 pub mod SpelledNumbers
+pub mod Standing
 pub mod SpelledLines
 pub mod SpelledNodes
 pub mod TextLines

@@ -12,6 +12,7 @@ pub mod laws;
 pub mod lookup;
 mod node_line;
 pub mod print;
+pub mod printable;
 pub mod read;
 pub mod rules;
 mod section;

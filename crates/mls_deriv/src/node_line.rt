@@ -39,7 +39,7 @@ fn is_spelled(alloc: Global, node: &Node, line: &[u8]) -> Result<bool, Memory>
 {
     let mut text = Vec::new(alloc);
     text.extend_from_slice(b"node")?;
-    add_node(&mut text, node, alloc)?;
+    add_node(&mut text, node)?;
     Ok(text.as_slice() == line)
 }
 

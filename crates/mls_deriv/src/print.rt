@@ -7,6 +7,7 @@ ghost use Rattle.mls_deriv.specs.Spellings.{rule_words};
 ghost use Rattle.mls_deriv.specs.Spellings.{node_line, node_words, field_words, entry_words, number_word, number_words};
 
 use crate::derivation::{BinderNode, Derivation, Mode, Section, SectionLine, StepLine, StepRule};
+use itoa::Buffer;
 use mls_base::memory::Memory;
 use mls_book::book::{Book, Field, Node, NodeId};
 use std::alloc::Global;
@@ -23,13 +24,13 @@ pub fn print_derivation(alloc: Global, derivation: &Derivation) -> Result<Vec<u8
     let mut text = Vec::new(alloc);
     text.extend_from_slice(b"derivation 1\n")?;
     for section in derivation.sections.as_slice() {
-        add_section(&mut text, section, alloc)?;
+        add_section(&mut text, section)?;
     }
     Ok(text)
 }
 
 // A section.
-fn add_section(text: &mut Vec<u8>, section: &Section, alloc: Global) -> Result<(), Memory>
+fn add_section(text: &mut Vec<u8>, section: &Section) -> Result<(), Memory>
     ensures { OnOk result (text.new.items ≡ text.old.items ++ section_text section.now) }
 {
     text.extend_from_slice(b"val ")?;
@@ -37,63 +38,63 @@ fn add_section(text: &mut Vec<u8>, section: &Section, alloc: Global) -> Result<(
     text.extend_from_slice(b" : ")?;
     text.extend_from_slice(section.text.as_slice())?;
     text.extend_from_slice(b"\n")?;
-    add_nodes(text, &section.nodes, alloc)?;
-    add_lines(text, section.lines.as_slice(), alloc)?;
+    add_nodes(text, &section.nodes)?;
+    add_lines(text, section.lines.as_slice())?;
     text.extend_from_slice(b"end\n")?;
     Ok(())
 }
 
 // A space and a number.
-fn add_number(text: &mut Vec<u8>, number: usize, alloc: Global) -> Result<(), Memory>
+fn add_number(text: &mut Vec<u8>, number: usize) -> Result<(), Memory>
     ensures { OnOk result (text.new.items ≡ text.old.items ++ number_word number) }
 {
     text.extend_from_slice(b" ")?;
-    text.extend_from_slice(number.to_string(alloc)?.as_bytes())?;
+    text.extend_from_slice(Buffer::new().format(number).as_bytes())?;
     Ok(())
 }
 
 // Two of them.
-fn add_two(text: &mut Vec<u8>, first: usize, second: usize, alloc: Global) -> Result<(), Memory>
+fn add_two(text: &mut Vec<u8>, first: usize, second: usize) -> Result<(), Memory>
     ensures { OnOk result (text.new.items ≡ text.old.items ++ (number_word first ++ number_word second)) }
 {
-    add_number(text, first, alloc)?;
-    add_number(text, second, alloc)
+    add_number(text, first)?;
+    add_number(text, second)
 }
 
 // Many of them.
 #[tactic(auto, using(crate::proofs::Written::more_written, crate::proofs::Written::all_written))]
-fn add_numbers(text: &mut Vec<u8>, numbers: &[usize], alloc: Global) -> Result<(), Memory>
+fn add_numbers(text: &mut Vec<u8>, numbers: &[usize]) -> Result<(), Memory>
     ensures { OnOk result (text.new.items ≡ text.old.items ++ number_words numbers.now) }
 {
     for number in numbers {
-        add_number(text, *number, alloc)?;
+        add_number(text, *number)?;
     }
     Ok(())
 }
 
 // The lines of nodes.
 #[tactic(auto, using(crate::proofs::Written::more_written, crate::proofs::Written::all_written))]
-fn add_nodes(text: &mut Vec<u8>, book: &Book, alloc: Global) -> Result<(), Memory>
+fn add_nodes(text: &mut Vec<u8>, book: &Book) -> Result<(), Memory>
     ensures { OnOk result (text.new.items ≡ text.old.items ++ flat_map node_line book.now) }
 {
     for i in 0..book.len() {
-        add_node_line(text, book.node(NodeId(i)), alloc)?;
+        add_node_line(text, book.node(NodeId(i)))?;
     }
     Ok(())
 }
 
 // The line of a node.
-fn add_node_line(text: &mut Vec<u8>, node: &Node, alloc: Global) -> Result<(), Memory>
+fn add_node_line(text: &mut Vec<u8>, node: &Node) -> Result<(), Memory>
     ensures { OnOk result (text.new.items ≡ text.old.items ++ node_line node.now) }
 {
     text.extend_from_slice(b"node")?;
-    add_node(text, node, alloc)?;
+    add_node(text, node)?;
     text.extend_from_slice(b"\n")?;
     Ok(())
 }
 
 // What stands on the line of a node behind its first word.
-pub(crate) fn add_node(text: &mut Vec<u8>, node: &Node, alloc: Global) -> Result<(), Memory>
+pub(crate) fn add_node(text: &mut Vec<u8>, node: &Node) -> Result<(), Memory>
     ensures { OnOk result (text.new.items ≡ text.old.items ++ node_words node.now) }
 {
     match node {
@@ -101,96 +102,90 @@ pub(crate) fn add_node(text: &mut Vec<u8>, node: &Node, alloc: Global) -> Result
         Node::Top => text.extend_from_slice(b" top")?,
         Node::Var(x) => {
             text.extend_from_slice(b" var")?;
-            add_number(text, *x, alloc)?;
+            add_number(text, *x)?;
         }
         Node::Bool => text.extend_from_slice(b" bool")?,
         Node::Int => text.extend_from_slice(b" int")?,
-        Node::Arrow(j, k) => add_pair(text, b" fn", j.0, k.0, alloc)?,
+        Node::Arrow(j, k) => add_pair(text, b" fn", j.0, k.0)?,
         Node::Rcd(fields) => {
             text.extend_from_slice(b" rcd")?;
-            add_fields(text, fields.as_slice(), alloc)?;
+            add_fields(text, fields.as_slice())?;
         }
-        Node::Join(j, k) => add_pair(text, b" join", j.0, k.0, alloc)?,
-        Node::Meet(j, k) => add_pair(text, b" meet", j.0, k.0, alloc)?,
+        Node::Join(j, k) => add_pair(text, b" join", j.0, k.0)?,
+        Node::Meet(j, k) => add_pair(text, b" meet", j.0, k.0)?,
     }
     Ok(())
 }
 
 // A word and two numbers.
-fn add_pair(
-    text: &mut Vec<u8>,
-    word: &[u8],
-    first: usize,
-    second: usize,
-    alloc: Global,
-) -> Result<(), Memory>
+fn add_pair(text: &mut Vec<u8>, word: &[u8], first: usize, second: usize) -> Result<(), Memory>
     ensures { OnOk result (text.new.items ≡ text.old.items ++ (word.now ++ number_word first ++ number_word second)) }
 {
     text.extend_from_slice(word)?;
-    add_number(text, first, alloc)?;
-    add_number(text, second, alloc)
+    add_number(text, first)?;
+    add_number(text, second)
 }
 
 // A word and a number.
-fn add_one(text: &mut Vec<u8>, word: &[u8], number: usize, alloc: Global) -> Result<(), Memory>
+fn add_one(text: &mut Vec<u8>, word: &[u8], number: usize) -> Result<(), Memory>
     ensures { OnOk result (text.new.items ≡ text.old.items ++ (word.now ++ number_word number)) }
 {
     text.extend_from_slice(word)?;
-    add_number(text, number, alloc)
+    add_number(text, number)
 }
 
 // The labels of a record with their nodes.
 #[tactic(auto, using(crate::proofs::Written::more_written, crate::proofs::Written::all_written))]
-fn add_fields(text: &mut Vec<u8>, fields: &[Field], alloc: Global) -> Result<(), Memory>
+fn add_fields(text: &mut Vec<u8>, fields: &[Field]) -> Result<(), Memory>
     ensures { OnOk result (text.new.items ≡ text.old.items ++ flat_map field_words fields.now) }
 {
     for field in fields {
-        add_field(text, field, alloc)?;
+        add_field(text, field)?;
     }
     Ok(())
 }
 
 // A label with its node.
-fn add_field(text: &mut Vec<u8>, field: &Field, alloc: Global) -> Result<(), Memory>
+fn add_field(text: &mut Vec<u8>, field: &Field) -> Result<(), Memory>
     ensures { OnOk result (text.new.items ≡ text.old.items ++ field_words field.now) }
 {
     text.extend_from_slice(b" ")?;
     text.extend_from_slice(field.label.bytes())?;
-    add_number(text, field.node.0, alloc)
+    add_number(text, field.node.0)
 }
 
 // The lines behind the nodes.
 #[tactic(auto, using(crate::proofs::Written::more_written, crate::proofs::Written::all_written))]
-fn add_lines(text: &mut Vec<u8>, lines: &[SectionLine], alloc: Global) -> Result<(), Memory>
+fn add_lines(text: &mut Vec<u8>, lines: &[SectionLine]) -> Result<(), Memory>
     ensures { OnOk result (text.new.items ≡ text.old.items ++ flat_map line_text lines.now) }
 {
     for line in lines {
-        add_line(text, line, alloc)?;
+        add_line(text, line)?;
     }
     Ok(())
 }
 
 // One of them.
-fn add_line(text: &mut Vec<u8>, line: &SectionLine, alloc: Global) -> Result<(), Memory>
+fn add_line(text: &mut Vec<u8>, line: &SectionLine) -> Result<(), Memory>
     ensures { OnOk result (text.new.items ≡ text.old.items ++ line_text line.now) }
 {
-    add_words(text, line, alloc)?;
+    add_words(text, line)?;
     text.extend_from_slice(b"\n")?;
     Ok(())
 }
 
 // The words of a line.
-pub(crate) fn add_words(text: &mut Vec<u8>, line: &SectionLine, alloc: Global) -> Result<(), Memory>
+pub(crate) fn add_words(text: &mut Vec<u8>, line: &SectionLine) -> Result<(), Memory>
     ensures { OnOk result (text.new.items ≡ text.old.items ++ line_words line.now) }
 {
     match line {
-        SectionLine::Let(k, s) => add_pair(text, b"let", *k, *s, alloc),
-        SectionLine::Step(step) => add_step(text, step, alloc),
-        SectionLine::Put(x, n) => add_pair(text, b"put", *x, n.0, alloc),
+        SectionLine::Let(k, s) => add_pair(text, b"let", *k, *s),
+        SectionLine::Step(step) => add_step(text, step),
+        SectionLine::Put(x, n) => add_pair(text, b"put", *x, n.0),
         SectionLine::Pair(mode, i, j) => {
             text.extend_from_slice(b"pair")?;
             text.extend_from_slice(mode_word(*mode))?;
-            add_two(text, i.0, j.0, alloc)
+            add_two(text, i.0, j.0)
         }
     }
 }
@@ -207,51 +202,51 @@ fn mode_word(mode: Mode) -> &'static [u8]
 }
 
 // The words of a step.
-fn add_step(text: &mut Vec<u8>, step: &StepLine, alloc: Global) -> Result<(), Memory>
+fn add_step(text: &mut Vec<u8>, step: &StepLine) -> Result<(), Memory>
     ensures { OnOk result (text.new.items ≡ text.old.items ++ line_words (Step step.now)) }
 {
     text.extend_from_slice(b"step")?;
-    add_number(text, step.node, alloc)?;
-    add_rule(text, &step.rule, alloc)?;
+    add_number(text, step.node)?;
+    add_rule(text, &step.rule)?;
     text.extend_from_slice(b" env")?;
-    add_env(text, step.env.as_slice(), alloc)?;
-    add_one(text, b" type", step.root.0, alloc)
+    add_env(text, step.env.as_slice())?;
+    add_one(text, b" type", step.root.0)
 }
 
 // The rule of a step.
-fn add_rule(text: &mut Vec<u8>, rule: &StepRule, alloc: Global) -> Result<(), Memory>
+fn add_rule(text: &mut Vec<u8>, rule: &StepRule) -> Result<(), Memory>
     ensures { OnOk result (text.new.items ≡ text.old.items ++ rule_words rule.now) }
 {
     match rule {
         StepRule::Var => text.extend_from_slice(b" var")?,
-        StepRule::Use(s) => add_one(text, b" use", *s, alloc)?,
-        StepRule::Name(n) => add_one(text, b" name", n.0, alloc)?,
+        StepRule::Use(s) => add_one(text, b" use", *s)?,
+        StepRule::Name(n) => add_one(text, b" name", n.0)?,
         StepRule::Lit => text.extend_from_slice(b" lit")?,
-        StepRule::Fun(s) => add_one(text, b" fun", *s, alloc)?,
-        StepRule::App(s, t) => add_pair(text, b" app", *s, *t, alloc)?,
+        StepRule::Fun(s) => add_one(text, b" fun", *s)?,
+        StepRule::App(s, t) => add_pair(text, b" app", *s, *t)?,
         StepRule::Make(numbers) => {
             text.extend_from_slice(b" make")?;
-            add_numbers(text, numbers.as_slice(), alloc)?;
+            add_numbers(text, numbers.as_slice())?;
         }
-        StepRule::Proj(s) => add_one(text, b" proj", *s, alloc)?,
+        StepRule::Proj(s) => add_one(text, b" proj", *s)?,
         StepRule::If(s, t, u) => {
-            add_pair(text, b" if", *s, *t, alloc)?;
-            add_number(text, *u, alloc)?;
+            add_pair(text, b" if", *s, *t)?;
+            add_number(text, *u)?;
         }
-        StepRule::Let(s, t) => add_pair(text, b" let", *s, *t, alloc)?,
-        StepRule::Rec(s) => add_one(text, b" rec", *s, alloc)?,
-        StepRule::Sub(s) => add_one(text, b" sub", *s, alloc)?,
+        StepRule::Let(s, t) => add_pair(text, b" let", *s, *t)?,
+        StepRule::Rec(s) => add_one(text, b" rec", *s)?,
+        StepRule::Sub(s) => add_one(text, b" sub", *s)?,
     }
     Ok(())
 }
 
 // The binders of an environment with their nodes.
 #[tactic(auto, using(crate::proofs::Written::more_written, crate::proofs::Written::all_written))]
-fn add_env(text: &mut Vec<u8>, env: &[BinderNode], alloc: Global) -> Result<(), Memory>
+fn add_env(text: &mut Vec<u8>, env: &[BinderNode]) -> Result<(), Memory>
     ensures { OnOk result (text.new.items ≡ text.old.items ++ flat_map entry_words env.now) }
 {
     for entry in env {
-        add_two(text, entry.binder, entry.node.0, alloc)?;
+        add_two(text, entry.binder, entry.node.0)?;
     }
     Ok(())
 }

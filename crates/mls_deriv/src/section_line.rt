@@ -40,7 +40,7 @@ fn is_spelled(alloc: Global, found: &SectionLine, line: &[u8]) -> Result<bool, M
     ensures { IfOk result (λ same. IsTrue same ↔ (line.now ≡ line_words found.now)) }
 {
     let mut text = Vec::new(alloc);
-    add_words(&mut text, found, alloc)?;
+    add_words(&mut text, found)?;
     Ok(text.as_slice() == line)
 }
 

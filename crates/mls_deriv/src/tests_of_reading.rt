@@ -1,6 +1,7 @@
 //! The texts of derivations read, and the first bad lines of others.
 use crate::fault::DerivFault;
 use crate::print::print_derivation;
+use crate::printable::has_text;
 use crate::read::read_derivation;
 use mls_base::memory::Memory;
 use std::alloc::Global;
@@ -192,5 +193,16 @@ fn reads_what_was_given(rt: HostRuntime) -> Result<(), Fail> {
         let text = behind(alloc, 10, others)?;
         assert_eq!(rt; bad_line(alloc, text.as_slice())?, bad, "{others:?}");
     }
+    Ok(())
+}
+
+// What is read has a text.
+#[test]
+fn tells_that_the_identity_has_a_text(rt: HostRuntime) -> Result<(), Fail> {
+    let alloc = rt.alloc();
+    let Ok(derivation) = read_derivation(alloc, IDENTITY.as_bytes()) else {
+        return Err(Memory.into());
+    };
+    assert!(rt; has_text(alloc, &derivation)?);
     Ok(())
 }

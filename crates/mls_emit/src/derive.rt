@@ -1,6 +1,8 @@
 //! Derivations of the types of a signature.
 ghost use Rattle.std.specs.Prelude.{◌≡◌, ℕ, length, slice_get, All, IfOk, Some};
-ghost use Rattle.mls_deriv.specs.Laws.{AreTerms};
+ghost use Rattle.mls_deriv.specs.Laws.{AreDerivable, AreTerms};
+ghost use Rattle.mls_deriv.specs.Spellings.{derivation_text};
+ghost use Rattle.mls_deriv.specs.Texts.{IsTextOf};
 ghost use Rattle.mls_infer.specs.Inference.{AreNames};
 ghost use Rattle.mls_iface.specs.Matches.{IsRead};
 ghost use Rattle.mls_iface.specs.Signatures.{IsEntry};
@@ -24,6 +26,7 @@ use mls_base::list::List;
 use mls_base::memory::Memory;
 use mls_book::name::Name;
 use mls_deriv::derivation::{Derivation, Section, Sections};
+use mls_deriv::printable::has_text;
 use mls_deriv::verify::{Verified, verify};
 use mls_iface::signature::{SigEntry, Signature};
 use mls_term::term::{Resolved, ResolvedBinding};
@@ -107,12 +110,13 @@ fn sections_of(
 }
 
 /// A derivation of the signature of a module over the schemes of its environment: the operators, and what its imports
-/// declare. There is one section for each entry, and each step is allowed.
+/// declare. There is one section for each entry, each step is allowed, and what `print_derivation` writes of it is read
+/// back as the same derivation.
 ///
 /// # Errors
 ///
-/// `Memory` where memory is wanting, or where the check refuses what was written. That it never refuses it for a
-/// signature that `infer_module` gives is tested, and not proved.
+/// `Memory` where memory is wanting, or where the check refuses what was written or it has no text. That neither ever
+/// happens for a signature that `infer_module` gives is tested, and not proved.
 pub fn derivation_of(
     alloc: Global,
     module: &Resolved,
@@ -122,8 +126,10 @@ pub fn derivation_of(
     requires names { AreNames declared.now }
     requires terms { AreTerms (length declared.now.schemes) «module».now.bindings }
     requires entries { All IsEntry signature.now.entries }
-    ensures { IfOk result (λ d. AreDerivations declared.now.schemes «module».now.bindings signature.now.entries
+    ensures steps { IfOk result (λ d. AreDerivations declared.now.schemes «module».now.bindings signature.now.entries
         d.sections) }
+    ensures derivable { IfOk result (λ d. AreDerivable declared.now.schemes «module».now.bindings d.sections) }
+    ensures text { IfOk result (λ d. IsTextOf (derivation_text d) d) }
 {
     let sections = sections_of(
         alloc,
@@ -132,6 +138,9 @@ pub fn derivation_of(
         signature.entries.as_slice(),
     )?;
     let derivation = Derivation { sections };
+    if !has_text(alloc, &derivation)? {
+        return Err(Memory);
+    }
     match verify(alloc, &derivation, module, declared)? {
         Verified::Yes => Ok(derivation),
         Verified::No(_) => Err(Memory),

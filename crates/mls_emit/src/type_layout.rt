@@ -80,7 +80,7 @@ fn plan_types(
     let mut nodes = NodeIds::new(alloc);
     for s in 0..a.len() {
         let members = members_of(alloc, sources, s)?;
-        nodes.push(trees.plan(alloc, a.polarity(StateId(s)), &members)?)?;
+        nodes.push(trees.plan(alloc, a.polarity(StateId(s)), members)?)?;
     }
     Ok(Places {
         nodes,

@@ -1,17 +1,15 @@
 //! The text of a derivation of the types of a module.
-ghost use Rattle.std.specs.Prelude.{◌≡◌, length, All, IsTrue, IfOk, IfErr};
+ghost use Rattle.std.specs.Prelude.{◌≡◌, IfOk, IfErr};
 ghost use Rattle.mls_io.specs.Stores.{Follows};
 ghost use Rattle.mls_grammar.specs.Modules.{IsModule};
 ghost use Rattle.mls_term.specs.declared.term.Resolved.{Resolved as Meaning};
 ghost use Rattle.mls_names.specs.Resolution.{Resolves};
-ghost use Rattle.mls_typetext.specs.Laws.{IsReadScheme};
 ghost use Rattle.mls_deriv.specs.declared.derivation.Derivation.{Derivation};
-ghost use Rattle.mls_deriv.specs.Laws.{AreTerms};
 ghost use Rattle.mls_deriv.specs.Spellings.{derivation_text};
 ghost use Rattle.mls_modules.specs.Environments.{AreInterfacesOf, declared_names};
 ghost use Rattle.mls_modules.specs.Entries.{IsSignatureOf};
 ghost use Rattle.mls_top.specs.Outcomes.{IsDerivationOf};
-ghost use Rattle.mls_top.specs.steps.Answering.{IsAsked, IsAskedStop, IsAllowedText, IsSectionFor, AreSectionsFor};
+ghost use Rattle.mls_top.specs.steps.Answering.{IsAsked, IsAskedStop};
 
 use crate::answer::{Answer, Stop};
 use crate::command::Command;
@@ -20,20 +18,16 @@ use crate::status::Status;
 use mls_base::list::List;
 use mls_base::memory::Memory;
 use mls_book::name::Name;
-use mls_deriv::derivation::Section;
 use mls_deriv::print::print_derivation;
-use mls_deriv::read::read_derivation;
-use mls_deriv::verify::{Verified, verify};
 use mls_emit::derive::derivation_of;
 use mls_iface::interface::Interface;
-use mls_iface::signature::{SigEntry, Signature};
+use mls_iface::signature::Signature;
 use mls_io::store::Store;
 use mls_modules::environment::{declared_names, names_of};
 use mls_names::resolve::resolve;
 use mls_syntax::module::Module;
 use mls_syntax::parse::Fault;
 use mls_term::term::Resolved;
-use mls_typetext::scheme::Names;
 use std::alloc::Global;
 
 /// The answer of `derive` over a store: the text of a derivation of the types of the module of this name.
@@ -75,7 +69,6 @@ fn derived(
     let names = names_of(alloc, imports, &nothing)?;
     let derivation = derivation_of(alloc, &resolved, &names, signature)?;
     let text = print_derivation(alloc, &derivation)?;
-    read_back(alloc, &resolved, &names, signature, text.as_slice())?;
     Ok(text)
 }
 
@@ -96,44 +89,4 @@ fn meant(alloc: Global, parsed: &Module, imports: &[Interface]) -> Result<Resolv
             unreachable!()
         }
     }
-}
-
-// Reads a text back that has to be that of a derivation of the types of this signature: only where each step of what
-// is read is allowed will the text do. Any other text is answered as want of memory.
-fn read_back(
-    alloc: Global,
-    resolved: &Resolved,
-    names: &Names,
-    signature: &Signature,
-    text: &[u8],
-) -> Result<(), Memory>
-    requires schemes { All IsReadScheme names.now.schemes }
-    requires terms { AreTerms (length names.now.schemes) resolved.now.bindings }
-    ensures { IfOk result (λ done. IsAllowedText names.now.schemes resolved.now.bindings signature.now.entries text.now) }
-{
-    let Ok(read) = read_derivation(alloc, text) else {
-        return Err(Memory);
-    };
-    match verify(alloc, &read, resolved, names)? {
-        Verified::Yes if are_for(read.sections.as_slice(), signature.entries.as_slice()) => Ok(()),
-        _ => Err(Memory),
-    }
-}
-
-// Whether the sections have the names and the texts of the entries, in order.
-fn are_for(sections: &[Section], entries: &[SigEntry]) -> bool
-    ensures { IsTrue result → AreSectionsFor sections.now entries.now }
-{
-    sections.len() == entries.len()
-        && sections
-            .iter()
-            .zip(entries.iter())
-            .all(|(section, entry)| is_for(section, entry))
-}
-
-// Whether the section has the name and the text of the entry.
-fn is_for(section: &Section, entry: &SigEntry) -> bool
-    ensures { IsTrue result → IsSectionFor section.now entry.now }
-{
-    section.name == entry.name && section.text.as_slice() == entry.text.as_slice()
 }

@@ -23,17 +23,6 @@ fn add(ids: &mut NodeIds, marked: &mut BTreeSet<usize>, id: NodeId) -> Result<()
     Ok(())
 }
 
-// The nodes once more.
-fn copied(alloc: Global, ids: &[NodeId]) -> Result<NodeIds, Memory>
-    ensures { IfOk result (λ copy. copy ≡ ids.now) }
-{
-    let mut copy = NodeIds::new(alloc);
-    for id in ids {
-        copy.push(*id)?;
-    }
-    Ok(copy)
-}
-
 // The nodes, each once, in the order in which they stand first.
 fn each_once(alloc: Global, ids: &NodeIds) -> Result<NodeIds, Memory>
     ensures { IfOk result (λ left. (i : ℕ) → IsNodeIn left i ↔ IsNodeIn ids.now i) }
@@ -47,13 +36,12 @@ fn each_once(alloc: Global, ids: &NodeIds) -> Result<NodeIds, Memory>
 }
 
 /// The nodes, each once, in the order in which they stand first.
-pub(crate) fn distinct(alloc: Global, ids: &NodeIds) -> Result<NodeIds, Memory>
-    ensures { IfOk result (λ left. (i : ℕ) → IsNodeIn left i ↔ IsNodeIn ids.now i) }
+pub(crate) fn distinct(alloc: Global, ids: NodeIds) -> Result<NodeIds, Memory>
+    ensures { IfOk result (λ left. (i : ℕ) → IsNodeIn left i ↔ IsNodeIn ids i) }
 {
     if ids.len() < 2 {
-        let left = copied(alloc, ids.as_slice())?;
-        return Ok(left);
+        return Ok(ids);
     }
-    let left = each_once(alloc, ids)?;
+    let left = each_once(alloc, &ids)?;
     Ok(left)
 }

@@ -32,7 +32,7 @@ fn plan_set(
 {
     let mut ids = NodeIds::new(alloc);
     add_nodes(&mut ids, places, set.as_slice())?;
-    let root = trees.plan(alloc, polarity, &ids)?;
+    let root = trees.plan(alloc, polarity, ids)?;
     Ok(root)
 }
 

@@ -100,11 +100,11 @@ impl PlannedTrees {
         &mut self,
         alloc: Global,
         polarity: Polarity,
-        members: &NodeIds,
+        members: NodeIds,
     ) -> Result<NodeId, Memory>
-        requires { All (λ id. id.0 < end_of self.old) members.now }
+        requires { All (λ id. id.0 < end_of self.old) members }
         ensures extends { OnOk result (Extends self.old self.new) }
-        ensures tree { IfOk result (λ id. HasTree self.new polarity (IsNodeIn members.now) id.0) }
+        ensures tree { IfOk result (λ id. HasTree self.new polarity (IsNodeIn members) id.0) }
     {
         let once = distinct(alloc, members)?;
         let root = self.add(polarity, once)?;

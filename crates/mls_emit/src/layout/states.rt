@@ -87,7 +87,7 @@ pub(crate) fn plan_states(
     let mut nodes = NodeIds::new(alloc);
     for s in 0..a.len() {
         let members = state_members(alloc, a, sources, values, StateId(s))?;
-        nodes.push(trees.plan(alloc, a.polarity(StateId(s)), &members)?)?;
+        nodes.push(trees.plan(alloc, a.polarity(StateId(s)), members)?)?;
     }
     Ok(Places {
         nodes,

@@ -129,7 +129,7 @@ pub(crate) fn plan_values(
     let mut nodes = NodeIds::new(alloc);
     for s in 0..a.len() {
         let members = value_members(alloc, a, found, sources, StateId(s))?;
-        nodes.push(trees.plan(alloc, Polarity::Positive, &members)?)?;
+        nodes.push(trees.plan(alloc, Polarity::Positive, members)?)?;
     }
     Ok(Places {
         nodes,

@@ -1,24 +1,19 @@
 -- What the phases of a run say to one another.
-use Rattle.std.specs.Prelude.{◌≡◌, ◌≢◌, ℕ, ◌<◌, ◌≤◌, List, [], map, Result, MatchResult, IsTrue}
+use Rattle.std.specs.Prelude.{◌≡◌, ◌≢◌, ℕ, ◌<◌, ◌≤◌, List, [], Result, MatchResult, IsTrue}
 use Rattle.mls_base.specs.Files.{Files}
 use Rattle.mls_io.specs.Counts.{Rose}
 use Rattle.mls_io.specs.Stores.{Holdings}
 use Rattle.mls_grammar.specs.declared.module.Module.{Module}
 use Rattle.mls_iface.specs.declared.interface.Interface.{Interface}
 use Rattle.mls_iface.specs.declared.interface.IfaceFault.{IfaceFault}
-use Rattle.mls_iface.specs.declared.signature.SigEntry.{SigEntry}
 use Rattle.mls_iface.specs.declared.signature.Signature.{Signature}
 use Rattle.mls_iface.specs.Interfaces.{HasInterfaceFault}
 use Rattle.mls_term.specs.declared.term.ResolvedBinding.{ResolvedBinding}
 use Rattle.mls_typetext.specs.declared.scheme.ReadScheme.{ReadScheme}
 use Rattle.mls_typetext.specs.Schemes.{environment}
-use Rattle.mls_deriv.specs.declared.derivation.Derivation.{Derivation}
 use Rattle.mls_deriv.specs.declared.derivation.Section.{Section}
 use Rattle.mls_deriv.specs.BadLines.{IsFirstBadLine}
-use Rattle.mls_deriv.specs.Laws.{AreDerivable}
 use Rattle.mls_deriv.specs.Sections.{schemes_of}
-use Rattle.mls_deriv.specs.Texts.{IsTextOf}
-use Rattle.mls_emit.specs.Derived.{AreDerivations}
 use Rattle.mls_modules.specs.Environments.{declared_schemes}
 use Rattle.mls_modules.specs.declared.fault.ModuleFault.{ModuleFault}
 use Rattle.mls_modules.specs.declared.fault.ModuleFault.TheVariants.{Memory as WantOfMemory}
@@ -128,24 +123,6 @@ pub record TellsComparison (x : List ℕ) (s : Signature) (i : Interface) (answe
   pub outcome : Outcome
   pub compares : Compares x s i outcome
   pub tells : TellsOutcome x outcome answer
-
--- the section has the name and the text of the entry
-abbrev pub IsSectionFor : Section → SigEntry → Type 0
-IsSectionFor section entry = (section.name ≡ entry.name) × (section.text ≡ entry.text)
-
--- the sections have the names and the texts of the entries, in order
-abbrev pub AreSectionsFor : List Section → List SigEntry → Type 0
-AreSectionsFor sections entries =
-    (map (λ (s : Section). s.name) sections ≡ map (λ (e : SigEntry). e.name) entries)
-    × (map (λ (s : Section). s.text) sections ≡ map (λ (e : SigEntry). e.text) entries)
-
--- the text is that of a derivation of the types of these entries, each step of which is allowed
-pub record IsAllowedText (known : List ReadScheme) (bindings : List ResolvedBinding) (entries : List SigEntry)
-    (text : List ℕ) : Type 0 where
-  pub d : Derivation
-  pub text_of : IsTextOf text d
-  pub derives : AreDerivations known bindings entries d.sections
-  pub derivable : AreDerivable known bindings d.sections
 
 -- the refusal is that of a derivation with this text for its first bad line
 abbrev pub IsForBadLine : (file text : List ℕ) → Refusal → Type 0
