@@ -1,12 +1,12 @@
 -- Once a round splits no class, the classes are those of alike states.
-use Rattle.std.proofs.Common.{◌≡◌, ◌<◌, ℕ, List, ◌∙◌, sym, ap, length}
+use Rattle.std.proofs.Common.{◌≡◌, ◌<◌, ℕ, List, [], ◌∙◌, refl, sym, ap, subst, length}
 use Rattle.std.specs.Prelude.{◌↔◌}
 use Rattle.mls_automaton.specs.Automata.{Automaton}
 use Rattle.mls_automaton.specs.Models.{IsClosed}
 use Rattle.mls_shape.specs.declared.classes.Classes.{Classes}
 use Rattle.mls_shape.specs.Alike.{IsAlike}
-use Rattle.mls_shape.specs.steps.Classes.{class_in, AreClassesBy, AreClasses, LookAlike}
-use Rattle.mls_shape.proofs.AlikeStates.{partition_classes, refined_keeps}
+use Rattle.mls_shape.specs.steps.Classes.{class_in, AreApart, AreClassesBy, AreClasses, LookAlike}
+use Rattle.mls_shape.proofs.AlikeStates.{alike-refl, partition_classes, refined_keeps}
 
 module _ (a : Automaton) (closed : IsClosed a) (classes : List ℕ) (finer : Classes) (fine : AreClassesBy a (LookAlike a classes) finer)
     (keeps : (x y : ℕ) → x < length a.states → y < length a.states → IsAlike a x y → class_in classes x ≡ class_in classes y) where
@@ -31,3 +31,18 @@ module _ (a : Automaton) (closed : IsClosed a) (classes : List ℕ) (finer : Cla
         (λ alike. one i ∙ ((stable i j low low').1 alike ∙ sym (one j))),
       );
     }
+
+-- Where each state has a class of its own by what it shows alone, the classes are those of alike states.
+pub apart : (a : Automaton) (closed : IsClosed a) (first : Classes) → AreClassesBy a (LookAlike a []) first → AreApart first.numbers.items → AreClasses a first
+apart a closed first is own = record {
+  size = is.size;
+  low = is.low;
+  chosen = is.chosen;
+  classes = λ i j low low'. (
+    (λ equal. subst (IsAlike a i) (sym (own_number i low) ∙ (equal ∙ own_number j low')) (alike-refl a i)),
+    (λ alike. finer_keeps a closed [] first is (λ x y one two it. refl) i j low low' alike),
+  );
+}
+  where
+    own_number : (s : ℕ) → s < length a.states → class_in first.numbers.items s ≡ s
+    own_number s low = own s (subst (λ n. s < n) (sym is.size) low)

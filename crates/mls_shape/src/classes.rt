@@ -1,8 +1,8 @@
 //! Classes of alike states, by rounds: two states stay together where they look alike by the classes so far.
-ghost use Rattle.std.specs.Prelude.{◌≡◌, ◌<◌, ◌++◌, ◌∷◌, length, IfOk, OnOk};
+ghost use Rattle.std.specs.Prelude.{◌≡◌, ◌<◌, ◌++◌, ◌∷◌, [], length, IfOk, IsTrue, OnOk};
 ghost use Rattle.std.specs.List.{flat_map};
 ghost use Rattle.mls_automaton.specs.Models.{IsClosed, IsDeterministic};
-ghost use Rattle.mls_shape.specs.steps.Classes.{AreClasses, AreClassesBy, IsKeyOf, KeepsAlike, LookAlike};
+ghost use Rattle.mls_shape.specs.steps.Classes.{AreApart, AreClasses, AreClassesBy, IsKeyOf, KeepsAlike, LookAlike};
 ghost use Rattle.mls_shape.specs.steps.Classes.{bit_code, class_in, field_code, function_code, head_code};
 ghost use Rattle.mls_shape.specs.steps.Classes.{one_of, record_code};
 
@@ -23,8 +23,9 @@ pub struct Classes {
     pub chosen: Vec<usize>,
 }
 
-/// The classes of alike states. The rounds begin with the blocks of a refinement, so that there are few of them. Each
-/// takes time linear in heads and edges, with the binary digits of the number of states.
+/// The classes of alike states. Where all states differ by what each of them shows alone, these are the classes. Else
+/// rounds begin with the blocks of a refinement, so that there are few of them. Each takes time linear in heads and
+/// edges, with the binary digits of the number of states.
 ///
 /// # Errors
 ///
@@ -34,7 +35,12 @@ pub fn classes_of(alloc: Global, a: &Automaton) -> Result<Classes, Memory>
     requires deterministic { IsDeterministic a.now }
     ensures { IfOk result (AreClasses a.now) }
 {
-    let mut classes = parted(alloc, a)?;
+    let none = Vec::new(alloc);
+    let first = refined(alloc, a, none.as_slice())?;
+    if are_apart(first.numbers.as_slice()) {
+        return Ok(first);
+    }
+    let mut classes = parted(alloc, a, &first)?;
     for _ in 0..usize::MAX {
         let finer = refined(alloc, a, classes.as_slice())?;
         if finer.numbers.as_slice() == classes.as_slice() {
@@ -46,14 +52,26 @@ pub fn classes_of(alloc: Global, a: &Automaton) -> Result<Classes, Memory>
     Err(Memory)
 }
 
-// Classes by a refinement that splits off the smaller part of each block. Alike states are together.
-fn parted(alloc: Global, a: &Automaton) -> Result<Vec<usize>, Memory>
+// Whether each state has a class of its own, in order.
+fn are_apart(classes: &[usize]) -> bool
+    ensures { IsTrue result → AreApart classes.now }
+{
+    for s in 0..classes.len() {
+        if classes[s] != s {
+            return false;
+        }
+    }
+    true
+}
+
+// Classes by a refinement that begins with these and splits off the smaller part of each block. Alike states are
+// together.
+fn parted(alloc: Global, a: &Automaton, first: &Classes) -> Result<Vec<usize>, Memory>
     requires closed { IsClosed a.now }
     requires deterministic { IsDeterministic a.now }
+    requires first { AreClassesBy a.now (LookAlike a.now []) first.now }
     ensures { IfOk result (λ classes. KeepsAlike a.now classes.items) }
 {
-    let none = Vec::new(alloc);
-    let first = refined(alloc, a, none.as_slice())?;
     let edges = edges_of(alloc, a)?;
     let parents = parents_of(alloc, a.len(), edges.as_slice())?;
     let count = first.chosen.len();
@@ -83,7 +101,9 @@ fn key_of(alloc: Global, a: &Automaton, classes: &[usize], s: StateId) -> Result
     ensures { IfOk result (IsKeyOf a.now (class_in classes.now) s.0) }
 {
     let partners = a.partners(s);
-    let mut numbers = vec![in alloc; sign(a.polarity(s))]?;
+    // The key of a function with one edge has so many numbers.
+    let mut numbers = Vec::with_capacity(alloc, 8)?;
+    numbers.push(sign(a.polarity(s)))?;
     numbers.push(partners.len())?;
     numbers.extend_from_slice(partners.as_slice())?;
     add_head(&mut numbers, classes, a.head(s))?;

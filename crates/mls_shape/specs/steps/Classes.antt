@@ -103,3 +103,7 @@ AreClasses a = AreClassesBy a (IsAlike a)
 abbrev pub KeepsAlike : Automaton → List ℕ → Type 0
 KeepsAlike a classes = (x y : ℕ) → x < length a.states → y < length a.states → IsAlike a x y
     → class_in classes x ≡ class_in classes y
+
+-- each state has its own number as its class
+abbrev pub AreApart : List ℕ → Type 0
+AreApart classes = (s : ℕ) → s < length classes → class_in classes s ≡ s
