@@ -1,5 +1,5 @@
 -- Once a round splits no class, the classes are those of alike states.
-use Rattle.std.proofs.Common.{◌≡◌, ◌<◌, ℕ, List, [], ◌∙◌, refl, sym, ap, subst, length}
+use Rattle.std.proofs.Common.{◌≡◌, ◌<◌, ℕ, List, ◌∙◌, sym, ap, subst, length}
 use Rattle.std.specs.Prelude.{◌↔◌}
 use Rattle.mls_automaton.specs.Automata.{Automaton}
 use Rattle.mls_automaton.specs.Models.{IsClosed}
@@ -32,17 +32,18 @@ module _ (a : Automaton) (closed : IsClosed a) (classes : List ℕ) (finer : Cla
       );
     }
 
--- Where each state has a class of its own by what it shows alone, the classes are those of alike states.
-pub apart : (a : Automaton) (closed : IsClosed a) (first : Classes) → AreClassesBy a (LookAlike a []) first → AreApart first.numbers.items → AreClasses a first
-apart a closed first is own = record {
-  size = is.size;
-  low = is.low;
-  chosen = is.chosen;
-  classes = λ i j low low'. (
-    (λ equal. subst (IsAlike a i) (sym (own_number i low) ∙ (equal ∙ own_number j low')) (alike-refl a i)),
-    (λ alike. finer_keeps a closed [] first is (λ x y one two it. refl) i j low low' alike),
-  );
-}
-  where
-    own_number : (s : ℕ) → s < length a.states → class_in first.numbers.items s ≡ s
-    own_number s low = own s (subst (λ n. s < n) (sym is.size) low)
+  -- Where each state has a class of its own, the classes are those of alike states.
+  module _ (apart : AreApart finer.numbers.items) where
+    own_number : (s : ℕ) → s < length a.states → class_in finer.numbers.items s ≡ s
+    own_number s low = apart s (subst (λ n. s < n) (sym fine.size) low)
+
+    pub settled_apart : AreClasses a finer
+    settled_apart = record {
+      size = fine.size;
+      low = fine.low;
+      chosen = fine.chosen;
+      classes = λ i j low low'. (
+        (λ equal. subst (IsAlike a i) (sym (own_number i low) ∙ (equal ∙ own_number j low')) (alike-refl a i)),
+        finer_keeps i j low low',
+      );
+    }

@@ -23,9 +23,12 @@ pub struct Classes {
     pub chosen: Vec<usize>,
 }
 
-/// The classes of alike states. Where all states differ by what each of them shows alone, these are the classes. Else
-/// rounds begin with the blocks of a refinement, so that there are few of them. Each takes time linear in heads and
-/// edges, with the binary digits of the number of states.
+/// Up to so many states, rounds alone are quicker than a refinement before them.
+const SMALL: usize = 16;
+
+/// The classes of alike states, by rounds. Where there are many states, the rounds begin with the blocks of a refinement,
+/// so that there are few of them. Each takes time linear in heads and edges, with the binary digits of the number of
+/// states.
 ///
 /// # Errors
 ///
@@ -35,14 +38,27 @@ pub fn classes_of(alloc: Global, a: &Automaton) -> Result<Classes, Memory>
     requires deterministic { IsDeterministic a.now }
     ensures { IfOk result (AreClasses a.now) }
 {
-    let none = Vec::new(alloc);
-    let first = refined(alloc, a, none.as_slice())?;
-    if are_apart(first.numbers.as_slice()) {
-        return Ok(first);
+    if a.len() <= SMALL {
+        return by_rounds(alloc, a, Vec::new(alloc));
     }
-    let mut classes = parted(alloc, a, &first)?;
+    let first = parted(alloc, a)?;
+    by_rounds(alloc, a, first)
+}
+
+// The classes of alike states, by rounds behind these classes. They end where each state has a class of its own, or no
+// class was split.
+fn by_rounds(alloc: Global, a: &Automaton, first: Vec<usize>) -> Result<Classes, Memory>
+    requires closed { IsClosed a.now }
+    requires deterministic { IsDeterministic a.now }
+    requires first { KeepsAlike a.now first.items }
+    ensures { IfOk result (AreClasses a.now) }
+{
+    let mut classes = first;
     for _ in 0..usize::MAX {
         let finer = refined(alloc, a, classes.as_slice())?;
+        if are_apart(finer.numbers.as_slice()) {
+            return Ok(finer);
+        }
         if finer.numbers.as_slice() == classes.as_slice() {
             return Ok(finer);
         }
@@ -64,14 +80,14 @@ fn are_apart(classes: &[usize]) -> bool
     true
 }
 
-// Classes by a refinement that begins with these and splits off the smaller part of each block. Alike states are
-// together.
-fn parted(alloc: Global, a: &Automaton, first: &Classes) -> Result<Vec<usize>, Memory>
+// Classes by a refinement that splits off the smaller part of each block. Alike states are together.
+fn parted(alloc: Global, a: &Automaton) -> Result<Vec<usize>, Memory>
     requires closed { IsClosed a.now }
     requires deterministic { IsDeterministic a.now }
-    requires first { AreClassesBy a.now (LookAlike a.now []) first.now }
     ensures { IfOk result (λ classes. KeepsAlike a.now classes.items) }
 {
+    let none = Vec::new(alloc);
+    let first = refined(alloc, a, none.as_slice())?;
     let edges = edges_of(alloc, a)?;
     let parents = parents_of(alloc, a.len(), edges.as_slice())?;
     let count = first.chosen.len();

@@ -182,3 +182,28 @@ fn other_states_stay_apart(rt: HostRuntime) -> Result<(), Fail> {
     }
     Ok(())
 }
+
+// A chain of records, each of which names the next state, and these states behind it.
+fn chain(alloc: Global, records: usize, behind: &str) -> Result<String, Memory> {
+    let mut text = String::new(alloc);
+    for s in 0..records {
+        text.push_str("+{n:")?;
+        text.push_str(s.saturating_add(1).to_string(alloc)?.as_str())?;
+        text.push_str("} ")?;
+    }
+    text.push_str(behind)?;
+    Ok(text)
+}
+
+// More states than rounds alone are meant for: a ring, and a chain whose states are told apart from its end.
+#[test]
+fn many_states_are_refined(rt: HostRuntime) -> Result<(), Fail> {
+    let alloc = rt.alloc();
+    let ring = chain(alloc, 20, "+{n:0} *0")?;
+    let found = minimise(alloc, &single(&rt, alloc, ring.as_str())?)?;
+    assert_eq!(rt; show_scheme(alloc, &found)?.as_str(), "+{n:0} *0");
+    let apart = chain(alloc, 20, "+i *0")?;
+    let found = minimise(alloc, &single(&rt, alloc, apart.as_str())?)?;
+    assert_eq!(rt; show_scheme(alloc, &found)?.as_str(), apart.as_str());
+    Ok(())
+}

@@ -1,30 +1,6 @@
-use Rattle.std.proofs.Common.{◌≡◌, ◌∙◌, List, rules, subst, ℕ}
-use Rattle.mls_shape.specs.steps.Classes.{AreApart, AreClassesBy, LookAlike}
-use Rattle.mls_shape.proofs.Settled.{apart, finer_keeps, settled}
+use Rattle.std.proofs.Common.{[], List, ℕ, refl, subst, sym}
+use Rattle.mls_shape.specs.steps.Classes.{KeepsAlike}
 use Rattle.mls_shape.proofs.classes.classes_of.Goals as goal
 
-pub returns-then-are_apart : goal.returns-then-are_apart
-returns-then-are_apart c =
-    apart c.args.a.now c.requires.closed c.in_ok-first.first
-    (subst (λ (xs : List ℕ). AreClassesBy c.args.a.now (LookAlike c.args.a.now xs) c.in_ok-first.first) (c.as_slice.ensures.value ∙ c.new-none.ensures.items) c.in_ok-first.ensures)
-    (subst AreApart c.as_slice-2.ensures.value (c.are_apart.ensures c.if-are_apart.true))
-
-pub parted-requires-clause-first : goal.parted-requires-clause-first
-parted-requires-clause-first c =
-    subst (λ (xs : List ℕ). AreClassesBy c.args.a.now (LookAlike c.args.a.now xs) c.in_ok-first.first) (c.as_slice.ensures.value ∙ c.new-none.ensures.items) c.in_ok-first.ensures
-
-pub loop-init : goal.loop-init
-loop-init c = c.in_ok-classes.ensures
-
-pub loop-preserved : goal.loop-preserved
-loop-preserved c =
-    finer_keeps c.args.a.now c.requires.closed c.loop.classes.items c.in_ok-finer.finer
-    (subst (λ (xs : List ℕ). AreClassesBy c.args.a.now (LookAlike c.args.a.now xs) c.in_ok-finer.finer) c.as_slice-in-loop.ensures.value c.in_ok-finer.ensures)
-    c.loop.invariant
-
-pub returns-then-eq : goal.returns-then-eq
-returns-then-eq c =
-    let same : c.in_ok-finer.finer.numbers.items ≡ c.loop.classes.items = search rules in
-    settled c.args.a.now c.requires.closed c.loop.classes.items c.in_ok-finer.finer
-    (subst (λ (xs : List ℕ). AreClassesBy c.args.a.now (LookAlike c.args.a.now xs) c.in_ok-finer.finer) c.as_slice-in-loop.ensures.value c.in_ok-finer.ensures)
-    c.loop.invariant same
+pub by_rounds-requires-clause-first : goal.by_rounds-requires-clause-first
+by_rounds-requires-clause-first c = subst (λ (xs : List ℕ). KeepsAlike c.args.a.now xs) (sym c.new.ensures.items) (λ x y low low' alike. refl)

@@ -1,5 +1,5 @@
 use Rattle.mls_shape.specs.steps.Classes.{KeepsAlike}
-use Rattle.mls_shape.proofs.classes.classes_of.Given as goal
+use Rattle.mls_shape.proofs.classes.by_rounds.Given as goal
 
 -- alike states are in one class
 abbrev pub invariant-loop : goal.invariant-loop
