@@ -1,12 +1,14 @@
 -- The atoms of a node are found one after another.
 --     look-seen, look-new     the next node
 --     looked                  in the end
+--     atom-alone              a node that is an atom itself
 use Rattle.std.proofs.Common.{◌≡◌, ◌⊎◌, inl, inr, ℕ, zero, suc, ◌+◌, ◌-◌, ◌<◌, ◌≤◌, List, [], ◌∷◌, ◌++◌, refl, sym, ap, ◌∙◌, subst, arith, length, get_or, All, Contains}
 use Rattle.std.proofs.lemmas.List.{length-append}
 use Rattle.std.proofs.lemmas.List.Elements.{All-append, All-contains, Contains-append_cases, Contains-append_left, Contains-append_right}
 use Rattle.mls_book.specs.declared.book.Node.{Node}
 use Rattle.mls_book.specs.declared.book.Node.TheVariants as node
 use Rattle.mls_book.specs.Books.{node_at, IsBook, IsOrdered}
+use Rattle.mls_automaton.specs.Heads.{IsSameSet}
 use Rattle.mls_automaton.proofs.Lists.{All-contained, All-one, Contains-cases, Contains-here, Contains-later}
 use Rattle.mls_scheme.specs.ReadAutomata.{atoms, atoms_below, atoms_step}
 use Rattle.mls_scheme.specs.steps.Layers.{atom_step, atoms_left, left_step, measure, AreAtoms, AreDifferent, IsLooking}
@@ -419,3 +421,21 @@ module _ (nodes : List Node) (is : IsBook nodes) where
   pub found-low : (i : ℕ) (found : List ℕ) → i < length nodes → AreAtoms nodes i found → All (λ j. j < length nodes) found
   found-low i found low are =
       All-contained (λ j. j < length nodes) found (λ j it. All-contains (λ j. j < length nodes) (atoms nodes i) j (atoms-low i low) (are.same.0 j it))
+
+-- an atom alone
+pub atom-alone : (nodes : List Node) (top : ℕ) → ((i : ℕ) → atom_step i (node_at nodes top) ≡ i ∷ []) → AreAtoms nodes top (top ∷ [])
+atom-alone nodes top alone = record {
+  same = subst (λ (xs : List ℕ). IsSameSet (top ∷ []) xs) (sym (only (node_at nodes top) (alone top))) (λ s it. it, λ s it. it);
+  once = (λ it. empty top it, tt);
+}
+  where
+    only : (x : Node) → atom_step top x ≡ top ∷ [] → atoms_step (atoms_below nodes top) top x ≡ top ∷ []
+    only node.Bot e = refl
+    only node.Top e = refl
+    only (node.Var x) e = refl
+    only node.Bool e = refl
+    only node.Int e = refl
+    only (node.Arrow j k) e = refl
+    only (node.Rcd fields) e = refl
+    only (node.Join j k) e = absurd (cc)
+    only (node.Meet j k) e = absurd (cc)

@@ -18,7 +18,7 @@ use Rattle.mls_scheme.specs.ReadAutomata.{HasVariable}
 use Rattle.mls_scheme.specs.steps.Layers.{AreAtoms}
 use Rattle.mls_scheme.specs.steps.Signs.{sign_at}
 use Rattle.mls_scheme.specs.steps.States.{AreNodeStates, IsNodeState}
-use Rattle.mls_scheme.specs.steps.Uses.{uses_at, AddsUses, AreUses, AreUsesTo, IsAmong, IsEdge, IsUsedPair}
+use Rattle.mls_scheme.specs.steps.Uses.{uses_at, AddsUses, AreUses, AreUsesTo, AreVariablesBelow, IsAmong, IsEdge, IsUsedPair}
 
 no_member : (x : ℕ) → Contains [] x → ⊥
 no_member x it = let low : it.0 < 0 = it.1 in omega arith
@@ -287,3 +287,20 @@ edges-are nodes signs vars a new negative positive states are_negative are_posit
         let there : Contains [] (flow n p) = subst (λ (fs : List Flow). Contains fs (flow n p)) states.no_flows it in
         let low : there.0 < 0 = there.1 in
         omega arith
+
+-- without variables there is no edge
+pub edges-none : (nodes : List Node) (signs : List (Option Polarity)) (vars : ℕ) (a : Automaton) → vars ≡ 0 → AreVariablesBelow vars nodes → AreNodeStates nodes signs a → (n p : ℕ) → HasFlow a n p ↔ IsEdge nodes signs n p
+edges-none nodes signs vars a none below states n p = (
+  λ edge. absurd (no_flow (flow n p) (subst (λ (es : List Flow). Contains es (flow n p)) states.no_flows edge)),
+  λ edge. absurd (no_variable edge.2.0 edge.2.1.0 edge.2.1.2),
+)
+  where
+    no_flow : (e : Flow) → Contains [] e → ⊥
+    no_flow e it = let low : it.0 < 0 = it.1 in omega arith
+
+    no_variable : (x j : ℕ) → node_at nodes j ≡ node.Var x → ⊥
+    no_variable x j is = go (below_or_more j (length nodes))
+      where
+        go : (j < length nodes) ⊎ ((k : ℕ) × (j ≡ length nodes + k)) → ⊥
+        go (inl low) = let under : x < vars = below j x low is in omega (arith, none)
+        go (inr (k, more)) = let past : node_at nodes j ≡ node.Bot = get_or_past nodes j node.Bot (omega (arith, more)) in absurd (cc)

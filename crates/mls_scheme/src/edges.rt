@@ -70,6 +70,9 @@ pub fn edges_of(
     ensures states { automaton.new.states ≡ automaton.old.states }
     ensures flows { OnOk result ((n p : _) → HasFlow automaton.new n p ↔ IsEdge book.now signs.now n p) }
 {
+    if vars == 0 {
+        return Ok(());
+    }
     let negative = uses_of(alloc, book, signs, Polarity::Negative, vars)?;
     let positive = uses_of(alloc, book, signs, Polarity::Positive, vars)?;
     add_edges(automaton, negative.as_slice(), positive.as_slice())?;

@@ -1,5 +1,5 @@
 //! The layers of a book: what lies between constructors.
-ghost use Rattle.std.specs.Prelude.{◌≡◌, ◌<◌, ◌++◌, ◌∷◌, [], length, IfOk, OnOk};
+ghost use Rattle.std.specs.Prelude.{◌≡◌, ℕ, ◌<◌, ◌++◌, ◌∷◌, [], length, IfOk, IsTrue, OnOk};
 ghost use Rattle.mls_book.specs.Books.{IsClosedBook};
 ghost use Rattle.mls_scheme.specs.steps.Layers.{atom_step, left_step, AreAtoms};
 
@@ -36,6 +36,17 @@ fn push_both(left: &mut Vec<usize>, first: NodeId, second: NodeId) -> Result<(),
     Ok(())
 }
 
+// Whether a node is no join and no meet.
+fn is_atom(node: &Node) -> bool
+    ensures { IsTrue result → (i : ℕ) → atom_step i node.now ≡ i ∷ [] }
+{
+    match node {
+        Node::Join(_, _) => false,
+        Node::Meet(_, _) => false,
+        _ => true,
+    }
+}
+
 /// The atoms of a node, each once: those that are no join and no meet, which it reaches through joins and meets alone.
 /// It takes no recursion, and looks at each node of the layer once.
 ///
@@ -54,6 +65,10 @@ pub fn atoms_of(
     ensures limit { visits.new.limit ≡ visits.old.limit }
     ensures atoms { IfOk result (λ found. AreAtoms book.now top found.items) }
 {
+    if is_atom(book.node(NodeId(top))) {
+        let alone = vec![in alloc; top]?;
+        return Ok(alone);
+    }
     visits.restart();
     let mut found = Vec::new(alloc);
     let mut left = vec![in alloc; top]?;

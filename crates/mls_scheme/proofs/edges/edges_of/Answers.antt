@@ -1,7 +1,7 @@
 use Rattle.std.proofs.Common.{List, ℕ, sym, subst}
 use Rattle.mls_automaton.specs.declared.automaton.Polarity.TheVariants.{Positive, Negative}
 use Rattle.mls_scheme.specs.steps.Uses.{AreUses}
-use Rattle.mls_scheme.proofs.UsedVariables.{edges-are, uses-states}
+use Rattle.mls_scheme.proofs.UsedVariables.{edges-are, edges-none, uses-states}
 use Rattle.mls_scheme.proofs.edges.edges_of.Goals as goal
 
 pub add_edges-requires-clause-negative : goal.add_edges-requires-clause-negative
@@ -20,3 +20,6 @@ returns-clause-flows c =
     (subst (λ (uses : List (List ℕ)). AreUses c.args.book.now c.args.signs.now Negative c.args.vars uses) (sym c.as_slice.ensures.value) c.in_ok-negative.ensures)
     (subst (λ (uses : List (List ℕ)). AreUses c.args.book.now c.args.signs.now Positive c.args.vars uses) (sym c.as_slice-2.ensures.value) c.in_ok-positive.ensures)
     c.in_ok-add_edges.ensures.flows
+
+pub returns-then-vars-eq0-clause-flows : goal.returns-then-vars-eq0-clause-flows
+returns-then-vars-eq0-clause-flows c = edges-none c.args.book.now c.args.signs.now c.args.vars c.args.automaton.now c.if-vars-eq0.true c.requires.variables c.requires.states
