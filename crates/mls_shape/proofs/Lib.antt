@@ -16,6 +16,7 @@ pub mod Partitions
 pub mod Refining
 pub mod Graphs
 pub mod Settled
+pub mod FromLast
 pub mod ClassedSchemes
 pub mod Spreading
 pub mod Determinising

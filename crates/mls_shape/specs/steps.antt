@@ -8,3 +8,4 @@ pub mod Classes
 pub mod Classed
 pub mod Partitions
 pub mod Graphs
+pub mod Upwards

@@ -5,11 +5,13 @@ ghost use Rattle.mls_automaton.specs.Models.{IsClosed, IsDeterministic};
 ghost use Rattle.mls_shape.specs.steps.Classes.{AreApart, AreClasses, AreClassesBy, IsKeyOf, KeepsAlike, LookAlike};
 ghost use Rattle.mls_shape.specs.steps.Classes.{bit_code, class_in, field_code, function_code, head_code};
 ghost use Rattle.mls_shape.specs.steps.Classes.{one_of, record_code};
+ghost use Rattle.mls_shape.specs.steps.Upwards.{AreCounted};
 
 use crate::graph::{colours_of, edges_of, parents_of};
 use crate::key::{Key, sign};
 use crate::numbering::Numbering;
 use crate::partition::Partition;
+use crate::upwards::{in_order, upwards};
 use mls_automaton::automaton::{Arms, Automaton, FieldSet, FieldSets, Head};
 use mls_automaton::state_set::{StateId, StateSet};
 use mls_base::memory::Memory;
@@ -26,9 +28,9 @@ pub struct Classes {
 /// Up to so many states, rounds alone are quicker than a refinement before them.
 const SMALL: usize = 16;
 
-/// The classes of alike states, by rounds. Where there are many states, the rounds begin with the blocks of a refinement,
-/// so that there are few of them. Each takes time linear in heads and edges, with the binary digits of the number of
-/// states.
+/// The classes of alike states. Where heads name later states alone, one look at each state from the last one on tells
+/// them. Otherwise rounds do, which begin with the blocks of a refinement where there are many states, so that there
+/// are few of them. Each takes time linear in heads and edges, with the binary digits of the number of states.
 ///
 /// # Errors
 ///
@@ -38,11 +40,44 @@ pub fn classes_of(alloc: Global, a: &Automaton) -> Result<Classes, Memory>
     requires deterministic { IsDeterministic a.now }
     ensures { IfOk result (AreClasses a.now) }
 {
-    if a.len() <= SMALL {
-        return by_rounds(alloc, a, Vec::new(alloc));
+    let first = first_classes(alloc, a)?;
+    if first.len() == a.len() && are_apart(first.as_slice()) {
+        let chosen = counted(alloc, a.len())?;
+        return Ok(Classes {
+            numbers: first,
+            chosen,
+        });
     }
-    let first = parted(alloc, a)?;
     by_rounds(alloc, a, first)
+}
+
+// Classes to begin with, in the order of their states. Alike states are together.
+fn first_classes(alloc: Global, a: &Automaton) -> Result<Vec<usize>, Memory>
+    requires closed { IsClosed a.now }
+    requires deterministic { IsDeterministic a.now }
+    ensures { IfOk result (λ classes. KeepsAlike a.now classes.items) }
+{
+    if let Some(found) = upwards(alloc, a)? {
+        let first = in_order(alloc, found.as_slice(), a.len())?;
+        return Ok(first);
+    }
+    if a.len() <= SMALL {
+        return Ok(Vec::new(alloc));
+    }
+    let found = parted(alloc, a)?;
+    let first = in_order(alloc, found.as_slice(), a.len())?;
+    Ok(first)
+}
+
+// The numbers from 0 on, so many.
+fn counted(alloc: Global, count: usize) -> Result<Vec<usize>, Memory>
+    ensures { IfOk result (λ numbers. AreCounted count numbers.items) }
+{
+    let mut numbers = Vec::with_capacity(alloc, count)?;
+    for number in 0..count {
+        numbers.push(number)?;
+    }
+    Ok(numbers)
 }
 
 // The classes of alike states, by rounds behind these classes. They end where each state has a class of its own, or no
@@ -111,8 +146,17 @@ fn refined(alloc: Global, a: &Automaton, classes: &[usize]) -> Result<Classes, M
     Ok(numbering.classes)
 }
 
-// The key of a state.
-fn key_of(alloc: Global, a: &Automaton, classes: &[usize], s: StateId) -> Result<Key, Memory>
+/// The key of a state.
+///
+/// # Errors
+///
+/// `Memory` where memory is wanting.
+pub(crate) fn key_of(
+    alloc: Global,
+    a: &Automaton,
+    classes: &[usize],
+    s: StateId,
+) -> Result<Key, Memory>
     requires { s.0 < length a.now.states }
     ensures { IfOk result (IsKeyOf a.now (class_in classes.now) s.0) }
 {

@@ -21,3 +21,4 @@ pub mod simplify;
 mod states;
 #[cfg(test)]
 mod tests;
+mod upwards;

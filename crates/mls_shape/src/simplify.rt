@@ -11,8 +11,8 @@ use mls_base::memory::Memory;
 use std::alloc::Global;
 
 /// The simplified scheme: deterministic, over the states alone that heads reach from its root and its binders, no two
-/// of which are alike, and without redundant edges. It is made by `determinise`, `drop_redundant_flows`, `minimise` and
-/// `keep_reachable`, in this order.
+/// of which are alike, and without redundant edges. It is made by `determinise`, `drop_redundant_flows` and `minimise`,
+/// in this order. Heads reach each of its states then, so `keep_reachable` would leave it as it is.
 ///
 /// # Errors
 ///
@@ -28,6 +28,5 @@ pub fn simplify(alloc: Global, s: &Scheme) -> Result<Scheme, Memory>
     let deterministic = determinise(alloc, s)?;
     let dropped = drop_redundant_flows(alloc, &deterministic)?;
     let minimal = minimise(alloc, &dropped)?;
-    let simple = minimal.keep_reachable()?;
-    Ok(simple)
+    Ok(minimal)
 }

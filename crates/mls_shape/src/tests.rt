@@ -195,15 +195,18 @@ fn chain(alloc: Global, records: usize, behind: &str) -> Result<String, Memory> 
     Ok(text)
 }
 
-// More states than rounds alone are meant for: a ring, and a chain whose states are told apart from its end.
+// More states than rounds alone are meant for: rings, of states that are alike and that one tells apart, and a chain
+// whose states are told apart from its end.
 #[test]
 fn many_states_are_refined(rt: HostRuntime) -> Result<(), Fail> {
     let alloc = rt.alloc();
     let ring = chain(alloc, 20, "+{n:0} *0")?;
     let found = minimise(alloc, &single(&rt, alloc, ring.as_str())?)?;
     assert_eq!(rt; show_scheme(alloc, &found)?.as_str(), "+{n:0} *0");
-    let apart = chain(alloc, 20, "+i *0")?;
-    let found = minimise(alloc, &single(&rt, alloc, apart.as_str())?)?;
-    assert_eq!(rt; show_scheme(alloc, &found)?.as_str(), apart.as_str());
+    for behind in ["+i *0", "+i{n:0} *0"] {
+        let apart = chain(alloc, 20, behind)?;
+        let found = minimise(alloc, &single(&rt, alloc, apart.as_str())?)?;
+        assert_eq!(rt; show_scheme(alloc, &found)?.as_str(), apart.as_str());
+    }
     Ok(())
 }

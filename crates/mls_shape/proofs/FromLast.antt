@@ -1,0 +1,256 @@
+-- States whose heads name later states alone get their classes from the last one to the first.
+--     knows_new                      a key that was not there
+--     counted_more, ordered_more     one number after another
+--     upwards_none, upwards_more     one state after another
+--     upwards_keep                   alike states are together
+--     joined_keep                    and stay so with other numbers
+--     own_classes                    where each state has a class of its own, the classes are those of alike states
+use Rattle.std.proofs.Common.{◌≡◌, ◌⊎◌, inl, inr, ℕ, zero, suc, ◌+◌, ◌<◌, ◌≤◌, Bool, true, false, List, [], ◌∷◌, ◌++◌, refl, sym, ap, ◌∙◌, subst, arith, length, All, Some, None}
+use Rattle.std.specs.Prelude.{Option, cond, set}
+use Rattle.std.specs.List.{flat_map}
+use Rattle.std.specs.BTreeMap.{BTreeMap, get, Updates}
+use Rattle.std.specs.FinMap.{nat_cmp-IsAntisymmetric}
+use Rattle.std.specs.Ordering.{nat_cmp, is_eq}
+use Rattle.std.specs.declared.cmp.Ordering.{Ordering}
+use Rattle.std.specs.declared.cmp.Ordering.TheVariants.{Less, Equal, Greater}
+use Rattle.std.specs.Cmp.Lexicographic.{slice_cmp}
+use Rattle.std.proofs.lemmas.Bool.{cases_eq}
+use Rattle.std.proofs.lemmas.List.{get_or-set_same, get_or-set_other, get_or_append_left, length-append, length-set}
+use Rattle.std.proofs.Math.Seq.{get_or-append_seam}
+use Rattle.std.proofs.lemmas.Map.Text.{is_eq-slice_cmp}
+use Rattle.std.proofs.lemmas.Slice.Eq.{bytes_eq-Decides}
+use Rattle.std.proofs.lemmas.List.Elements.{All-head, All-tail}
+use Rattle.mls_automaton.specs.declared.automaton.Polarity.{Polarity}
+use Rattle.mls_automaton.specs.declared.automaton.Arms.{Arms}
+use Rattle.mls_automaton.specs.declared.automaton.FieldSet.{FieldSet}
+use Rattle.mls_automaton.specs.declared.automaton.Head.{Head}
+use Rattle.mls_automaton.specs.Automata.{Automaton, polarity_at, head_at, IsState}
+use Rattle.mls_automaton.specs.Heads.{parts_of}
+use Rattle.mls_automaton.specs.Models.{HasArmsIn, HasFieldsIn, HasStatesIn, HasSingleArms, HasSingleFields, IsClosed, IsDeterministic, IsSingle}
+use Rattle.mls_automaton.proofs.Passing.{states_more}
+use Rattle.mls_automaton.proofs.CombinedStates.{parts_in}
+use Rattle.mls_flow.specs.Admissible.{Holds}
+use Rattle.mls_shape.specs.declared.classes.Classes.{Classes}
+use Rattle.mls_shape.specs.Alike.{AreHeadsAlike, IsAlike, IsAlikeness, IsAlikePair}
+use Rattle.mls_shape.specs.steps.Classes.{class_in, one_of, function_code, field_code, record_code, head_code, bit_code, AreApart, AreClasses, IsKeyOf, KeepsAlike}
+use Rattle.mls_shape.specs.steps.Registers.{sign}
+use Rattle.mls_shape.specs.steps.Upwards.{AreCounted, AreFromLast, AreInOrder, AreJoined, Knows, NamesLater}
+use Rattle.mls_shape.proofs.AlikeStates.{alike-refl}
+use Rattle.mls_shape.proofs.HeadsAlike.{alike-known, alike-more, Known}
+use Rattle.mls_shape.proofs.StateKeys.{key_unique, alike_key}
+
+-- equal keys, and equal classes
+pub key_same : (x y : List ℕ) → is_eq (slice_cmp nat_cmp x y) ≡ true → x ≡ y
+key_same x y e = (bytes_eq-Decides x y).0 (sym (is_eq-slice_cmp x y) ∙ e)
+
+is_equal : (o : Ordering) → is_eq o ≡ true → o ≡ Equal
+is_equal Less e = absurd (cc)
+is_equal Equal e = refl
+is_equal Greater e = absurd (cc)
+
+pub class_same : (x y : ℕ) → is_eq (nat_cmp x y) ≡ true → x ≡ y
+class_same x y e = nat_cmp-IsAntisymmetric x y (is_equal (nat_cmp x y) e)
+
+-- a key that was not there
+pub knows_new : {K : Type 0} (cmp : K → K → Ordering) → ((x y : K) → is_eq (cmp x y) ≡ true → x ≡ y) → (old new : BTreeMap K ℕ) (key : K) (number : ℕ) → get cmp old key ≡ None → Updates cmp old new key (Some number) → Knows cmp key number old new
+knows_new cmp same old new key number absent updates = record {
+  now = updates.1;
+  kept = λ other n e. go other n e (is_eq (cmp key other)) refl (updates.0 other);
+}
+  where
+    go : (other : _) (n : ℕ) → get cmp old other ≡ Some n → (b : Bool) → is_eq (cmp key other) ≡ b → get cmp new other ≡ cond b (Some number) (get cmp old other) → get cmp new other ≡ Some n
+    go other n e true equal is = let none : get cmp old other ≡ None = ap (get cmp old) (sym (same key other equal)) ∙ absent in absurd (cc)
+    go other n e false equal is = is ∙ e
+
+-- the numbers so far
+pub counted_none : AreCounted 0 []
+counted_none = record { size = refl; own = λ k low. absurd (omega arith) }
+
+pub counted_more : (n : ℕ) (xs : List ℕ) → AreCounted n xs → AreCounted (n + 1) (xs ++ n ∷ [])
+counted_more n xs it = record {
+  size = let long : length (xs ++ n ∷ []) ≡ length xs + 1 = length-append xs (n ∷ []) in let size : length xs ≡ n = it.size in omega (arith, long, size);
+  own = λ k low. go k low (cases_eq k n);
+}
+  where
+    go : (k : ℕ) → k < n + 1 → (k ≡ n) ⊎ (k ≡ n → ⊥) → class_in (xs ++ n ∷ []) k ≡ k
+    go k low (inl same) =
+        let at : k ≡ length xs = let size : length xs ≡ n = it.size in omega (arith, same, size) in
+        ap (class_in (xs ++ n ∷ [])) at ∙ (get_or-append_seam xs n [] 0 ∙ sym same)
+    go k low (inr apart) =
+        let inside : k < length xs = let size : length xs ≡ n = it.size in omega (arith, apart, size) in
+        get_or_append_left xs (n ∷ []) 0 k inside ∙ it.own k (omega (arith, apart))
+
+-- numbers in the order of the states
+pub ordered_none : (classes : List ℕ) (numbers : BTreeMap ℕ ℕ) → AreInOrder 0 classes numbers []
+ordered_none classes numbers = record { size = refl; numbered = λ s low. absurd (omega arith) }
+
+pub ordered_more : (k : ℕ) (classes : List ℕ) (numbers numbers' : BTreeMap ℕ ℕ) (ordered : List ℕ) (number : ℕ) → AreInOrder k classes numbers ordered → Knows nat_cmp (class_in classes k) number numbers numbers'
+    → AreInOrder (k + 1) classes numbers' (ordered ++ number ∷ [])
+ordered_more k classes numbers numbers' ordered number it knows = record {
+  size = let long : length (ordered ++ number ∷ []) ≡ length ordered + 1 = length-append ordered (number ∷ []) in let size : length ordered ≡ k = it.size in omega (arith, long, size);
+  numbered = λ s low. go s low (cases_eq s k);
+}
+  where
+    go : (s : ℕ) → s < k + 1 → (s ≡ k) ⊎ (s ≡ k → ⊥) → get nat_cmp numbers' (class_in classes s) ≡ Some (class_in (ordered ++ number ∷ []) s)
+    go s low (inl same) =
+        let at : s ≡ length ordered = let size : length ordered ≡ k = it.size in omega (arith, same, size) in
+        let last : class_in (ordered ++ number ∷ []) s ≡ number = ap (class_in (ordered ++ number ∷ [])) at ∙ get_or-append_seam ordered number [] 0 in
+        ap (λ t. get nat_cmp numbers' (class_in classes t)) same ∙ (knows.now ∙ ap Some (sym last))
+    go s low (inr apart) =
+        let inside : s < length ordered = let size : length ordered ≡ k = it.size in omega (arith, apart, size) in
+        knows.kept (class_in classes s) (class_in ordered s) (it.numbered s (omega (arith, apart))) ∙ ap Some (sym (get_or_append_left ordered (number ∷ []) 0 s inside))
+
+pub ordered_joined : (n : ℕ) (classes : List ℕ) (numbers : BTreeMap ℕ ℕ) (ordered : List ℕ) → AreInOrder n classes numbers ordered → AreJoined n classes ordered
+ordered_joined n classes numbers ordered it = record { size = it.size; same = one }
+  where
+    one : (i j : ℕ) → i < n → j < n → class_in classes i ≡ class_in classes j → class_in ordered i ≡ class_in ordered j
+    one i j low low' equal =
+        let some : Some (class_in ordered i) ≡ Some (class_in ordered j) = sym (it.numbered i low) ∙ (ap (get nat_cmp numbers) equal ∙ it.numbered j low') in
+        cc
+
+-- heads whose states have the same classes have one code
+module _ (f g : ℕ → ℕ) where
+  abbrev Same : ℕ → Type 0
+  Same c = f c ≡ g c
+
+  one_same : (xs : List ℕ) → IsSingle xs → All Same xs → f (one_of xs) ≡ g (one_of xs)
+  one_same xs single all =
+      subst (λ (ys : List ℕ). f (one_of ys) ≡ g (one_of ys)) (sym single.1) (All-head Same single.0 [] (subst (All Same) single.1 all))
+
+  functions_same : (p : Polarity) (o : Option Arms) → HasSingleArms o → HasArmsIn (λ q c. Same c) p o → function_code f o ≡ function_code g o
+  functions_same p None single all = refl
+  functions_same p (Some arms) single all = λ i. 1 ∷ one_same arms.domain single.0 all.0 i ∷ one_same arms.codomain single.1 all.1 i ∷ []
+
+  fields_same : (fs : List FieldSet) → All (λ (x : FieldSet). IsSingle x.set) fs → All (λ (x : FieldSet). All Same x.set) fs → flat_map (field_code f) fs ≡ flat_map (field_code g) fs
+  fields_same [] single all = refl
+  fields_same (x ∷ xs) single all =
+      let first : f (one_of x.set) ≡ g (one_of x.set) = one_same x.set (All-head (λ (x : FieldSet). IsSingle x.set) x xs single) (All-head (λ (x : FieldSet). All Same x.set) x xs all) in
+      let rest : flat_map (field_code f) xs ≡ flat_map (field_code g) xs = fields_same xs (All-tail (λ (x : FieldSet). IsSingle x.set) x xs single) (All-tail (λ (x : FieldSet). All Same x.set) x xs all) in
+      λ i. (length x.label ∷ x.label ++ first i ∷ []) ++ rest i
+
+  records_same : (p : Polarity) (o : Option (List FieldSet)) → HasSingleFields o → HasFieldsIn (λ q c. Same c) p o → record_code f o ≡ record_code g o
+  records_same p None single all = refl
+  records_same p (Some fs) single all = ap (λ (xs : List ℕ). 1 ∷ xs) (fields_same fs single all)
+
+  codes_same : (p : Polarity) (h : Head) → HasSingleArms h.function × HasSingleFields h.fields → HasStatesIn (λ q c. Same c) p h → head_code f h ≡ head_code g h
+  codes_same p h single all = λ i.
+      bit_code h.boolean ∷ bit_code h.integer ∷ functions_same p h.function single.0 all.function i ++ records_same p h.fields single.1 all.fields i
+
+  pub key_moved : (a : Automaton) → IsDeterministic a → (s : ℕ) (key : List ℕ) → HasStatesIn (λ q c. Same c) (polarity_at a s) (head_at a s) → IsKeyOf a f s key → IsKeyOf a g s key
+  key_moved a single s key all it = record {
+    partners = it.partners;
+    rises = it.rises;
+    are = it.are;
+    is = it.is ∙ (λ i. sign (polarity_at a s) ∷ length it.partners ∷ it.partners ++ codes_same (polarity_at a s) (head_at a s) (single s) all i);
+  }
+
+-- what holds of all states that a head names
+states_both : (Q R : ℕ → Type 0) (p : Polarity) (h : Head) → HasStatesIn (λ q c. Q c) p h → HasStatesIn (λ q c. R c) p h → HasStatesIn (λ q c. Q c × R c) p h
+states_both Q R p h one two = record { function = arms h.function one.function two.function; fields = rows h.fields one.fields two.fields }
+  where
+    arms : (o : Option Arms) → HasArmsIn (λ q c. Q c) p o → HasArmsIn (λ q c. R c) p o → HasArmsIn (λ q c. Q c × R c) p o
+    arms None one two = tt
+    arms (Some f) one two = (λ k d low. (one.0 k d low, two.0 k d low), λ k d low. (one.1 k d low, two.1 k d low))
+
+    rows : (o : Option (List FieldSet)) → HasFieldsIn (λ q c. Q c) p o → HasFieldsIn (λ q c. R c) p o → HasFieldsIn (λ q c. Q c × R c) p o
+    rows None one two = tt
+    rows (Some fs) one two = λ k d low i e low'. (one k d low i e low', two k d low i e low')
+
+pub upwards_none : (a : Automaton) (classes : List ℕ) (known : BTreeMap (List ℕ) ℕ) → length classes ≡ length a.states → AreFromLast a 0 classes known
+upwards_none a classes known size = record { size = size; keyed = λ s low there. absurd (omega arith) }
+
+module _ (a : Automaton) (single : IsDeterministic a) (later : NamesLater a) where
+  -- the classes of states behind this one are those before
+  unmoved : (classes : List ℕ) (s class t : ℕ) → s < t → t < length a.states → HasStatesIn (λ q c. class_in classes c ≡ class_in (set classes s class) c) (polarity_at a t) (head_at a t)
+  unmoved classes s class t behind low =
+      states_more (λ q c. t < c) (λ q c. class_in classes c ≡ class_in (set classes s class) c)
+      (λ q c more. sym (get_or-set_other classes s c class 0 (λ same. absurd (omega (arith, same))))) (polarity_at a t) (head_at a t) (later t low)
+
+  pub upwards_more : (k s : ℕ) (classes : List ℕ) (known known' : BTreeMap (List ℕ) ℕ) (key : List ℕ) (class : ℕ) → AreFromLast a k classes known → suc (s + k) ≡ length a.states
+      → IsKeyOf a (class_in classes) s key → Knows (slice_cmp nat_cmp) key class known known' → AreFromLast a (k + 1) (set classes s class) known'
+  upwards_more k s classes known known' key class it place has knows = record {
+    size = length-set classes s class ∙ it.size;
+    keyed = λ t low there. go t low there (cases_eq t s);
+  }
+    where
+      within : s < length classes
+      within = let size : length classes ≡ length a.states = it.size in omega (arith, place)
+
+      own_states : HasStatesIn (λ q c. class_in classes c ≡ class_in (set classes s class) c) (polarity_at a s) (head_at a s)
+      own_states =
+          states_more (λ q c. s < c) (λ q c. class_in classes c ≡ class_in (set classes s class) c)
+          (λ q c more. sym (get_or-set_other classes s c class 0 (λ same. absurd (omega (arith, same))))) (polarity_at a s) (head_at a s) (later s (omega (arith, place)))
+
+      here : class_in (set classes s class) s ≡ class
+      here = get_or-set_same classes s class 0 within
+
+      go : (t : ℕ) → t < length a.states → length a.states ≤ t + (k + 1) → (t ≡ s) ⊎ (t ≡ s → ⊥)
+          → (other : List ℕ) × IsKeyOf a (class_in (set classes s class)) t other × (get (slice_cmp nat_cmp) known' other ≡ Some (class_in (set classes s class) t))
+      go t low there (inl same) =
+          subst (λ t. (other : List ℕ) × IsKeyOf a (class_in (set classes s class)) t other × (get (slice_cmp nat_cmp) known' other ≡ Some (class_in (set classes s class) t))) (sym same)
+          (key, key_moved (class_in classes) (class_in (set classes s class)) a single s key own_states has, knows.now ∙ ap Some (sym here))
+      go t low there (inr apart) =
+          let behind : s < t = omega (arith, place, apart) in
+          let old = it.keyed t low (omega (arith, place, behind)) in (
+            old.0,
+            key_moved (class_in classes) (class_in (set classes s class)) a single t old.0 (unmoved classes s class t behind low) old.1,
+            knows.kept old.0 (class_in classes t) old.2 ∙ ap Some (sym (get_or-set_other classes s t class 0 apart)),
+          )
+
+  -- in the end alike states are together
+  module _ (closed : IsClosed a) (classes : List ℕ) (known : BTreeMap (List ℕ) ℕ) (it : AreFromLast a (length a.states) classes known) where
+    abbrev n : ℕ
+    n = length a.states
+
+    abbrev class : ℕ → ℕ
+    class = class_in classes
+
+    one_class : (i j : ℕ) → i < n → j < n → IsAlikePair a (λ x y. class x ≡ class y) i j → class i ≡ class j
+    one_class i j low low' pair =
+        let one = it.keyed i low (omega arith) in
+        let two = it.keyed j low' (omega arith) in
+        let equal : one.0 ≡ two.0 = key_unique a closed single class j one.0 two.0 (alike_key a closed single class i j one.0 pair one.1) two.1 in
+        let some : Some (class i) ≡ Some (class j) = sym one.2 ∙ (ap (get (slice_cmp nat_cmp) known) equal ∙ two.2) in
+        cc
+
+    inside : (s : ℕ) → HasStatesIn (λ q c. c < n) (polarity_at a s) (head_at a s)
+    inside s = states_more (IsState a) (λ q c. c < n) (λ q c state. state.in_range) (polarity_at a s) (head_at a s) (closed.heads s)
+
+    together : (fuel x y : ℕ) → n < fuel + x → x < n → y < n → (table : ℕ → ℕ → _) → IsAlikeness a (Holds table) → Holds table x y → class x ≡ class y
+    together zero x y more low low' table are holds = absurd (omega arith)
+    together (suc fuel) x y more low low' table are holds =
+        let pair = are x y low low' holds in
+        let heads : AreHeadsAlike (λ u v. class u ≡ class v) (parts_of (head_at a x)) (parts_of (head_at a y)) =
+        alike-more (Known (Holds table) (λ c. (x < c) × (c < n)) (λ c. c < n)) (λ u v. class u ≡ class v)
+        (λ u v known. together fuel u v (let behind : x < u = known.1.0 in omega arith) known.1.1 known.2 table are known.0)
+        (parts_of (head_at a x)) (parts_of (head_at a y))
+        (alike-known (Holds table) (λ c. (x < c) × (c < n)) (λ c. c < n) (polarity_at a x) (polarity_at a y) (parts_of (head_at a x)) (parts_of (head_at a y))
+        (parts_in (λ q c. (x < c) × (c < n)) (polarity_at a x) (head_at a x) (states_both (λ c. x < c) (λ c. c < n) (polarity_at a x) (head_at a x) (later x low) (inside x)))
+        (parts_in (λ q c. c < n) (polarity_at a y) (head_at a y) (inside y)) pair.heads) in
+        one_class x y low low' (record { polarity = pair.polarity; heads = heads; outgoing = pair.outgoing; incoming = pair.incoming })
+
+    pub upwards_keep : KeepsAlike a classes
+    upwards_keep x y low low' alike = together (suc n) x y (omega arith) low low' alike.0 alike.1 alike.2
+
+-- the same classes with other numbers
+pub joined_keep : (a : Automaton) (classes ordered : List ℕ) → AreJoined (length a.states) classes ordered → KeepsAlike a classes → KeepsAlike a ordered
+joined_keep a classes ordered joined keeps x y low low' alike = joined.same x y low low' (keeps x y low low' alike)
+
+-- each state is a class
+pub own_classes : (a : Automaton) (c : Classes) → length c.numbers.items ≡ length a.states → AreApart c.numbers.items → KeepsAlike a c.numbers.items → AreCounted (length a.states) c.chosen.items → AreClasses a c
+own_classes a c size apart keeps counted = record {
+  size = size;
+  low = λ s low. let many : length c.chosen.items ≡ length a.states = counted.size in let own : class_in c.numbers.items s ≡ s = number s low in omega arith;
+  chosen = λ k low.
+      let many : length c.chosen.items ≡ length a.states = counted.size in
+      let inside : k < length a.states = omega arith in
+      let own : class_in c.chosen.items k ≡ k = counted.own k inside in
+      (omega arith, ap (class_in c.numbers.items) own ∙ number k inside);
+  classes = λ i j low low'. (
+    λ equal. subst (IsAlike a i) (sym (number i low) ∙ (equal ∙ number j low')) (alike-refl a i),
+    keeps i j low low',
+  );
+}
+  where
+    number : (s : ℕ) → s < length a.states → class_in c.numbers.items s ≡ s
+    number s low = apart s (omega (arith, size))
