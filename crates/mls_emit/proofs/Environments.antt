@@ -1,15 +1,14 @@
 -- Environments with one binder more, or without it.
 --     with_binder, without_binder
-use Rattle.std.proofs.Common.{◌≡◌, ◌⊎◌, inl, inr, ℕ, ◌<◌, ◌≤◌, Bool, true, false, List, [], ◌∷◌, ◌++◌, refl, sym, ap, ◌∙◌, subst, arith, Option, Some, None, cond}
+use Rattle.std.proofs.Common.{◌≡◌, ◌⊎◌, inl, inr, ℕ, ◌<◌, ◌≤◌, Bool, true, false, List, [], ◌∷◌, ◌++◌, refl, sym, ap, ◌∙◌, arith, Option, Some, None, cond}
 use Rattle.std.specs.Prelude.{All, get_or}
 use Rattle.std.specs.List.{filter}
 use Rattle.std.proofs.Math.Dec.{ltb}
-use Rattle.std.specs.FinMap as env
 use Rattle.std.specs.Ordering.{nat_cmp, eq_by_cmp}
 use Rattle.std.proofs.lemmas.Bool.Decides.{Decides-ltb}
 use Rattle.std.proofs.lemmas.List.Elements.{All-cons, All-head, All-tail, All-append, All-filter, filter_passes}
 use Rattle.mls_deriv.specs.declared.derivation.BinderNode.{BinderNode}
-use Rattle.mls_deriv.specs.Steps.{env_of, IsRising}
+use Rattle.mls_deriv.specs.Steps.{IsRising}
 use Rattle.mls_emit.specs.Conclusions.{IsWith, IsWithout}
 use Rattle.mls_emit.specs.Scopes.{entry}
 use Rattle.mls_emit.specs.steps.Stepping.{above, below}

@@ -1,6 +1,6 @@
 -- What a node adds leaves the constraint good.
 --     adds_good, copy_good
---     node_good
+--     node_good, shared_good
 use Rattle.std.proofs.Common.{◌≡◌, ◌⊎◌, inl, inr, ℕ, zero, suc, ◌+◌, ◌<◌, Bool, true, false, List, [], ◌∷◌, map, length, get_or, All, Contains, refl, sym, ap, ◌∙◌, subst, arith, Option, Some, None, IsSome, length-append}
 use Rattle.std.specs.Prelude.{cond}
 use Rattle.std.specs.BTreeMap.{BTreeMap, get}
@@ -32,6 +32,7 @@ use Rattle.mls_emit.specs.declared.pose.Posing.{Posing}
 use Rattle.mls_emit.specs.PosedCopies.{HasBinder, HasBinderOf, IsGood}
 use Rattle.mls_emit.specs.PosedNodes.{HasPartsIn}
 use Rattle.mls_emit.specs.Posings.{Added, Adds, AddsNode, CanPose, HasKnown, known_in, IsCopiedEdge, IsKnownTo, OneEdge, binder_in, copied_need, copy_added, NoEdge, bool_head, fix_added, function_head, goal, int_head, literal_added, negative, one_field, or_zero, positive, record_head, root_in, size}
+use Rattle.mls_emit.specs.steps.Sharing.{shared_added}
 use Rattle.mls_emit.proofs.PosedByNode.{new_state}
 use Rattle.mls_emit.proofs.Posings.{longer, state_there}
 
@@ -330,3 +331,11 @@ module _ (p q : Posing) (i : ℕ) (good : IsGood p) where
         | inl same ↦ subst (IsGoalOf q.automaton) same (old Positive (root_in p j) (root_before j parts), old Negative (binder_in p x) (binder_before x binder))
         | inr later ↦ let low : later.0 < 0 = later.1 in absurd (omega arith)
       ]
+
+  -- a use that shares the copy of another one
+  pub shared_good : (j : ℕ) → HasRoot j → Adds p q i (shared_added (root_in p j)) NoEdge → IsGood q
+  shared_good j rooted it =
+      adds_good p q i (shared_added (root_in p j)) NoEdge it good (λ k. (no_states (IsState q.automaton) Positive, tt)) (λ n s edge. absurd edge)
+      (λ g there. let low : there.0 < 0 = there.1 in absurd (omega arith))
+      (old_state p q i (shared_added (root_in p j)) NoEdge it good Positive (root_in p j) (root_before j rooted))
+      (λ need there. let low : there.0 < 0 = there.1 in absurd (omega arith))

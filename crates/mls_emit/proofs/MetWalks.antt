@@ -3,7 +3,7 @@
 --     within_named        so a head lies within the other by what they name in the same place alone
 --     met_in_walk         what is met is in each walk with the ends
 --     met_walk            and is a walk
-use Rattle.std.proofs.Common.{◌≡◌, ◌⊎◌, inl, inr, ℕ, ◌<◌, true, List, [], ◌∷◌, length, get_or, refl, sym, ap, ◌∙◌, subst, Contains, All, Option, Some, None, slice_get}
+use Rattle.std.proofs.Common.{◌≡◌, ◌⊎◌, inl, inr, ℕ, ◌<◌, List, [], length, get_or, refl, sym, ap, ◌∙◌, subst, Contains, All, Option, Some, None}
 use Rattle.std.specs.Prelude.{option_map}
 use Rattle.std.proofs.lemmas.List.Elements.{All-contains}
 use Rattle.std.proofs.lemmas.Option.{slice_get-get_or, slice_get_within}
@@ -13,18 +13,18 @@ use Rattle.mls_automaton.specs.declared.automaton.Arms.{Arms}
 use Rattle.mls_automaton.specs.declared.automaton.FieldSet.{FieldSet}
 use Rattle.mls_automaton.specs.declared.automaton.Head.{Head}
 use Rattle.mls_automaton.specs.declared.scheme.Scheme.{Scheme}
-use Rattle.mls_automaton.specs.Automata.{Automaton, head_at, opposite, polarity_at, HasFlow, IsState}
+use Rattle.mls_automaton.specs.Automata.{Automaton, head_at, opposite, polarity_at, IsState}
 use Rattle.mls_automaton.specs.Heads.{parts_of, set_at, AreRising}
 use Rattle.mls_automaton.specs.Models.{HasArmsIn, HasFieldsIn, HasStatesIn, IsClosed, IsDeterministic, IsSingle, HasSingleArms, HasSingleFields, HasRisingLabels}
 use Rattle.mls_automaton.specs.Schemes.{state_of, IsScheme}
 use Rattle.mls_automaton.proofs.CombinedStates.{found_at}
 use Rattle.mls_automaton.proofs.HeadOrder.{sets_found}
-use Rattle.mls_automaton.proofs.Lists.{Contains-here, Contains-cases}
+use Rattle.mls_automaton.proofs.Lists.{Contains-cases}
 use Rattle.mls_biunify.proofs.RelatedHeads.{set_at-field}
 use Rattle.mls_flow.specs.Simulations.{IsFieldWithin, IsFunctionWithin, IsHeadWithin, IsRecordWithin, IsSetWithin}
 use Rattle.mls_subsume.specs.declared.verdict.StatePair.{StatePair}
 use Rattle.mls_subsume.specs.Walks.{IsIn, IsWalk}
-use Rattle.mls_emit.specs.steps.Walking.{AreAlike, AreMet, IsEnd, IsMet, end, behind, IsOfArms, IsOfFields, IsOfFunctions, IsOfHeads, IsOfRecords, IsOfSet, IsOfSets}
+use Rattle.mls_emit.specs.steps.Walking.{AreAlike, AreMet, IsMet, end, behind, IsOfFields, IsOfFunctions, IsOfHeads, IsOfRecords, IsOfSet, IsOfSets}
 use Rattle.mls_emit.proofs.WorkedParts.{nothing}
 
 -- the one member of a set is related to each that is related to some member

@@ -12,8 +12,7 @@ use Rattle.std.proofs.lemmas.List.Elements.{Contains-append_left, Contains-push,
 use Rattle.mls_book.proofs.LongerBooks.{below_or_more}
 use Rattle.mls_book.specs.Predicates.{Predicate, Implies}
 use Rattle.mls_book.specs.Passes.{passes}
-use Rattle.mls_book.specs.Schemes as book
-use Rattle.mls_book.specs.Schemes.{Subsumes, binder_passes}
+use Rattle.mls_book.specs.Schemes.{binder_passes}
 use Rattle.mls_book.proofs.Depths.{Implies-trans, Implies-same, Implies-same_back}
 use Rattle.mls_book.proofs.Representation.{IsIn}
 use Rattle.mls_book.proofs.Subsumption.{Subsumes-refl, Subsumes-trans}
@@ -27,7 +26,7 @@ use Rattle.mls_automaton.specs.Automata.{Automaton, empty_head, flow, head_at, p
 use Rattle.mls_automaton.specs.Environments.{BindersRise}
 use Rattle.mls_automaton.specs.Heads.{head_value}
 use Rattle.mls_automaton.specs.Models.{HasStatesIn, IsClosed, IsInside, IsModel}
-use Rattle.mls_automaton.specs.Schemes.{state_of, AreEquivalentSchemes, IsScheme, IsSchemeOf, NoGoal}
+use Rattle.mls_automaton.specs.Schemes.{state_of, AreEquivalentSchemes, IsScheme, NoGoal}
 use Rattle.mls_automaton.proofs.BooksExist.{scheme_exists}
 use Rattle.mls_automaton.proofs.Instances.{HasModel, binder_of, model-of_subsumes, subsumes_by_model}
 use Rattle.mls_automaton.proofs.Passing.{states_more}

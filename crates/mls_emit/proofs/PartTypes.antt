@@ -13,7 +13,7 @@ use Rattle.mls_book.specs.Predicates.{Predicate, Implies}
 use Rattle.mls_book.specs.Passes.{passes}
 use Rattle.mls_book.specs.Schemes as book
 use Rattle.mls_book.specs.Schemes.{binder_passes}
-use Rattle.mls_book.proofs.Depths.{Implies-trans, Implies-same, Implies-refl}
+use Rattle.mls_book.proofs.Depths.{Implies-trans, Implies-same}
 use Rattle.mls_automaton.specs.declared.automaton.Polarity.TheVariants.{Negative}
 use Rattle.mls_automaton.specs.declared.scheme.EnvEntry.{EnvEntry}
 use Rattle.mls_automaton.specs.declared.scheme.Scheme.{Scheme}
@@ -21,7 +21,6 @@ use Rattle.mls_automaton.specs.Automata.{Automaton, IsState}
 use Rattle.mls_automaton.specs.Models.{IsClosed}
 use Rattle.mls_automaton.specs.Schemes.{state_of, IsScheme, IsSchemeOf}
 use Rattle.mls_automaton.proofs.Instances.{HasModel, AreGoals}
-use Rattle.mls_biunify.specs.declared.goal.Goal.{Goal}
 use Rattle.mls_biunify.specs.Clashes.{HasNoClash}
 use Rattle.mls_biunify.specs.Relations.{IsGoal, IsRelated}
 use Rattle.mls_biunify.specs.Solved.{IsSolved}

@@ -2,9 +2,10 @@
 --     adds_extends        what was there stays
 --     node_posed          and the node is posed
 --     node_extends, node_root
+--     used_again          a use whose root is that of another use of its name
 use Rattle.std.proofs.Common.{◌≡◌, inl, inr, ℕ, suc, ◌+◌, Bool, true, false, List, [], ◌∷◌, map, length, get_or, Contains, refl, sym, ap, ◌∙◌, subst, arith, Option, Some, None, length-append, IsSome}
 use Rattle.std.specs.Prelude.{cond}
-use Rattle.std.specs.BTreeMap.{get, Updates}
+use Rattle.std.specs.BTreeMap.{BTreeMap, get, Updates}
 use Rattle.std.specs.Ordering.{nat_cmp, is_eq}
 use Rattle.std.proofs.Math.ListN.{get_or-append, get_or-map}
 use Rattle.std.proofs.lemmas.List.{get_or-append-add, length-map}
@@ -26,6 +27,7 @@ use Rattle.mls_emit.specs.declared.pose.Need.{Need}
 use Rattle.mls_emit.specs.declared.pose.Posing.{Posing}
 use Rattle.mls_emit.specs.PosedCopies.{Extends, IsCopyAt, IsGood, IsNew, IsUsePosed}
 use Rattle.mls_emit.specs.PosedNodes.{HasPartsIn, IsNodePosed}
+use Rattle.mls_emit.specs.steps.Sharing.{HasNoEdges}
 use Rattle.mls_emit.specs.Posings.{Added, Adds, AddsNode, IsCopiedEdge, OneEdge, binder_in, copied_need, copy_added, goal, number_at, or_zero, root_in, size}
 
 -- the state past the first ones
@@ -221,3 +223,41 @@ module _ (known_global known_let : ℕ → Option Scheme) (p q : Posing) (i : �
   node_root (form.If j k l) it = (_, it.roots)
   node_root (form.Let k j l) it = (_, it.2.roots)
   node_root (form.Rec x j) it = (_, it.roots)
+
+-- a form that is a use of a name
+abbrev pub IsName : TermForm → Type 0
+IsName (form.Inner k) = Unit {0}
+IsName (form.Global g) = Unit {0}
+IsName _ = ⊥
+
+pub named : (globals lets : BTreeMap ℕ Scheme) (f : TermForm) → HasNoEdges globals lets f → IsName f
+named globals lets (form.Bound x) none = none
+named globals lets (form.Inner k) none = tt
+named globals lets (form.Global g) none = tt
+named globals lets (form.Number value) none = none
+named globals lets (form.Truth value) none = none
+named globals lets (form.Fun x j) none = none
+named globals lets (form.Apply j k) none = none
+named globals lets (form.Make parts) none = none
+named globals lets (form.Project j label) none = none
+named globals lets (form.If j k l) none = none
+named globals lets (form.Let k j l) none = none
+named globals lets (form.Rec x j) none = none
+
+module _ (known_global known_let : ℕ → Option Scheme) (q : Posing) (i j : ℕ) (same : root_in q i ≡ root_in q j) where
+  abbrev PosedAt : ℕ → TermForm → Type 0
+  PosedAt k f = IsNodePosed q.automaton (IsGoal q.goals) (root_in q) (binder_in q) (IsUsePosed known_global known_let q) k f
+
+  pub used_again : (f : TermForm) → IsName f → PosedAt j f → PosedAt i f
+  used_again (form.Bound x) name at = absurd name
+  used_again (form.Inner k) name (s, n, is, copy, root) = (s, n, is, copy, same ∙ root)
+  used_again (form.Global g) name (s, n, is, copy, root) = (s, n, is, copy, same ∙ root)
+  used_again (form.Number value) name at = absurd name
+  used_again (form.Truth value) name at = absurd name
+  used_again (form.Fun x k) name at = absurd name
+  used_again (form.Apply k l) name at = absurd name
+  used_again (form.Make parts) name at = absurd name
+  used_again (form.Project k label) name at = absurd name
+  used_again (form.If k l m) name at = absurd name
+  used_again (form.Let k l m) name at = absurd name
+  used_again (form.Rec x k) name at = absurd name

@@ -1,6 +1,7 @@
 -- A model of a constraint goes on over what a node adds, where the node is typed as its form asks.
 --     adds_model
 --     node_model
+--     shared_model        the same for a use that shares the copy of another one
 use Rattle.std.proofs.Common.{◌≡◌, ◌⊎◌, inl, inr, ℕ, zero, suc, ◌+◌, ◌<◌, Bool, true, false, List, [], ◌∷◌, map, length, get_or, Contains, refl, sym, ap, ◌∙◌, subst, arith, Option, Some, None, IsSome}
 use Rattle.std.specs.Prelude.{bytes_eq, cond, find, option_map}
 use Rattle.std.proofs.lemmas.Slice.Eq.{bytes_eq-Decides}
@@ -45,9 +46,12 @@ use Rattle.mls_emit.specs.PosedCopies.{HasBinder, HasBinderOf, IsGood}
 use Rattle.mls_emit.specs.PosedModels.{AreOver, HasModel}
 use Rattle.mls_emit.proofs.GoodPosings.{known_from}
 use Rattle.mls_book.proofs.Depths.{Implies-same, Implies-trans}
+use Rattle.mls_emit.specs.steps.Sharing.{HasNoEdges, IsWithoutEdges, shared_added}
 use Rattle.mls_emit.specs.Posings.{Added, Adds, AddsNode, CanPose, known_in, IsCopiedEdge, IsKnownTo, NoEdge, OneEdge, binder_in, bool_head, copied_need, copy_added, fix_added, function_head, goal, int_head, literal_added, negative, one_field, or_zero, positive, record_head, root_in, size}
 use Rattle.mls_automaton.specs.declared.scheme.EnvEntry.{EnvEntry}
 use Rattle.mls_automaton.specs.declared.scheme.Scheme.{Scheme}
+use Rattle.mls_automaton.proofs.BookValues.{root-value}
+use Rattle.mls_automaton.proofs.StatesHeld.{state_passes-agree}
 use Rattle.mls_emit.proofs.TypedModels.{IsCopiedModel, copied_model}
 use Rattle.mls_emit.proofs.HeldTypes.{arrow_type, bool_type, field_type, top_type}
 use Rattle.mls_emit.proofs.PosedByNode.{new_state}
@@ -163,6 +167,22 @@ part_found type (first ∷ rest) label g e = go (bytes_eq first.label label) ref
         → (part_types type rest label ≡ Some g → (part : Part) × Contains rest part × (part.label ≡ label) × (type part.child ≡ g)) → (part : Part) × Contains (first ∷ rest) part × (part.label ≡ label) × (type part.child ≡ g)
     go true same is later = let at : type first.child ≡ g = cc in (first, Contains-here first rest, (bytes_eq-Decides first.label label).0 same, at)
     go false other is later = let found = later is in (found.0, Contains-later first rest found.0 found.1, found.2, found.3)
+
+-- a known type without edges
+pub known_without : (o : Option Scheme) → IsWithoutEdges o → (s : Scheme) × (o ≡ Some s) × (s.automaton.flows ≡ [])
+known_without None none = absurd none
+known_without (Some s) none = (s, refl, none)
+
+-- all instances of a scheme whose automaton has no edges are the same
+pub one_type : (s : Scheme) (b : book.Scheme) → IsScheme s × IsSchemeOf s b → s.automaton.flows ≡ [] → (types : ℕ → Predicate) (f g : Predicate) → HasInstance b types f → HasInstance b types g → f ≡ g
+one_type s b (scheme, over) none types f g (a, is_f) (c, is_g) =
+    sym is_f
+    ∙ (root-value s scheme b over a.reading
+    ∙ (state_passes-agree s.automaton (λ e. a.reading (over.variable e)) (λ e. c.reading (over.variable e)) (λ e there. no_edge e there) s.root.0
+    ∙ (sym (root-value s scheme b over c.reading) ∙ is_g)))
+  where
+    no_edge : (e : Flow) → Contains s.automaton.flows e → a.reading (over.variable e) ≡ c.reading (over.variable e)
+    no_edge e there = let nowhere : Contains [] e = subst (λ (es : List Flow). Contains es e) none there in let low : nowhere.0 < 0 = nowhere.1 in absurd (omega arith)
 
 abbrev no_goals : List Goal
 no_goals = []
@@ -461,3 +481,36 @@ module _ (p : Posing) (good : IsGood p) (type binder : ℕ → Predicate) (m : H
             | inr later ↦ let low : later.0 < 0 = later.1 in absurd (omega arith)
           ])
           (root ∙ sym typed.0) (λ need there. nothing_need (λ need. Implies (binder need.binder) (head_value Negative U need.head)) need there)
+
+      -- two uses of a name whose type has no edges have the same type
+      same_types : (j : ℕ) (f : TermForm) → HasNoEdges globals lets f → IsNodeTyped known type binder j f → IsNodeTyped known type binder i f → type j ≡ type i
+      same_types j (form.Bound x) none first second = absurd none
+      same_types j (form.Inner k) none (b, at, one) (c, at', two) =
+          let found = known_without (known_in lets k) none in
+          one_type found.0 b (are_over.lets k found.0 b found.1 at) found.2 binder (type j) (type i) one
+          (let same : c ≡ b = cc in subst (λ (d : book.Scheme). HasInstance d binder (type i)) same two)
+      same_types j (form.Global g) none (b, at, one) (c, at', two) =
+          let found = known_without (known_in globals g) none in
+          one_type found.0 b (are_over.globals g found.0 b found.1 at) found.2 binder (type j) (type i) one
+          (let same : c ≡ b = cc in subst (λ (d : book.Scheme). HasInstance d binder (type i)) same two)
+      same_types j (form.Number number) none first second = absurd none
+      same_types j (form.Truth truth) none first second = absurd none
+      same_types j (form.Fun x k) none first second = absurd none
+      same_types j (form.Apply k l) none first second = absurd none
+      same_types j (form.Make parts) none first second = absurd none
+      same_types j (form.Project k label) none first second = absurd none
+      same_types j (form.If k l n) none first second = absurd none
+      same_types j (form.Let k l n) none first second = absurd none
+      same_types j (form.Rec x k) none first second = absurd none
+
+      pub shared_model : (j : ℕ) (f : TermForm) → HasRoot j → HasNoEdges globals lets f → IsNodeTyped known type binder j f → IsNodeTyped known type binder i f
+          → Adds p q i (shared_added (root_in p j)) NoEdge → HasModel q type binder
+      shared_model j f rooted none first second it =
+          let at = root_low j rooted in
+          let U : ℕ → Predicate = extended (size p) m.value (λ k. top) in
+          adds_model p q i (shared_added (root_in p j)) NoEdge it good type binder m (λ k. top) (λ k. top_type)
+          (λ k. subst (λ (y : State). IsInside y.polarity (head_value y.polarity U y.head) (U (size p + k))) (sym (new_state p q i (shared_added (root_in p j)) NoEdge it k)) (past_met U (size p + k)))
+          (λ n s edge. absurd edge)
+          (λ g there. nothing_goal (λ g. Implies (U g.positive.0) (U g.negative.0)) g there)
+          (extended_old (size p) m.value (λ k. top) (root_in p j) at.0 ∙ (at.1 ∙ same_types j f none first second))
+          (λ need there. nothing_need (λ need. Implies (binder need.binder) (head_value Negative U need.head)) need there)

@@ -1,6 +1,6 @@
 -- The nodes of a part are posed one after another.
 --     can_pose            each may be posed
---     pose_none, pose_next
+--     pose_none, pose_either
 use Rattle.std.proofs.Common.{◌≡◌, ◌≢◌, ◌⊎◌, inl, inr, ℕ, zero, suc, ◌<◌, Bool, true, false, List, [], ◌∷◌, ◌++◌, length, take, get_or, Contains, refl, sym, ap, ◌∙◌, subst, arith, Option, Some, None, IsSome}
 use Rattle.std.specs.Prelude.{cond, option_map}
 use Rattle.std.specs.List.{AllPairs}
@@ -16,19 +16,27 @@ use Rattle.mls_biunify.specs.Relations.{IsGoal}
 use Rattle.mls_term.specs.declared.term.TermForm.{TermForm}
 use Rattle.mls_term.specs.declared.term.TermForm.TheVariants as form
 use Rattle.mls_term.specs.declared.term.TermNode.{TermNode}
+use Rattle.mls_book.specs.Predicates.{Predicate}
+use Rattle.mls_term.specs.Derivations.{Known}
+use Rattle.mls_typing.specs.Typed.{IsType}
 use Rattle.mls_typing.proofs.Contexts.{same_key}
 use Rattle.mls_deriv.specs.Steps.{form_at}
 use Rattle.mls_emit.specs.declared.pose.Posing.{Posing}
 use Rattle.mls_emit.specs.PosedCopies.{Extends, HasBinder, HasBinderOf, IsGood, IsNew, IsUsePosed}
 use Rattle.mls_emit.specs.PosedNodes.{HasPartsIn, IsNodePosed}
 use Rattle.mls_emit.specs.PosedParts.{HasKnownType, HavePosed, IsBegun, IsPosable}
-use Rattle.mls_emit.specs.Posings.{AddsNode, CanPose, HasKnown, binder_in, known_in, or_zero, root_in}
+use Rattle.mls_emit.specs.PosedModels.{AreOver, HasModel}
+use Rattle.mls_emit.specs.NodeTypes.{IsNodeTyped}
+use Rattle.mls_emit.specs.Posings.{Adds, AddsNode, CanPose, HasKnown, NoEdge, binder_in, known_in, or_zero, root_in}
+use Rattle.mls_emit.specs.declared.shared.Shared.{Shared}
+use Rattle.mls_emit.specs.steps.Sharing.{AreShared, HasNoEdges, PosesNext, first_use, shared_added}
 use Rattle.mls_emit.proofs.BegunPosings.{begun_good}
-use Rattle.mls_emit.proofs.GoodPosings.{node_good}
+use Rattle.mls_emit.proofs.GoodPosings.{node_good, shared_good}
 use Rattle.mls_emit.proofs.PartLists.{parts_more}
-use Rattle.mls_emit.proofs.PosedByNode.{node_extends, node_posed, node_root}
+use Rattle.mls_emit.proofs.PosedByNode.{adds_extends, node_extends, node_posed, node_root, root_is, used_again, named}
 use Rattle.mls_emit.proofs.PosedKept.{extends_all, extends_self, posed_kept}
-use Rattle.mls_emit.proofs.PosedModels.{node_model}
+use Rattle.mls_emit.proofs.PosedKept.{kept_root as root_stays}
+use Rattle.mls_emit.proofs.PosedModels.{node_model, shared_model}
 
 some_is : {X : Type 0} {x y : X} → Some x ≡ Some y → x ≡ y
 some_is e = cc
@@ -99,22 +107,12 @@ module _ (nodes : List TermNode) (globals lets : BTreeMap ℕ Scheme) (begun : P
     models = λ known over type binder types typed m. m;
   }
 
-  module _ (p q : Posing) (done : List ℕ) (i : ℕ) (f : TermForm) (it : HavePosed nodes globals lets begun p done) (adds : AddsNode (known_in globals) (known_in lets) p q i f)
-      (form_is : form_at nodes i ≡ Some f) (other : Contains done i → ⊥) (behind : HasPartsIn (Contains done) f) (binder : HasBinderOf p f) (can : CanPose globals lets p f) where
-    is_new : IsNew p i
-    is_new some = other (it.only i some)
-
-    rooted_parts : HasPartsIn (λ k. IsSome (get nat_cmp p.roots k)) f
-    rooted_parts = parts_more (Contains done) (λ k. IsSome (get nat_cmp p.roots k)) it.rooted f behind
-
+  -- one node more, however it was posed
+  module _ (p q : Posing) (done : List ℕ) (i : ℕ) (f : TermForm) (it : HavePosed nodes globals lets begun p done) (form_is : form_at nodes i ≡ Some f) (behind : HasPartsIn (Contains done) f)
+      (more : Extends p q) (root : ℕ) (updated : Updates nat_cmp p.roots q.roots i (Some root)) (good : IsGood q)
+      (own : IsNodePosed q.automaton (IsGoal q.goals) (root_in q) (binder_in q) (IsUsePosed (known_in globals) (known_in lets) q) i f) where
     abbrev Posed : Posing → ℕ → TermForm → Type 0
     Posed r j g = IsNodePosed r.automaton (IsGoal r.goals) (root_in r) (binder_in r) (IsUsePosed (known_in globals) (known_in lets) r) j g
-
-    more : Extends p q
-    more = node_extends (known_in globals) (known_in lets) p q i it.good is_new f adds
-
-    updated : (root : ℕ) × Updates nat_cmp p.roots q.roots i (Some root)
-    updated = node_root (known_in globals) (known_in lets) p q i it.good is_new f adds
 
     kept_root : (j : ℕ) → IsSome (get nat_cmp p.roots j) → IsSome (get nat_cmp q.roots j)
     kept_root j some = go (get nat_cmp p.roots j) refl some
@@ -127,13 +125,13 @@ module _ (nodes : List TermNode) (globals lets : BTreeMap ℕ Scheme) (begun : P
     parts_now j g (inl old) e = parts_more (λ k. IsSome (get nat_cmp p.roots k)) (λ k. IsSome (get nat_cmp q.roots k)) kept_root g (it.parts j g old e)
     parts_now j g (inr new) e =
         let same : f ≡ g = some_is (sym form_is ∙ (ap (form_at nodes) new ∙ e)) in
-        subst (HasPartsIn (λ k. IsSome (get nat_cmp q.roots k))) same (parts_more (λ k. IsSome (get nat_cmp p.roots k)) (λ k. IsSome (get nat_cmp q.roots k)) kept_root f rooted_parts)
+        subst (HasPartsIn (λ k. IsSome (get nat_cmp q.roots k))) same (parts_more (Contains done) (λ k. IsSome (get nat_cmp q.roots k)) (λ k there. kept_root k (it.rooted k there)) f behind)
 
     rooted_now : (j : ℕ) → Contains done j ⊎ (i ≡ j) → IsSome (get nat_cmp q.roots j)
     rooted_now j (inl old) = kept_root j (it.rooted j old)
-    rooted_now j (inr new) = subst (λ k. IsSome (get nat_cmp q.roots k)) new (subst IsSome (sym updated.1.1) refl)
+    rooted_now j (inr new) = subst (λ k. IsSome (get nat_cmp q.roots k)) new (subst IsSome (sym updated.1) refl)
 
-    only_now : (j : ℕ) (b : Bool) → is_eq (nat_cmp i j) ≡ b → get nat_cmp q.roots j ≡ cond b (Some updated.0) (get nat_cmp p.roots j) → IsSome (get nat_cmp q.roots j) → Contains (done ++ i ∷ []) j
+    only_now : (j : ℕ) (b : Bool) → is_eq (nat_cmp i j) ≡ b → get nat_cmp q.roots j ≡ cond b (Some root) (get nat_cmp p.roots j) → IsSome (get nat_cmp q.roots j) → Contains (done ++ i ∷ []) j
     only_now j true same is some = subst (Contains (done ++ i ∷ [])) (same_key i j same) (Contains-push done i)
     only_now j false apart is some = Contains-append_left done (i ∷ []) j (it.only j (subst IsSome is some))
 
@@ -143,21 +141,69 @@ module _ (nodes : List TermNode) (globals lets : BTreeMap ℕ Scheme) (begun : P
     posed_now j g (inr new) e =
         subst (λ k. Posed q k g) new
         (let same : f ≡ g = some_is (sym form_is ∙ (ap (form_at nodes) new ∙ e)) in
-        subst (Posed q i) same (node_posed (known_in globals) (known_in lets) p q i it.good is_new f adds rooted_parts))
+        subst (Posed q i) same own)
 
-    pub pose_next : HavePosed nodes globals lets begun q (done ++ i ∷ [])
-    pose_next = record {
+    pub posed_more : ((known : Known) → AreOver known globals lets → (type binder : ℕ → Predicate) → ((k : ℕ) → IsType (type k))
+        → ((j : ℕ) (g : TermForm) → Contains (done ++ i ∷ []) j → form_at nodes j ≡ Some g → IsNodeTyped known type binder j g) → HasModel p type binder → HasModel q type binder)
+        → HavePosed nodes globals lets begun q (done ++ i ∷ [])
+    posed_more goes_on = record {
       extends = extends_all begun p q it.extends more;
-      good = node_good p q i it.good globals lets f adds rooted_parts binder can;
+      good = good;
       rooted = λ j there. rooted_now j (Contains-push_cases done i j there);
-      only = λ j some. only_now j (is_eq (nat_cmp i j)) refl (updated.1.0 j) some;
+      only = λ j some. only_now j (is_eq (nat_cmp i j)) refl (updated.0 j) some;
       parts = λ j g there e. parts_now j g (Contains-push_cases done i j there) e;
       posed = λ j g there e. posed_now j g (Contains-push_cases done i j there) e;
       models = λ known over type bind types typed m.
-          node_model p it.good type bind
-          (it.models known over type bind types (λ j g there e. typed j g (Contains-append_left done (i ∷ []) j there) e) m)
-          q i types known globals lets over f adds rooted_parts binder can (typed i f (Contains-push done i) form_is);
+          goes_on known over type bind types typed
+          (it.models known over type bind types (λ j g there e. typed j g (Contains-append_left done (i ∷ []) j there) e) m);
     }
+
+  module _ (p q : Posing) (done : List ℕ) (i : ℕ) (f : TermForm) (it : HavePosed nodes globals lets begun p done)
+      (form_is : form_at nodes i ≡ Some f) (other : Contains done i → ⊥) (behind : HasPartsIn (Contains done) f) where
+    is_new : IsNew p i
+    is_new some = other (it.only i some)
+
+    rooted_parts : HasPartsIn (λ k. IsSome (get nat_cmp p.roots k)) f
+    rooted_parts = parts_more (Contains done) (λ k. IsSome (get nat_cmp p.roots k)) it.rooted f behind
+
+    -- as its form says
+    pub pose_next : AddsNode (known_in globals) (known_in lets) p q i f → HasBinderOf p f → CanPose globals lets p f → HavePosed nodes globals lets begun q (done ++ i ∷ [])
+    pose_next adds binder can =
+        let updated = node_root (known_in globals) (known_in lets) p q i it.good is_new f adds in
+        posed_more p q done i f it form_is behind (node_extends (known_in globals) (known_in lets) p q i it.good is_new f adds) updated.0 updated.1
+        (node_good p q i it.good globals lets f adds rooted_parts binder can)
+        (node_posed (known_in globals) (known_in lets) p q i it.good is_new f adds rooted_parts)
+        (λ known over type bind types typed m. node_model p it.good type bind m q i types known globals lets over f adds rooted_parts binder can (typed i f (Contains-push done i) form_is))
+
+    -- with the copy of another use of its name
+    pub pose_again : (j : ℕ) → Contains done j → form_at nodes j ≡ Some f → HasNoEdges globals lets f → Adds p q i (shared_added (root_in p j)) NoEdge → HavePosed nodes globals lets begun q (done ++ i ∷ [])
+    pose_again j there same_form none adds =
+        let more : Extends p q = adds_extends p q i (shared_added (root_in p j)) NoEdge adds is_new in
+        let root : root_in q i ≡ root_in q j = root_is p q i (shared_added (root_in p j)) NoEdge adds ∙ sym (root_stays p q more j (it.rooted j there)) in
+        posed_more p q done i f it form_is behind more (root_in p j) adds.roots
+        (shared_good p q i it.good j (it.rooted j there) adds)
+        (used_again (known_in globals) (known_in lets) q i j root f (named globals lets f none)
+        (posed_kept p q more it.good (known_in globals) (known_in lets) j (it.rooted j there) f (it.parts j f there same_form) (it.posed j f there same_form)))
+        (λ known over type bind types typed m.
+        shared_model p it.good type bind m q i types known globals lets over j f (it.rooted j there) none
+        (typed j f (Contains-append_left done (i ∷ []) j there) same_form) (typed i f (Contains-push done i) form_is) adds)
+
+    -- either way
+    pub pose_either : (uses after : Shared) → AreShared nodes globals lets done uses → PosesNext globals lets uses after p q i f → HasBinderOf p f → CanPose globals lets p f
+        → HavePosed nodes globals lets begun q (done ++ i ∷ []) × AreShared nodes globals lets (done ++ i ∷ []) after
+    pose_either uses after are step binder can = (go step.adds, λ g j e. noted g j (step.notes g j e))
+      where
+        go : ((j : ℕ) × (first_use uses f ≡ Some j) × Adds p q i (shared_added (root_in p j)) NoEdge) ⊎ AddsNode (known_in globals) (known_in lets) p q i f → HavePosed nodes globals lets begun q (done ++ i ∷ [])
+        go (inl (j, first, adds)) = let at = are f j first in pose_again j at.0 at.1 at.2 adds
+        go (inr adds) = pose_next adds binder can
+
+        noted : (g : TermForm) (j : ℕ) → (first_use uses g ≡ Some j) ⊎ ((g ≡ f) × (j ≡ i) × HasNoEdges globals lets f) → Contains (done ++ i ∷ []) j × (form_at nodes j ≡ Some g) × HasNoEdges globals lets g
+        noted g j (inl before) = let at = are g j before in (Contains-append_left done (i ∷ []) j at.0, at.1, at.2)
+        noted g j (inr (is_form, is_node, none)) = (
+          subst (Contains (done ++ i ∷ [])) (sym is_node) (Contains-push done i),
+          subst (λ k. form_at nodes k ≡ Some g) (sym is_node) (form_is ∙ ap Some (sym is_form)),
+          subst (HasNoEdges globals lets) (sym is_form) none,
+        )
 
 -- the form of a node that is there
 pub form_there : (nodes : List TermNode) (i : ℕ) (d : TermNode) → i < length nodes → form_at nodes i ≡ Some (get_or nodes i d).form

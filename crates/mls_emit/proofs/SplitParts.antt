@@ -6,7 +6,7 @@
 --     behind_firsts       the first part of a let stands before all uses of its name
 --     first_before_use, first_before_let
 --                         so it comes before each part with such a use, or with the let itself
-use Rattle.std.proofs.Common.{◌≡◌, ◌≢◌, ◌⊎◌, inl, inr, ℕ, zero, suc, ◌+◌, ◌<◌, ◌≤◌, List, [], ◌∷◌, ◌++◌, map, length, take, get_or, min, refl, sym, ap, ◌∙◌, subst, arith, Contains, Option, Some, None}
+use Rattle.std.proofs.Common.{◌≡◌, ◌≢◌, ◌⊎◌, inl, inr, ℕ, zero, suc, ◌+◌, ◌<◌, ◌≤◌, List, [], ◌∷◌, map, length, take, get_or, min, refl, sym, ap, ◌∙◌, subst, arith, Contains, Option, Some, None}
 use Rattle.std.specs.BTreeMap.{BTreeMap}
 use Rattle.std.specs.List.{AllPairs}
 use Rattle.std.proofs.lemmas.List.{get_or-take, length-take, get_or_default}
@@ -23,10 +23,10 @@ use Rattle.mls_term.specs.declared.term.Part.{Part}
 use Rattle.mls_term.specs.declared.term.TermForm.{TermForm}
 use Rattle.mls_term.specs.declared.term.TermForm.TheVariants as form
 use Rattle.mls_term.specs.declared.term.TermNode.{TermNode}
-use Rattle.mls_term.specs.Terms.{TermTree, TermFields, bound, inner, global, number, truth, fun, apply, make, project, choice, local, fix, no_field, a_field, before, field_nodes, field_roots, postorder}
+use Rattle.mls_term.specs.Terms.{TermTree, TermFields, bound, inner, global, number, truth, fun, apply, make, project, choice, local, fix, no_field, a_field, before, field_nodes, field_roots}
 use Rattle.mls_term.specs.Derivations.{labels_of}
 use Rattle.mls_term.specs.WellFormed.{field_parts, AreScoped, IsScoped, IsTerm}
-use Rattle.mls_typing.proofs.Lists.{Contains-here, Contains-later, Contains-cases, nothing_in}
+use Rattle.mls_typing.proofs.Lists.{Contains-here, Contains-cases, nothing_in}
 use Rattle.mls_typing.proofs.PartNodes.{length-postorder}
 use Rattle.mls_deriv.specs.Steps.{form_at}
 use Rattle.mls_emit.specs.declared.derive.binders.PartBinders.{PartBinders}
@@ -40,10 +40,10 @@ use Rattle.mls_emit.specs.PosedNodes.{HasPartsIn}
 use Rattle.mls_emit.specs.PosedParts.{ArePosable, HasKnownType, IsKnownType, IsPartList, IsPosable}
 use Rattle.mls_emit.specs.Posings.{known_in}
 use Rattle.mls_emit.specs.TermParts.{IsPartRoot, IsTermPart}
-use Rattle.mls_emit.specs.TreeNodes.{AreTreeNodes, children_of}
+use Rattle.mls_emit.specs.TreeNodes.{AreTreeNodes}
 use Rattle.mls_emit.proofs.NumberedNodes.{numbered_whole}
 use Rattle.mls_emit.proofs.Owners.{own_child, node_low}
-use Rattle.mls_emit.proofs.TreeNodes.{kids, root_of, root_node, IsJoint, within, one_form, form_low, node_with, HasNodeWith}
+use Rattle.mls_emit.proofs.TreeNodes.{kids, one_form, form_low, node_with, HasNodeWith}
 
 -- what each own part of a node is
 pub own_parts_in : (P : ℕ → Type 0) (f : TermForm) → ((j : ℕ) → IsOwnPart f j → P j) → HasPartsIn P f

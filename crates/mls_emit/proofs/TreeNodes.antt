@@ -19,7 +19,7 @@ use Rattle.mls_deriv.specs.Laws.{AreTerms}
 use Rattle.mls_deriv.specs.Steps.{form_at}
 use Rattle.mls_emit.specs.NumberedNodes.{behind, IsNumbered, AreNumbered}
 use Rattle.mls_emit.specs.TreeNodes.{children_of, AreTreeNodes}
-use Rattle.mls_emit.proofs.NumberedNodes.{numbered_whole, nodes-a_field}
+use Rattle.mls_emit.proofs.NumberedNodes.{numbered_whole}
 
 -- the children of a tree, each with the number of its first node, where that of the tree is n
 abbrev pub kids : ℕ → TermTree → List (ℕ × TermTree)

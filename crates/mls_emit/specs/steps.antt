@@ -3,6 +3,7 @@ pub mod Lines
 pub mod Needs
 pub mod Growth
 pub mod Rounds
+pub mod Sharing
 pub mod Results
 pub mod Planned
 pub mod Sources

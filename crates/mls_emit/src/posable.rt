@@ -1,7 +1,7 @@
 //! Whether the nodes of a part may be posed, and their constraint.
 //!
-//! What posing asks for is tested here: each node of the part comes once and behind its parts, the binders that the
-//! nodes name are those of the part, the names have known types that may be copied, and the labels of a record differ.
+//! What posing asks for is tested here: the binders that the nodes name are those of the part, the names have known types
+//! that may be copied, and the labels of a record differ.
 ghost use Rattle.std.specs.Prelude.{◌≢◌, ◌↔◌, ◌<◌, ℕ, List, length, All, IfOk, IfSome, IsTrue};
 ghost use Rattle.std.specs.List.{AllPairs};
 ghost use Rattle.std.specs.Ordering.{nat_cmp};
@@ -12,13 +12,11 @@ ghost use Rattle.mls_automaton.specs.declared.scheme.EnvEntry.{EnvEntry};
 ghost use Rattle.mls_automaton.specs.Automata.{IsState, head_at, polarity_at};
 ghost use Rattle.mls_automaton.specs.Models.{HasArmsIn, HasFieldsIn, HasStatesIn};
 ghost use Rattle.mls_automaton.specs.Schemes.{IsScheme};
-ghost use Rattle.mls_term.specs.declared.term.Part.{Part};
 ghost use Rattle.mls_infer.specs.Joining.{part_labels};
 ghost use Rattle.mls_emit.specs.MetCopies.{AreSeparate};
-ghost use Rattle.mls_emit.specs.PosedNodes.{HasPartsIn};
 ghost use Rattle.mls_emit.specs.PosedParts.{ArePosable, HasKnownType, IsKnownType, IsPartList, IsPartPosed, IsPosable};
 ghost use Rattle.mls_emit.specs.Posings.{known_in};
-ghost use Rattle.mls_emit.specs.steps.Posable.{AreApart, Has, HasJust, IsFree, MayFollow};
+ghost use Rattle.mls_emit.specs.steps.Posable.{AreApart, Has, HasJust, IsFree};
 
 use crate::pose::{KnownTypes, Posing, copied_label, pose_part};
 use mls_automaton::automaton::{Arms, Automaton, FieldSet, FieldSets, Head, Polarity};
@@ -35,9 +33,8 @@ use std::collections::{BTreeMap, BTreeSet};
 ///
 /// # Errors
 ///
-/// `Memory` where memory is wanting, or where the nodes may not be posed: a node comes twice, before one of its parts
-/// or is none of the term, a binder is none of these, a name has no known type that may be copied, or two labels of a
-/// record are the same.
+/// `Memory` where memory is wanting, or where the nodes may not be posed: a binder is none of these, a name has no known
+/// type that may be copied, or two labels of a record are the same.
 pub(crate) fn posed(
     alloc: Global,
     nodes: &[TermNode],
@@ -45,77 +42,20 @@ pub(crate) fn posed(
     binders: &[usize],
     known: &KnownTypes,
 ) -> Result<Posing, Memory>
+    requires list { IsPartList nodes.now part.now }
     ensures { IfOk result (IsPartPosed nodes.now known.now.globals known.now.lets binders.now part.now) }
 {
-    if !is_part_list(alloc, nodes, part)? {
-        return Err(Memory);
-    }
     if !are_posable(alloc, nodes, part, binders, known)? {
         return Err(Memory);
     }
     pose_part(alloc, nodes, part, binders, known)
 }
 
-// Whether these are nodes of a term, each once and each behind its parts.
-fn is_part_list(alloc: Global, nodes: &[TermNode], part: &[usize]) -> Result<bool, Memory>
-    ensures { IfOk result (λ is. IsTrue is → IsPartList nodes.now part.now) }
-{
-    let mut done = BTreeSet::new(alloc);
-    for node in part {
-        if !may_follow(nodes, &done, *node) {
-            return Ok(false);
-        }
-        done.insert(*node)?;
-    }
-    Ok(true)
-}
-
-// Whether a node may stand behind those that are done.
-fn may_follow(nodes: &[TermNode], done: &BTreeSet<usize>, node: usize) -> bool
-    ensures { IsTrue result → MayFollow nodes.now done.now node }
-{
-    node < nodes.len() && !has(done, node) && has_parts_in(done, &nodes[node].form)
-}
-
-// Whether the parts of a node are done. The first part of a let is none of its own.
-fn has_parts_in(done: &BTreeSet<usize>, form: &TermForm) -> bool
-    ensures { IsTrue result → HasPartsIn (Has done.now) form.now }
-{
-    match form {
-        TermForm::Bound(_) => true,
-        TermForm::Inner(_) => true,
-        TermForm::Global(_) => true,
-        TermForm::Number(_) => true,
-        TermForm::Truth(_) => true,
-        TermForm::Fun(_, body) => has(done, *body),
-        TermForm::Apply(function, argument) => has(done, *function) && has(done, *argument),
-        TermForm::Make(parts) => have_children_in(done, parts.as_slice()),
-        TermForm::Project(body, _) => has(done, *body),
-        TermForm::If(condition, first, second) => {
-            has(done, *condition) && has(done, *first) && has(done, *second)
-        }
-        TermForm::Let(_, _, second) => has(done, *second),
-        TermForm::Rec(_, body) => has(done, *body),
-    }
-}
-
-// Whether the number is in the set.
-fn has(set: &BTreeSet<usize>, number: usize) -> bool
+/// Whether the number is in the set.
+pub(crate) fn has(set: &BTreeSet<usize>, number: usize) -> bool
     ensures { IsTrue result ↔ Has set.now number }
 {
     set.contains(&number)
-}
-
-// Whether the parts of a record are done.
-fn have_children_in(done: &BTreeSet<usize>, parts: &[Part]) -> bool
-    ensures { IsTrue result → All (λ (part : Part). Has done.now part.child) parts.now }
-{
-    for part in parts {
-        if !has(done, part.child) {
-            return false;
-        }
-    }
-    true
 }
 
 // Whether each node of a part may be posed over these binders.

@@ -20,7 +20,9 @@ ghost use Rattle.mls_emit.specs.Posings.{literal_added, fun_added, apply_added, 
 ghost use Rattle.mls_emit.specs.Posings.{bool_head, int_head, function_head, record_head, one_field, goal};
 ghost use Rattle.mls_emit.specs.Posings.{AddsCopy, IsCopiedEdge, IsKnownTo, copy_added};
 ghost use Rattle.mls_emit.specs.steps.Results.{AddsEdges, Binds, CanBind, HasResult};
+ghost use Rattle.mls_emit.specs.steps.Sharing.{PosesNext, shared_added};
 
+use crate::shared::Shared;
 use mls_automaton::automaton::{Arms, Automaton, FieldSet, FieldSets, Head, Polarity};
 use mls_automaton::combine::combine_heads;
 use mls_automaton::scheme::{EnvEntry, Scheme};
@@ -187,9 +189,43 @@ impl Posing {
             × ArePosable binders nodes.now part.now known.now.globals known.now.lets }
         ensures { OnOk result (HavePosed nodes.now known.now.globals known.now.lets self.old self.new part.now) }
     {
+        let mut shared = Shared::new(alloc);
         for node in part {
-            self.pose_node(alloc, *node, &nodes[*node].form, known)?;
+            self.pose_next(alloc, &mut shared, *node, &nodes[*node].form, known)?;
         }
+        Ok(())
+    }
+
+    // Poses a node, with the copy of the first use of its name where that is shared.
+    fn pose_next(
+        &mut self,
+        alloc: Global,
+        shared: &mut Shared,
+        node: usize,
+        form: &TermForm,
+        known: &KnownTypes,
+    ) -> Result<(), Memory>
+        requires { CanPose known.now.globals known.now.lets self.old form.now }
+        ensures { OnOk result (PosesNext known.now.globals known.now.lets shared.old shared.new self.old self.new node
+            form.now) }
+    {
+        match shared.share(form)? {
+            Some(first) => self.pose_again(node, first),
+            None => {
+                self.pose_node(alloc, node, form, known)?;
+                shared.note(node, form, known)
+            }
+        }
+    }
+
+    // A use of a name that shares the copy of another one.
+    fn pose_again(&mut self, node: usize, first: usize) -> Result<(), Memory>
+        ensures { OnOk result (Adds self.old self.new node (shared_added (root_in self.old first)) NoEdge) }
+    {
+        let root = self.root(first);
+        self.roots.insert(node, root)?;
+        let copy = number_at(&self.copies, first);
+        self.copies.insert(node, copy)?;
         Ok(())
     }
 

@@ -8,6 +8,7 @@ use crate::posable::posed;
 use crate::pose::KnownTypes;
 use crate::solve::solution_of;
 use crate::tests_of_layout::{goal, places_of, sample, show_book};
+use crate::tests_of_lists::is_part_list;
 use crate::tests_of_posing::no_types;
 use crate::type_layout::lay_out_type;
 use crate::walk::walk_of;
@@ -49,6 +50,10 @@ fn line_of(
     known: &KnownTypes,
 ) -> Result<String, Memory> {
     let mut line = String::new(alloc);
+    if !is_part_list(alloc, forms.as_slice(), part)? {
+        line.push_str("no")?;
+        return Ok(line);
+    }
     match posed(alloc, forms.as_slice(), part, &[0], known) {
         Err(_) => line.push_str("no")?,
         Ok(posing) => {

@@ -1,6 +1,6 @@
 -- The root of the part of each node, given from parents to children, and the parts that are gathered by it.
-use Rattle.std.specs.Prelude.{◌≡◌, ◌⊎◌, ℕ, suc, ◌+◌, ◌<◌, ◌≤◌, ◌==◌, Bool, true, false, cond, List, [], ◌∷◌, ◌++◌}
-use Rattle.std.specs.Prelude.{length, get_or, map, take, Contains, option_map, Option, Some, None}
+use Rattle.std.specs.Prelude.{◌≡◌, ◌⊎◌, ℕ, suc, ◌+◌, ◌<◌, ◌≤◌, Bool, true, false, cond, List, [], ◌∷◌, ◌++◌}
+use Rattle.std.specs.Prelude.{length, get_or, map, Contains, option_map, Option, Some, None}
 use Rattle.std.specs.Ordering.{nat_cmp, is_eq}
 use Rattle.mls_automaton.specs.Sets.{Rises}
 use Rattle.mls_term.specs.declared.term.Part.{Part}

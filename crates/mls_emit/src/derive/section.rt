@@ -1,11 +1,12 @@
 //! The section of a binding, part by part.
-ghost use Rattle.std.specs.Prelude.{◌≡◌, [], All, IfOk, IfSome};
+ghost use Rattle.std.specs.Prelude.{◌≡◌, ℕ, [], All, IfOk, IfSome};
 ghost use Rattle.mls_automaton.specs.Models.{IsClosed};
 ghost use Rattle.mls_automaton.specs.Schemes.{IsScheme};
 ghost use Rattle.mls_biunify.specs.Rooms.{HoldsStates};
 ghost use Rattle.mls_scheme.specs.ReadTypes.{IsReadFromBook};
 ghost use Rattle.mls_iface.specs.Matches.{IsRead};
 ghost use Rattle.mls_iface.specs.Signatures.{IsEntry};
+ghost use Rattle.mls_emit.specs.TermParts.{IsTermPart};
 ghost use Rattle.mls_emit.specs.TreeNodes.{AreTreeNodes};
 
 use crate::derive::binders::binders_of;
@@ -325,7 +326,9 @@ impl Draft {
         part: &TermPart,
         read: &ReadScheme,
     ) -> Result<(), Memory>
-        requires { IsRead read.now }
+        requires term { AreTreeNodes nodes.now }
+        requires part { (r : ℕ) × IsTermPart nodes.now r part.now }
+        requires read { IsRead read.now }
     {
         let list = part.nodes.as_slice();
         let binders = binders_of(alloc, nodes, list, &self.known.lets)?;
@@ -380,8 +383,10 @@ pub(crate) fn write_section(
     let mut draft = Draft::new(alloc, read)?;
     draft.add_globals(alloc, declared, entries, nodes)?;
     let fixed = draft.book.len();
-    for (_, part) in parts.iter() {
-        draft.add_part(alloc, nodes, part, read)?;
+    for root in 0..nodes.len() {
+        if let Some(part) = parts.get(&root) {
+            draft.add_part(alloc, nodes, part, read)?;
+        }
     }
     pruned(alloc, &draft.book, draft.steps.lines.as_slice(), fixed)
 }

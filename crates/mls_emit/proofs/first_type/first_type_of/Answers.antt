@@ -4,7 +4,7 @@ use Rattle.mls_automaton.specs.declared.scheme.EnvEntry.{EnvEntry}
 use Rattle.mls_automaton.specs.declared.scheme.Scheme.{Scheme}
 use Rattle.mls_automaton.specs.Automata.{Automaton}
 use Rattle.mls_automaton.specs.Schemes.{AreEquivalentSchemes, state_of}
-use Rattle.mls_emit.specs.SolvedTypes.{entries_of, solved_scheme}
+use Rattle.mls_emit.specs.SolvedTypes.{solved_scheme}
 use Rattle.mls_emit.proofs.OwnStates.{subsumes_equivalent}
 use Rattle.mls_emit.proofs.first_type.first_type_of.Goals as goal
 

@@ -1,4 +1,4 @@
-use Rattle.std.proofs.Common.{◌≡◌, ◌∙◌, ◌++◌, ◌∷◌, [], ℕ, List, sym, subst, rules, Contains}
+use Rattle.std.proofs.Common.{◌≡◌, [], ℕ, List, subst, rules}
 use Rattle.mls_automaton.specs.declared.scheme.EnvEntry.{EnvEntry}
 use Rattle.mls_emit.specs.steps.Walking.{AreStatesOf, IsOfEntries, IsThis, Lists}
 use Rattle.mls_emit.proofs.MetPairs.{ends_are, lists_one}

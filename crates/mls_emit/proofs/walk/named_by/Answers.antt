@@ -1,4 +1,4 @@
-use Rattle.std.proofs.Common.{◌≡◌, [], List, ℕ, sym, subst, rules}
+use Rattle.std.proofs.Common.{◌≡◌, [], List, ℕ, subst, rules}
 use Rattle.mls_emit.specs.steps.Walking.{IsOfFunctions, IsOfRecords, Lists}
 use Rattle.mls_emit.proofs.MetPairs.{lists_then}
 use Rattle.mls_emit.proofs.walk.named_by.Goals as goal

@@ -1,4 +1,4 @@
-use Rattle.std.proofs.Common.{◌≡◌, ◌∙◌, ◌++◌, ◌∷◌, [], ℕ, sym, rules, Some, None}
+use Rattle.std.proofs.Common.{◌≡◌, ◌∙◌, ℕ, sym, rules, Some, None}
 use Rattle.std.specs.BTreeMap.{get}
 use Rattle.std.specs.Ordering.{nat_cmp}
 use Rattle.mls_emit.specs.steps.Walking.{IsOfEntry, IsThis}

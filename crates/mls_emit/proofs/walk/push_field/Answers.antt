@@ -1,8 +1,7 @@
-use Rattle.std.proofs.Common.{◌≡◌, ◌∙◌, ℕ, List, sym, ap, subst, rules, Option, Some, None}
-use Rattle.std.specs.Prelude.{OnOk, option_map}
-use Rattle.mls_automaton.specs.declared.automaton.FieldSet.{FieldSet}
+use Rattle.std.proofs.Common.{◌≡◌, ℕ, List, sym, subst, rules, Option, Some, None}
+use Rattle.std.specs.Prelude.{OnOk}
 use Rattle.mls_automaton.specs.Heads.{set_at}
-use Rattle.mls_emit.specs.steps.Walking.{IsOfField, IsOfSet, Lists}
+use Rattle.mls_emit.specs.steps.Walking.{IsOfSet, Lists}
 use Rattle.mls_emit.proofs.MetPairs.{lists_none}
 use Rattle.mls_emit.proofs.walk.push_field.Goals as goal
 

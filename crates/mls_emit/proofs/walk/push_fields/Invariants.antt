@@ -1,5 +1,4 @@
 use Rattle.std.proofs.Common.{take}
-use Rattle.mls_automaton.specs.Heads.{AreRising}
 use Rattle.mls_emit.specs.steps.Walking.{IsOfFields, Lists}
 use Rattle.mls_emit.proofs.walk.push_fields.Given as goal
 

@@ -1,4 +1,4 @@
-use Rattle.std.proofs.Common.{◌≡◌, ◌<◌, ◌≤◌, ℕ, List, length, take, get_or, refl, sym, ap, subst, Contains}
+use Rattle.std.proofs.Common.{◌≡◌, ◌<◌, ◌≤◌, ℕ, List, length, take, get_or, refl, sym, subst, Contains}
 use Rattle.std.proofs.lemmas.List.{take_all, take_more}
 use Rattle.mls_emit.specs.steps.Walking.{IsOfAny, IsOfSets, Lists}
 use Rattle.mls_emit.proofs.MetPairs.{any_none, any_more, lists_as}

@@ -1,4 +1,4 @@
-use Rattle.std.proofs.Common.{◌<◌, ℕ, List, take, get_or, length, sym, subst, rules, Contains}
+use Rattle.std.proofs.Common.{ℕ, List, take, get_or, sym, subst, rules}
 use Rattle.std.proofs.lemmas.List.{take_all, take_more}
 use Rattle.mls_automaton.specs.declared.scheme.EnvEntry.{EnvEntry}
 use Rattle.mls_emit.specs.steps.Walking.{AreStatesOf}

@@ -1,9 +1,7 @@
-use Rattle.std.proofs.Common.{◌≡◌, ◌++◌, ◌∷◌, [], List, sym, subst, rules}
+use Rattle.std.proofs.Common.{sym, subst, rules}
 use Rattle.std.specs.Prelude.{IsTrue}
 use Rattle.std.specs.BTreeSet.{contains}
 use Rattle.mls_deriv.specs.inner.Tables.{numbers_cmp}
-use Rattle.mls_subsume.specs.declared.verdict.StatePair.{StatePair}
-use Rattle.mls_subsume.specs.Walks.{IsIn}
 use Rattle.mls_emit.specs.steps.Walking.{IsMarked}
 use Rattle.mls_emit.proofs.MetPairs.{marked_more, meets_one, this_there}
 use Rattle.mls_emit.proofs.walk.Met.add.Goals as goal

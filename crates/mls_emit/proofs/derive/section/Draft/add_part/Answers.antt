@@ -1,8 +1,16 @@
-use Rattle.std.proofs.Common.{subst, sym}
+use Rattle.std.proofs.Common.{ℕ, List, subst, sym}
 use Rattle.std.specs.Prelude.{All}
 use Rattle.std.proofs.lemmas.List.Elements.{Contains-get_or}
 use Rattle.mls_biunify.specs.Relations.{IsGoalOf}
+use Rattle.mls_emit.specs.PosedParts.{IsPartList}
+use Rattle.mls_emit.proofs.SplitParts.{part_list}
 use Rattle.mls_emit.proofs.derive.section.Draft.add_part.Goals as goal
+
+-- `parts_of` gives the nodes of a part in order
+pub posed-requires : goal.posed-requires
+posed-requires c = record {
+  list = subst (λ (xs : List ℕ). IsPartList c.args.nodes.now xs) (sym c.as_slice-list.ensures) (part_list c.args.nodes.now c.requires.term c.requires.part.0 c.args.part.now c.requires.part.1);
+}
 
 pub solution_of-requires-clause-goals : goal.solution_of-requires-clause-goals
 solution_of-requires-clause-goals c =

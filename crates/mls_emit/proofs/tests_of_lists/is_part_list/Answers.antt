@@ -6,7 +6,7 @@ use Rattle.mls_emit.specs.PosedParts.{IsPartList}
 use Rattle.mls_emit.specs.steps.Posable.{HasJust}
 use Rattle.mls_emit.proofs.KeySets.{just_none, just_more, number_same, number_self}
 use Rattle.mls_emit.proofs.PartLists.{list_none, list_more}
-use Rattle.mls_emit.proofs.posable.is_part_list.Goals as goal
+use Rattle.mls_emit.proofs.tests_of_lists.is_part_list.Goals as goal
 
 pub loop-node-init : goal.loop-node-init
 loop-node-init c = record {
