@@ -15,7 +15,7 @@ use Rattle.mls_automaton.specs.Heads.{Parts, combined_functions, combined_sets, 
 use Rattle.mls_automaton.proofs.Lists.{Contains-here, Contains-later}
 use Rattle.mls_flow.specs.Simulations.{IsFunctionWithin, IsRecordWithin}
 use Rattle.mls_flow.proofs.HeadsWithin.{Same, within-combined}
-use Rattle.mls_emit.specs.Heads.{HasKind}
+use Rattle.mls_layout.specs.Heads.{HasKind}
 
 abbrev pub Sets : Type 0
 Sets = List ℕ → Option (List ℕ)

@@ -10,7 +10,7 @@ use Rattle.std.proofs.lemmas.List.Elements.{All-cons, All-head, All-tail, All-ap
 use Rattle.mls_deriv.specs.declared.derivation.BinderNode.{BinderNode}
 use Rattle.mls_deriv.specs.Steps.{IsRising}
 use Rattle.mls_emit.specs.Conclusions.{IsWith, IsWithout}
-use Rattle.mls_emit.specs.Scopes.{entry}
+use Rattle.mls_layout.specs.Scopes.{entry}
 use Rattle.mls_emit.specs.steps.Stepping.{above, below}
 use Rattle.mls_emit.proofs.Scopes.{looked, got, same_key, itself_key}
 

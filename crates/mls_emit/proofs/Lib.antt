@@ -1,85 +1,8 @@
-pub mod MoreClaims
-pub mod Shown
-pub mod Trees
-pub mod Heads
-pub mod RelatedParts
-pub mod MatchedParts
-pub mod PartClaims
-pub mod UseClaims
-pub mod Refuted
-pub mod Composed
-pub mod Orders
-pub mod Needed
-pub mod Growing
-pub mod Rounding
-pub mod LinesRead
-pub mod TableShown
-pub mod Choosing
-pub mod FrontLists
 pub mod Scopes
-pub mod Emitted
-pub mod Subs
-pub mod RowPairs
 pub mod Runs
-pub mod Plans
-pub mod Rows
-pub mod PartRows
-pub mod UseRows
-pub mod Ends
-pub mod WalksAfter
-pub mod MakeRows
-pub mod MakeParts
-pub mod WorkedParts
-pub mod WorkedIdentity
-pub mod WorkedApplication
-pub mod DeterminisedWalks
-pub mod OneField
-pub mod PartEmitted
-pub mod NamesEmitted
-pub mod SectionEmitted
-pub mod LetsEmitted
-pub mod UsesEmitted
-pub mod SectionOfParts
-pub mod Conclusions
 pub mod Stepping
 pub mod Environments
-pub mod WrittenRows
-pub mod WrittenNames
-pub mod WrittenMakes
-pub mod PartReadings
-pub mod StandingParts
-pub mod WrittenParts
-pub mod WrittenEnds
-pub mod WrittenSections
-pub mod NameLayouts
-pub mod WorkedNames
-pub mod WorkedConstraint
-pub mod WorkedWriting
 pub mod ReadLayouts
-pub mod TreesMade
-pub mod LongerLayouts
-pub mod Posings
-pub mod Copies
-pub mod FieldsPosed
-pub mod PosedTrees
-pub mod PosedByNode
-pub mod PosedKept
-pub mod GoodPosings
-pub mod DistinctLists
-pub mod NumberedNodes
-pub mod PlacedParts
-pub mod HeldTypes
-pub mod KeptTypes
-pub mod FoundTypes
-pub mod EachTyped
-pub mod NodeTypes
-pub mod TypedModels
-pub mod PosedModels
-pub mod MetNeeds
-pub mod BegunPosings
-pub mod PosedParts
-pub mod MetCopies
-pub mod PartPosed
 pub mod CombinedParts
 pub mod TypeLayers
 pub mod TopHeads
@@ -87,32 +10,3 @@ pub mod TypeLayouts
 pub mod SingleSets
 pub mod PrintedTypes
 pub mod PrintedLayouts
-pub mod WorkedReading
-pub mod KnownHere
-pub mod WorkedTypes
-pub mod ModelledConstraints
-pub mod AddedStates
-pub mod PartFields
-pub mod PlannedTrees
-pub mod Gathering
-pub mod Distinct
-pub mod Entering
-pub mod KnownNodes
-pub mod OwnNodes
-pub mod HeadParts
-pub mod PartsLaidOut
-mod KeySets
-mod PartLists
-mod PosableTypes
-mod Twins
-mod TypeNodes
-mod OwnNumbers
-pub mod TreeNodes
-mod Owners
-mod PartBinders
-pub mod PartTypes
-pub mod SplitParts
-pub mod FirstTypes
-mod MetPairs
-pub mod MetWalks
-mod OwnStates

@@ -16,7 +16,7 @@ use Rattle.mls_scheme.specs.ReadAutomata.{IsReadFrom}
 use Rattle.mls_scheme.specs.ReadTypes.{IsReadFromBook}
 use Rattle.mls_print.specs.Printed.{IsPrinted, HasNamedFields}
 use Rattle.mls_deriv.specs.Steps.{HasFrom}
-use Rattle.mls_emit.specs.Layouts.{IsTypeLayout}
+use Rattle.mls_layout.specs.Layouts.{IsTypeLayout}
 use Rattle.mls_emit.specs.OneEach.{HaveOneEach, HasRisingSets, AreNoneNodes, read_place, ReadIsLaidOut, ReadIsDeterministic}
 use Rattle.mls_emit.proofs.PrintedTypes.{printed_has_one}
 use Rattle.mls_emit.proofs.SingleSets.{single_heads}

@@ -23,10 +23,10 @@ use Rattle.mls_scheme.proofs.Atoms.{atoms-are}
 use Rattle.mls_flow.specs.Simulations.{IsSetWithin, IsFunctionWithin, IsFieldWithin, IsRecordWithin, IsHeadWithin}
 use Rattle.mls_flow.proofs.HeadsWithin.{Same, within-trans, within-combined, within-same}
 use Rattle.mls_deriv.specs.Steps.{raised, HasFrom}
-use Rattle.mls_emit.specs.Trees.{none_node, two_node, HasOnly, member, none, two, HasMember, here, first, second, IsTree}
-use Rattle.mls_emit.specs.Heads.{IsFieldAt, IsKindAt, HasSigns}
-use Rattle.mls_emit.specs.Uses.{Shows, IsNameLayout}
-use Rattle.mls_emit.proofs.WorkedParts.{contains_one, set_tree}
+use Rattle.mls_layout.specs.Trees.{none_node, two_node, HasOnly, member, none, two, HasMember, here, first, second, IsTree}
+use Rattle.mls_layout.specs.Heads.{IsFieldAt, IsKindAt, HasSigns}
+use Rattle.mls_layout.specs.Uses.{Shows, IsNameLayout}
+use Rattle.mls_layout.proofs.WorkedParts.{contains_one, set_tree}
 
 -- an atom that gives a head, and one that is a variable
 abbrev pub is_part : Node → Bool

@@ -12,7 +12,7 @@ use Rattle.mls_deriv.specs.declared.claim.Pair.{Pair}
 use Rattle.mls_book.specs.Schemes.{Scheme}
 use Rattle.mls_deriv.specs.Steps.{puts_of, pairs_of, Before, Says, conclusion, IsAllowed}
 use Rattle.mls_deriv.specs.Sections.{after_step, steps_of, AreAllowed}
-use Rattle.mls_emit.specs.Runs.{put_lines, pair_lines, lines_of, BeginsAnew, IsRun}
+use Rattle.mls_layout.specs.Runs.{put_lines, pair_lines, lines_of, BeginsAnew, IsRun}
 
 assoc : (xs ys zs : List SectionLine) → (xs ++ ys) ++ zs ≡ xs ++ (ys ++ zs)
 assoc [] ys zs = refl

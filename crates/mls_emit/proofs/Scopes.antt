@@ -17,7 +17,7 @@ use Rattle.std.proofs.lemmas.List.Elements.{All-head, All-tail, All-cons, All-ni
 use Rattle.mls_automaton.proofs.Lists.{Contains-here, Contains-later, Contains-cases}
 use Rattle.mls_deriv.specs.declared.derivation.BinderNode.{BinderNode}
 use Rattle.mls_deriv.specs.Steps.{env_of, IsRising}
-use Rattle.mls_emit.specs.Scopes.{entry, entries}
+use Rattle.mls_layout.specs.Scopes.{entry, entries}
 
 equal_is : (o : Ordering) → is_eq o ≡ true → o ≡ Equal
 equal_is Less e = absurd (cc)

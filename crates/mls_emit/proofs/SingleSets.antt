@@ -20,7 +20,7 @@ use Rattle.mls_automaton.proofs.Lists.{Contains-here, Contains-later}
 use Rattle.mls_scheme.specs.ReadAutomata.{IsReadAutomaton}
 use Rattle.mls_emit.specs.OneEach.{HaveOneEach, HasRisingArms, HasRisingFields, HasRisingSets}
 use Rattle.mls_emit.proofs.TopHeads.{function_atom, record_atom, sets_of_fields, head_atom, function_of, fields_of}
-use Rattle.mls_emit.proofs.WorkedParts.{nothing, contains_one}
+use Rattle.mls_layout.proofs.WorkedParts.{nothing, contains_one}
 
 -- a rising set with the members of the set of one state has one member
 pub single_set : (set : List ℕ) (k : ℕ) → Rises set → IsSameSet set (k ∷ []) → IsSingle set

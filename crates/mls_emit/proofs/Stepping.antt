@@ -12,10 +12,10 @@ use Rattle.mls_deriv.specs.Sections.{steps_of}
 use Rattle.mls_emit.specs.declared.derive.steps.Conclusion as written
 use Rattle.mls_emit.specs.declared.derive.steps.Steps.{Steps}
 use Rattle.mls_emit.specs.Conclusions.{IsAdapted, as_it_is, by_pairs}
-use Rattle.mls_emit.specs.Emitted.{asked_at, asked_after}
-use Rattle.mls_emit.specs.PairLists.{IsPairList}
-use Rattle.mls_emit.specs.Plans.{a_step_with}
-use Rattle.mls_emit.specs.Runs.{a_step, lines_of}
+use Rattle.mls_layout.specs.Emitted.{asked_at, asked_after}
+use Rattle.mls_pairs.specs.PairLists.{IsPairList}
+use Rattle.mls_layout.specs.Plans.{a_step_with}
+use Rattle.mls_layout.specs.Runs.{a_step, lines_of}
 use Rattle.mls_emit.specs.steps.Stepping.{conclusion_of, pairs_over, AddsSub, AreCounted, Stands, AddsAdapted}
 use Rattle.mls_emit.proofs.Runs.{no_steps, steps_append}
 

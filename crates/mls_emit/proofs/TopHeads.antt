@@ -19,7 +19,7 @@ use Rattle.mls_automaton.specs.Heads.{Parts, parts_of, combined, IsSameSet, IsSa
 use Rattle.mls_scheme.specs.ReadAutomata.{atoms, atom_parts, IsReadAutomaton}
 use Rattle.mls_flow.specs.Simulations.{IsHeadWithin}
 use Rattle.mls_flow.proofs.HeadsWithin.{Same, within-trans, within-combined, within-same}
-use Rattle.mls_emit.specs.Heads.{HasKind}
+use Rattle.mls_layout.specs.Heads.{HasKind}
 use Rattle.mls_emit.specs.OneEach.{is_function, is_record, HaveOneEach}
 use Rattle.mls_emit.proofs.CombinedParts.{Sets, IsAtMost, IsSameArms, combined_has, kind_same, combined_function, combined_fields}
 use Rattle.mls_emit.proofs.ReadLayouts.{is_part}

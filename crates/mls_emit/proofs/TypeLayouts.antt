@@ -23,12 +23,12 @@ use Rattle.mls_automaton.proofs.Lists.{Contains-here, Contains-filter, Contains-
 use Rattle.mls_scheme.specs.ReadAutomata.{IsPolarised, atoms, atom_parts, HasVariable, AreChildren, AreTops, IsReadAutomaton}
 use Rattle.mls_scheme.proofs.Atoms.{atoms-are}
 use Rattle.mls_deriv.specs.Steps.{raised, raised_id, raised_field, HasFrom}
-use Rattle.mls_emit.specs.Trees.{IsTree, IsPlaceIn}
-use Rattle.mls_emit.specs.Heads.{IsFieldAt, IsKindAt, HasKind, AreParts}
-use Rattle.mls_emit.specs.Layouts.{IsTypeLayout}
+use Rattle.mls_layout.specs.Trees.{IsTree, IsPlaceIn}
+use Rattle.mls_layout.specs.Heads.{IsFieldAt, IsKindAt, HasKind, AreParts}
+use Rattle.mls_layout.specs.Layouts.{IsTypeLayout}
 use Rattle.mls_emit.specs.OneEach.{HaveOneEach, AreNoneNodes, read_place}
 use Rattle.mls_emit.proofs.ReadLayouts.{is_part, is_variable, IsAtomAt, atom_at, top_parts, top_variables, a_variable, top_tree}
-use Rattle.mls_emit.proofs.WorkedParts.{nothing, contains_one, single_tree, empty_tree, empty_parts}
+use Rattle.mls_layout.proofs.WorkedParts.{nothing, contains_one, single_tree, empty_tree, empty_parts}
 use Rattle.mls_emit.proofs.TopHeads.{bool_atom, int_atom, function_atom, record_atom, part_kind, kind_part, atom_within, head_atom, function_of, fields_of}
 
 -- the book that is read stands from node n on

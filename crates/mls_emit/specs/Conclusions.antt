@@ -19,10 +19,10 @@ use Rattle.mls_deriv.specs.declared.claim.Put.{Put}
 use Rattle.mls_deriv.specs.Pairs.{put_at}
 use Rattle.mls_deriv.specs.Steps.{env_of, IsRising, form_at, Before, Says}
 use Rattle.mls_emit.specs.Orders.{JustifiesItself, IsOrder, Along}
-use Rattle.mls_emit.specs.Plans.{PlannedLine, a_step_with, planned_steps, AreLinesOf}
-use Rattle.mls_emit.specs.Rows.{at, concluded, Fits}
-use Rattle.mls_emit.specs.Runs.{a_step, IsRun}
-use Rattle.mls_emit.specs.Scopes.{entry}
+use Rattle.mls_layout.specs.Plans.{PlannedLine, a_step_with, planned_steps, AreLinesOf}
+use Rattle.mls_layout.specs.Rows.{at, concluded, Fits}
+use Rattle.mls_layout.specs.Runs.{a_step, IsRun}
+use Rattle.mls_layout.specs.Scopes.{entry}
 
 -- the lines of the plan are allowed behind these steps, whichever lists of pairs its steps have
 abbrev pub IsGood : Before → List StepLine → List PlannedLine → Type 0

@@ -19,8 +19,8 @@ use Rattle.mls_typetext.specs.Texts.{IsTypeText}
 use Rattle.mls_print.specs.Printed.{IsPrinted, HasNamedFields}
 use Rattle.mls_scheme.specs.ReadAutomata.{atoms, IsReadFrom}
 use Rattle.mls_deriv.specs.Steps.{HasFrom}
-use Rattle.mls_emit.specs.Trees.{none_node}
-use Rattle.mls_emit.specs.Layouts.{IsTypeLayout}
+use Rattle.mls_layout.specs.Trees.{none_node}
+use Rattle.mls_layout.specs.Layouts.{IsTypeLayout}
 
 abbrev pub is_function : Node → Bool
 is_function (node.Arrow j k) = true

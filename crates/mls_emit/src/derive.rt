@@ -7,10 +7,8 @@ ghost use Rattle.mls_infer.specs.Inference.{AreNames};
 ghost use Rattle.mls_iface.specs.Matches.{IsRead};
 ghost use Rattle.mls_iface.specs.Signatures.{IsEntry};
 ghost use Rattle.mls_emit.specs.Derived.{AreDerivations, entry_names, entry_texts, section_names, section_texts};
-ghost use Rattle.mls_emit.specs.TreeNodes.{AreTreeNodes};
+ghost use Rattle.mls_parts.specs.TreeNodes.{AreTreeNodes};
 
-mod binders;
-mod chosen;
 mod copies;
 mod envs;
 mod known;
@@ -18,7 +16,6 @@ mod prune;
 mod puts;
 mod section;
 mod spines;
-mod split;
 mod steps;
 mod writer;
 

@@ -1,11 +1,5 @@
-//! What holds of lists of pairs, and of the layers of types.
+//! What holds of the layers of types.
 ghost use Rattle.mls_emit.specs.OneEach.{PrintedHasOneEach, ReadIsDeterministic, ReadIsLaidOut};
-ghost use Rattle.mls_emit.specs.PairLists.{JustifiedIsNotRefuted};
-
-/// A list that justifies itself has no refuted pair.
-pub fn justified_is_not_refuted()
-    ensures { JustifiedIsNotRefuted }
-{}
 
 /// Where each layer of a book has one function and one record at most, its nodes are a layout of the automaton that is
 /// read from it.

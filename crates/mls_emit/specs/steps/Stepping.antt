@@ -17,10 +17,10 @@ use Rattle.mls_deriv.specs.Steps.{env_of}
 use Rattle.mls_emit.specs.declared.derive.steps.Conclusion as written
 use Rattle.mls_emit.specs.declared.derive.steps.Steps.{Steps}
 use Rattle.mls_emit.specs.Conclusions.{Conclusion, IsAdapted}
-use Rattle.mls_emit.specs.Emitted.{binder_pair}
-use Rattle.mls_emit.specs.PairLists.{pair_of, IsPairList}
-use Rattle.mls_emit.specs.Plans.{PlannedLine, AreLinesOf}
-use Rattle.mls_emit.specs.Runs.{lines_of}
+use Rattle.mls_layout.specs.Emitted.{binder_pair}
+use Rattle.mls_pairs.specs.PairLists.{pair_of, IsPairList}
+use Rattle.mls_layout.specs.Plans.{PlannedLine, AreLinesOf}
+use Rattle.mls_layout.specs.Runs.{lines_of}
 
 -- the node of a binder
 abbrev pub binder_node : List BinderNode → ℕ → Option ℕ

@@ -1,6 +1,6 @@
 //! Nodes of a book once more in another one, and what the variables of a read type stand for at a use.
 
-use crate::derive::split::Numbers;
+use mls_parts::split::Numbers;
 use mls_base::memory::Memory;
 use mls_book::book::{Book, Field, Fields, Node, NodeId};
 use std::alloc::Global;

@@ -7,7 +7,9 @@ ghost use Rattle.mls_emit.specs.steps.Stepping.{above, below};
 use mls_base::memory::Memory;
 use mls_book::book::NodeId;
 use mls_deriv::derivation::{BinderNode, BinderNodes};
+use mls_parts::split::Numbers;
 use std::alloc::Global;
+use std::collections::BTreeMap;
 
 // Adds an entry where it is kept.
 fn push_kept(left: &mut BinderNodes, entry: BinderNode, is_kept: bool) -> Result<(), Memory>
@@ -77,4 +79,31 @@ pub(crate) fn without(
     push_below(&mut shorter, env, binder)?;
     push_above(&mut shorter, env, binder)?;
     Ok(shorter)
+}
+
+/// The binders of two environments, in rising order.
+///
+/// # Errors
+///
+/// `Memory` where memory is wanting.
+pub(crate) fn both(
+    alloc: Global,
+    first: &[BinderNode],
+    second: &[BinderNode],
+) -> Result<Numbers, Memory> {
+    let mut met = BTreeMap::new(alloc);
+    add_binders(&mut met, first)?;
+    add_binders(&mut met, second)?;
+    let mut binders = Numbers::new(alloc);
+    for (binder, _) in met.iter() {
+        binders.push(*binder)?;
+    }
+    Ok(binders)
+}
+
+fn add_binders(met: &mut BTreeMap<usize, ()>, env: &[BinderNode]) -> Result<(), Memory> {
+    for entry in env {
+        met.insert(entry.binder, ())?;
+    }
+    Ok(())
 }

@@ -2,9 +2,9 @@
 //! them.
 
 use crate::derive::known::GlobalAt;
-use crate::layout::Places;
-use crate::pose::Posing;
-use crate::tree::{NodeIds, push_tree};
+use mls_layout::layout::Places;
+use mls_parts::pose::Posing;
+use mls_layout::tree::{NodeIds, push_tree};
 use mls_automaton::automaton::Polarity;
 use mls_automaton::scheme::Scheme;
 use mls_base::list::List;

@@ -1,7 +1,7 @@
 //! The binders that a chain of applications needs: those of a function, of its arguments, and of what the result is
 //! applied to in turn.
 
-use crate::derive::split::Numbers;
+use mls_parts::split::Numbers;
 use mls_automaton::scheme::Scheme;
 use mls_base::memory::Memory;
 use mls_term::term::{Part, TermForm, TermNode};

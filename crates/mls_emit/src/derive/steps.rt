@@ -2,15 +2,15 @@
 ghost use Rattle.std.specs.Prelude.{◌≡◌, ◌↔◌, ◌++◌, [], option_map, IfOk, IsTrue, OnOk};
 ghost use Rattle.mls_deriv.specs.Sections.{steps_of};
 ghost use Rattle.mls_deriv.specs.Steps.{IsRising};
-ghost use Rattle.mls_emit.specs.Emitted.{binder_pair};
-ghost use Rattle.mls_emit.specs.PairLists.{IsPairList};
+ghost use Rattle.mls_layout.specs.Emitted.{binder_pair};
+ghost use Rattle.mls_pairs.specs.PairLists.{IsPairList};
 ghost use Rattle.mls_emit.specs.steps.Stepping.{AddsAdapted, AddsStep, AddsSub, AreCounted, Stands};
 ghost use Rattle.mls_emit.specs.steps.Stepping.{binder_node, pairs_over};
 
-use crate::derive::chosen::chosen_of;
+use mls_pairs::chosen::chosen_of;
 use crate::derive::puts::Puts;
-use crate::lines::{push_pairs, push_puts};
-use crate::pairs::{Pairs, pair_list};
+use mls_pairs::lines::{push_pairs, push_puts};
+use mls_pairs::pairs::{Pairs, pair_list};
 use mls_base::list::List;
 use mls_base::memory::Memory;
 use mls_book::book::{Book, NodeId};

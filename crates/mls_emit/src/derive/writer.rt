@@ -1,17 +1,16 @@
 //! The lines of a part, written node by node: each has the step of its rule, behind those that bring its parts to the
 //! types that the rule asks for.
 
-use crate::derive::binders::both;
 use crate::derive::copies::push_checked;
-use crate::derive::envs::{with, without};
+use crate::derive::envs::{both, with, without};
 use crate::derive::known::{FirstPart, FirstParts, Globals};
 use crate::derive::puts::{Puts, add_puts, global_puts, let_puts, share_variables};
 use crate::derive::spines::Spines;
 use crate::derive::steps::{Conclusion, Steps, copied, node_of};
-use crate::labelled::labelled;
-use crate::layout::LaidOut;
-use crate::pose::{KnownTypes, Posing};
-use crate::tree::NodeIds;
+use mls_pairs::labelled::labelled;
+use mls_layout::layout::LaidOut;
+use mls_parts::pose::{KnownTypes, Posing};
+use mls_layout::tree::NodeIds;
 use mls_base::list::List;
 use mls_base::memory::Memory;
 use mls_book::book::{Field, Fields, Node, NodeId};

@@ -1,7 +1,7 @@
 use Rattle.std.proofs.Common.{◌++◌, ◌∷◌, [], ◌∙◌, List, sym, ap, subst, append_assoc}
 use Rattle.mls_deriv.specs.declared.derivation.BinderNode.{BinderNode}
 use Rattle.mls_emit.specs.Conclusions.{IsWith}
-use Rattle.mls_emit.specs.Scopes.{entry}
+use Rattle.mls_layout.specs.Scopes.{entry}
 use Rattle.mls_emit.specs.steps.Stepping.{above, below}
 use Rattle.mls_emit.proofs.Environments.{with_binder}
 use Rattle.mls_emit.proofs.derive.envs.with.Goals as goal

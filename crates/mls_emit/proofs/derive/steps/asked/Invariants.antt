@@ -2,8 +2,8 @@ use Rattle.std.proofs.Common.{◌≡◌, ◌∷◌, take}
 use Rattle.std.specs.List.{flat_map}
 use Rattle.mls_deriv.specs.declared.derivation.Mode.TheVariants.{Lr}
 use Rattle.mls_deriv.specs.Steps.{IsRising}
-use Rattle.mls_emit.specs.Emitted.{binder_pair}
-use Rattle.mls_emit.specs.PairLists.{pair_of}
+use Rattle.mls_layout.specs.Emitted.{binder_pair}
+use Rattle.mls_pairs.specs.PairLists.{pair_of}
 use Rattle.mls_emit.proofs.derive.steps.asked.Given as goal
 
 -- the pairs of the entries so far

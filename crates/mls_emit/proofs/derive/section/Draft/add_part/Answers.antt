@@ -2,8 +2,8 @@ use Rattle.std.proofs.Common.{ℕ, List, subst, sym}
 use Rattle.std.specs.Prelude.{All}
 use Rattle.std.proofs.lemmas.List.Elements.{Contains-get_or}
 use Rattle.mls_biunify.specs.Relations.{IsGoalOf}
-use Rattle.mls_emit.specs.PosedParts.{IsPartList}
-use Rattle.mls_emit.proofs.SplitParts.{part_list}
+use Rattle.mls_parts.specs.PosedParts.{IsPartList}
+use Rattle.mls_parts.proofs.SplitParts.{part_list}
 use Rattle.mls_emit.proofs.derive.section.Draft.add_part.Goals as goal
 
 -- `parts_of` gives the nodes of a part in order

@@ -1,8 +1,0 @@
-use Rattle.std.proofs.Common.{take}
-use Rattle.mls_emit.specs.steps.Reasons.{IsHeld}
-use Rattle.mls_emit.specs.steps.Rounds.{AreThose}
-use Rattle.mls_emit.proofs.derive.chosen.those_held.Given as goal
-
--- those so far
-abbrev pub invariant-loop-pair : goal.invariant-loop-pair
-invariant-loop-pair l = AreThose (IsHeld l.table) (take l.pair-index l.pairs) l.left

@@ -1,7 +1,0 @@
-use Rattle.std.proofs.Common.{take}
-use Rattle.mls_emit.specs.steps.Owners.{Gives, IsPart}
-use Rattle.mls_emit.proofs.derive.split.own_parts.Given as goal
-
--- the parts so far have the root
-abbrev pub invariant-loop-part : goal.invariant-loop-part
-invariant-loop-part l = Gives (IsPart (take l.part-index l.parts) l.root) l.initial.owners.items l.owners.items

@@ -1,6 +1,0 @@
-use Rattle.mls_emit.specs.steps.Owners.{AreSettled}
-use Rattle.mls_emit.proofs.derive.split.owners_of.Given as goal
-
--- the last nodes have given their parts to their owners
-abbrev pub invariant-loop-back : goal.invariant-loop-back
-invariant-loop-back l = AreSettled l.nodes l.back l.owners.items

@@ -1,8 +1,0 @@
-use Rattle.std.specs.BTreeMap.{get}
-use Rattle.std.specs.Ordering.{nat_cmp}
-use Rattle.mls_emit.specs.steps.Owners.{IsSplit}
-use Rattle.mls_emit.proofs.derive.split.split.Given as goal
-
--- the nodes so far are in their parts
-abbrev pub invariant-loop-node : goal.invariant-loop-node
-invariant-loop-node l = IsSplit l.owners l.node (get nat_cmp l.parts)

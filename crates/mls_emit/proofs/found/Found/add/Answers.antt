@@ -1,5 +1,0 @@
-use Rattle.mls_emit.proofs.Growing.{found_pushed}
-use Rattle.mls_emit.proofs.found.Found.add.Goals as goal
-
-pub returns : goal.returns
-returns c = found_pushed c.args.self.now c.mark.new.self c.push.new.self c.args.pair c.requires c.in_ok-mark.ensures c.in_ok-push.ensures.ok

@@ -1,6 +1,0 @@
-use Rattle.mls_emit.proofs.Growing.{found_next}
-use Rattle.mls_emit.proofs.found.Found.add_all.Goals as goal
-
-pub loop-pair-preserved : goal.loop-pair-preserved
-loop-pair-preserved c =
-    found_next c.args.self.now c.loop-pair.self c.add.new.self c.args.pairs.now c.loop-pair.pair-index _ c.loop-pair-test.true c.loop-pair.invariant c.in_ok-add.ensures

@@ -1,5 +1,0 @@
-use Rattle.mls_emit.proofs.Refuted.{justified_is_not_refuted}
-use Rattle.mls_emit.proofs.laws.justified_is_not_refuted.Goals as goal
-
-pub returns : goal.returns
-returns c = justified_is_not_refuted

@@ -1,6 +1,0 @@
-use Rattle.mls_emit.specs.steps.OwnNumbers.{HasNumbers}
-use Rattle.mls_emit.proofs.layout.numbers.owned_of.Given as goal
-
--- the numbers of the first states
-abbrev pub invariant-loop-s : goal.invariant-loop-s
-invariant-loop-s l = HasNumbers l.a l.start l.s l.end l.owned

@@ -1,8 +1,0 @@
-use Rattle.std.proofs.Common.{take}
-use Rattle.mls_emit.specs.steps.Sources.{Gathers, IsOfState}
-use Rattle.mls_emit.proofs.Gathering.{BySome}
-use Rattle.mls_emit.proofs.layout.values.entering.Given as goal
-
--- those of the first related states
-abbrev pub invariant-loop-p : goal.invariant-loop-p
-invariant-loop-p l = Gathers (BySome (take l.p-index l.p-items) (IsOfState l.a l.sources)) l.initial.ids l.ids

@@ -1,6 +1,0 @@
-use Rattle.std.proofs.Common.{take, All}
-use Rattle.mls_emit.specs.steps.Posable.{IsFree}
-use Rattle.mls_emit.proofs.posable.is_free_set.Given as goal
-
-abbrev pub invariant-loop-s : goal.invariant-loop-s
-invariant-loop-s l = All (IsFree l.states) (take l.s-index l.s-items)

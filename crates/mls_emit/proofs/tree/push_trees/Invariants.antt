@@ -1,7 +1,0 @@
-use Rattle.std.proofs.Common.{take}
-use Rattle.mls_emit.specs.Trees.{AddsTrees}
-use Rattle.mls_emit.proofs.tree.push_trees.Given as goal
-
--- the first trees
-abbrev pub invariant-loop-tree : goal.invariant-loop-tree
-invariant-loop-tree l = AddsTrees (take l.tree-index l.trees) l.fn.book l.book l.ids

@@ -1,0 +1,15 @@
+pub mod WorkedParts
+pub mod TreesMade
+pub mod LongerLayouts
+pub mod PlannedTrees
+pub mod Gathering
+pub mod Distinct
+pub mod Entering
+pub mod KnownNodes
+pub mod OwnNodes
+pub mod HeadParts
+pub mod PartsLaidOut
+pub mod KeySets
+pub mod TypeNodes
+pub mod OwnNumbers
+pub mod MetPairs

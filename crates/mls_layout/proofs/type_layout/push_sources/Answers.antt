@@ -1,0 +1,14 @@
+use Rattle.std.proofs.Common.{length, refl, subst}
+use Rattle.mls_layout.specs.steps.Sources.{AreParted}
+use Rattle.mls_layout.specs.steps.TypeNodes.{AddsVariables}
+use Rattle.mls_layout.proofs.type_layout.push_sources.Goals as goal
+
+pub returns : goal.returns
+returns c = record {
+  between = c.push_variables.new.book;
+  leaves = c.in_ok-leaves.leaves;
+  variables = subst (λ n. AddsVariables n c.args.book.now c.push_variables.new.book c.in_ok-variables.variables.items) c.len-states.ensures.len c.in_ok-variables.ensures;
+  added = c.in_ok-leaves.ensures;
+  parts = subst (λ n. AreParted c.args.a.now c.in_ok-leaves.leaves n (length c.args.a.now.states) c.in_ok-parts.parts.end c.in_ok-parts.parts.nodes) c.len-start.ensures.len c.in_ok-parts.ensures;
+  nothing = refl;
+}

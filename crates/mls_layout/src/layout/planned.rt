@@ -1,0 +1,124 @@
+//! Trees whose numbers are known before they are pushed, so that nodes before them can name them.
+ghost use Rattle.std.specs.Prelude.{◌≡◌, ◌<◌, ◌+◌, [], length, All, IfOk, OnOk};
+ghost use Rattle.mls_layout.specs.Trees.{IsNodeIn, tree_root, tree_size};
+ghost use Rattle.mls_layout.specs.steps.Planned.{AddsPlanned, Extends, HasTree, IsRoot, end_of, with_tree};
+
+use crate::layout::distinct::distinct;
+use crate::tree::{NodeIds, PlannedTree, push_planned};
+use mls_automaton::automaton::Polarity;
+use mls_base::list::List;
+use mls_base::memory::Memory;
+use mls_book::book::{Book, NodeId};
+use std::alloc::Global;
+use std::marker::Model;
+
+/// Trees that are to be pushed one after another onto a book. Contracts see how many nodes it has then, and the trees.
+#[derive(Drop)]
+pub(crate) struct PlannedTrees {
+    start: usize,
+    // The number of the node behind the trees.
+    end: usize,
+    trees: List<PlannedTree>,
+}
+
+impl Model for PlannedTrees {
+    ghost use Rattle.mls_layout.specs.steps.Planned.{IsCounted, Planned};
+
+    ghost Value = { Planned };
+
+    ghost view = { λ a. record { start = a.start; trees = a.trees } };
+
+    ghost invariant = { λ a. IsCounted a.start a.end a.trees };
+}
+
+/// The number that is so many higher. Where it does not fit, memory is wanting for so many nodes.
+pub(crate) fn after(number: usize, more: usize) -> Result<usize, Memory>
+    ensures { IfOk result (λ sum. sum ≡ number + more) }
+{
+    match number.checked_add(more) {
+        Some(sum) => Ok(sum),
+        None => Err(Memory),
+    }
+}
+
+// How many nodes the tree of these members adds.
+fn tree_size(members: &[NodeId]) -> usize
+    ensures { result ≡ tree_size members.now }
+{
+    match members.split_first() {
+        None => 1,
+        Some((_, rest)) => rest.len(),
+    }
+}
+
+// The number of the tree of these members, where its nodes have the numbers from `start` up to `end`.
+fn tree_root(start: usize, end: usize, members: &[NodeId]) -> NodeId
+    requires { end ≡ start + tree_size members.now }
+    ensures { result.0 ≡ tree_root start members.now }
+{
+    match members.split_first() {
+        None => NodeId(start),
+        Some((first, rest)) => {
+            if rest.is_empty() {
+                *first
+            } else {
+                NodeId(end - 1)
+            }
+        }
+    }
+}
+
+impl PlannedTrees {
+    /// No tree, where the first node is to have this number.
+    pub(crate) fn new(alloc: Global, start: usize) -> PlannedTrees
+        ensures { result ≡ record { start = start; trees = [] } }
+    {
+        PlannedTrees {
+            start,
+            end: start,
+            trees: List::new(alloc),
+        }
+    }
+
+    // Plans the tree of these members, and answers its number.
+    fn add(&mut self, polarity: Polarity, members: NodeIds) -> Result<NodeId, Memory>
+        requires { All (λ id. id.0 < end_of self.old) members }
+        ensures trees { OnOk result (self.new ≡ with_tree self.old polarity members) }
+        ensures root { IfOk result (λ id. IsRoot self.new polarity members id.0) }
+        ensures low { IfOk result (λ id. id.0 < end_of self.new) }
+    {
+        let size = tree_size(members.as_slice());
+        let end = after(self.end, size)?;
+        let root = tree_root(self.end, end, members.as_slice());
+        self.trees.push(PlannedTree { polarity, members })?;
+        self.end = end;
+        Ok(root)
+    }
+
+    /// Plans the tree of these members, each once, and answers its number.
+    pub(crate) fn plan(
+        &mut self,
+        alloc: Global,
+        polarity: Polarity,
+        members: NodeIds,
+    ) -> Result<NodeId, Memory>
+        requires { All (λ id. id.0 < end_of self.old) members }
+        ensures extends { OnOk result (Extends self.old self.new) }
+        ensures tree { IfOk result (λ id. HasTree self.new polarity (IsNodeIn members) id.0) }
+    {
+        let once = distinct(alloc, members)?;
+        let root = self.add(polarity, once)?;
+        Ok(root)
+    }
+
+    /// Pushes the trees.
+    pub(crate) fn push_onto(&self, book: &mut Book) -> Result<(), Memory>
+        requires { self.now.start ≡ length book.old }
+        ensures { OnOk result (AddsPlanned self.now book.old book.new) }
+    {
+        for tree in self.trees.as_slice() {
+            push_planned(book, tree)?;
+        }
+        Ok(())
+    }
+}

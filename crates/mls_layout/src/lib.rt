@@ -1,0 +1,13 @@
+//! The nodes of a type and of a part of a term, behind those of its type.
+#![tactic(auto)]
+
+pub mod layout;
+#[cfg(test)]
+mod tests;
+#[cfg(test)]
+mod tests_of_layout;
+#[cfg(test)]
+mod tests_of_types;
+pub mod tree;
+pub mod type_layout;
+pub mod walk;

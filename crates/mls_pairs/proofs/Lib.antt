@@ -1,0 +1,7 @@
+pub mod Refuted
+pub mod Needed
+pub mod Growing
+pub mod Rounding
+pub mod LinesRead
+pub mod TableShown
+pub mod Choosing

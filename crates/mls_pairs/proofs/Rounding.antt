@@ -1,0 +1,202 @@
+-- Rounds of deletions.
+--     those_looked                a list that is gone through
+--     those_same                  lists of two kinds that are the same
+--     those_length, those_all, those_smaller      how long it is, and where all is kept
+--     left_first, left_next       what is left
+--     left_last                   what is left when nothing is to be deleted
+use Rattle.std.proofs.Common.{◌≡◌, ◌↔◌, ◌⊎◌, inl, inr, Bool, true, false, ℕ, zero, suc, ◌<◌, ◌≤◌, List, [], ◌∷◌, ◌++◌, ◌+◌, take, length, refl, sym, ap, subst, arith}
+use Rattle.std.specs.Prelude.{All, Contains, get_or, IsTrue}
+use Rattle.std.proofs.lemmas.List.{take_more}
+use Rattle.std.proofs.lemmas.List.Elements.{All-nil, All-cons, Contains-append_left, Contains-append_right, Contains-append_cases}
+use Rattle.mls_book.specs.declared.book.Node.{Node}
+use Rattle.mls_deriv.specs.declared.claim.Pair.{Pair}
+use Rattle.mls_deriv.specs.declared.claim.Put.{Put}
+use Rattle.mls_deriv.specs.Pairs.{put_at, Claims, IsJustified, same_node}
+use Rattle.mls_deriv.proofs.CheckedSubs.{justified_more}
+use Rattle.mls_deriv.proofs.ScopedNames.{first_or_later}
+use Rattle.mls_pairs.specs.PairLists.{pair_of, IsOutside, IsRefuted, refuted, IsPairList}
+use Rattle.mls_pairs.specs.steps.Growth.{IsClosedList}
+use Rattle.mls_pairs.specs.steps.Needs.{IsPlainNode, needs_of}
+use Rattle.mls_pairs.specs.steps.Rounds.{AreThose, none, kept, gone, AddsKept, IsJustifiedBy, IsLeft}
+use Rattle.mls_pairs.proofs.Needed.{by_needs, Named}
+
+compared : (m n : ℕ) → m ≤ n → (m < n) ⊎ (m ≡ n)
+compared zero zero low = inr refl
+compared zero (suc n) low = inl (omega arith)
+compared (suc m) zero low = absurd (omega arith)
+compared (suc m) (suc n) low = go (compared m n (omega arith))
+  where
+    go : (m < n) ⊎ (m ≡ n) → (suc m < suc n) ⊎ (suc m ≡ suc n)
+    go (inl h) = inl (omega arith)
+    go (inr e) = inr (ap suc e)
+
+-- lists of two kinds that are the same
+pub those_same : (P Q : Pair → Type 0) → ((pair : Pair) → P pair ↔ Q pair) → (pairs left : List Pair) → AreThose P pairs left → AreThose Q pairs left
+those_same P Q same pairs left none = none
+those_same P Q same pairs left (kept {pairs = ps} {left = ls} first one rest) = kept first ((same first).0 one) (those_same P Q same ps ls rest)
+those_same P Q same pairs left (gone {pairs = ps} {left = ls} first one rest) = gone first (λ q. one ((same first).1 q)) (those_same P Q same ps ls rest)
+
+module _ (IsOne : Pair → Type 0) where
+  those_push : (pairs left : List Pair) (pair : Pair) → IsOne pair → AreThose IsOne pairs left → AreThose IsOne (pairs ++ pair ∷ []) (left ++ pair ∷ [])
+  those_push pairs left pair is none = kept pair is none
+  those_push pairs left pair is (kept first one rest) = kept first one (those_push _ _ pair is rest)
+  those_push pairs left pair is (gone first one rest) = gone first one (those_push _ _ pair is rest)
+
+  those_skip : (pairs left : List Pair) (pair : Pair) → (IsOne pair → ⊥) → AreThose IsOne pairs left → AreThose IsOne (pairs ++ pair ∷ []) left
+  those_skip pairs left pair is none = gone pair is none
+  those_skip pairs left pair is (kept first one rest) = kept first one (those_skip _ _ pair is rest)
+  those_skip pairs left pair is (gone first one rest) = gone first one (those_skip _ _ pair is rest)
+
+  -- one more of a list is looked at
+  pub those_looked : (pairs left new : List Pair) (i : ℕ) (d : Pair) (is_kept : Bool) → i < length pairs → IsTrue is_kept ↔ IsOne (get_or pairs i d)
+      → AddsKept is_kept (get_or pairs i d) left new → AreThose IsOne (take i pairs) left → AreThose IsOne (take (i + 1) pairs) new
+  those_looked pairs left new i d true low exactly adds those =
+      subst (λ ps. AreThose IsOne ps new) (sym (take_more pairs i d low))
+      (subst (AreThose IsOne (take i pairs ++ get_or pairs i d ∷ [])) (sym (adds.0 refl)) (those_push (take i pairs) left (get_or pairs i d) (exactly.0 refl) those))
+  those_looked pairs left new i d false low exactly adds those =
+      subst (λ ps. AreThose IsOne ps new) (sym (take_more pairs i d low))
+      (subst (AreThose IsOne (take i pairs ++ get_or pairs i d ∷ [])) (sym (adds.1 refl))
+      (those_skip (take i pairs) left (get_or pairs i d) (λ h. let e : false ≡ true = exactly.1 h in absurd (cc)) those))
+
+  pub those_length : (pairs left : List Pair) → AreThose IsOne pairs left → length left ≤ length pairs
+  those_length pairs left none = omega arith
+  those_length pairs left (kept {pairs = ps} {left = ls} first one rest) = let low : length ls ≤ length ps = those_length ps ls rest in omega arith
+  those_length pairs left (gone {pairs = ps} {left = ls} first one rest) = let low : length ls ≤ length ps = those_length ps ls rest in omega arith
+
+  -- where nothing is gone, all are of this kind
+  pub those_all : (pairs left : List Pair) → AreThose IsOne pairs left → length left ≡ length pairs → All IsOne pairs
+  those_all pairs left none same = All-nil IsOne
+  those_all pairs left (kept {pairs = ps} {left = ls} first one rest) same = All-cons IsOne first ps one (those_all ps ls rest (let e : suc (length ls) ≡ suc (length ps) = same in omega arith))
+  those_all pairs left (gone {pairs = ps} {left = ls} first one rest) same =
+      let low : length ls ≤ length ps = those_length ps ls rest in
+      absurd (let e : length ls ≡ suc (length ps) = same in omega arith)
+
+  -- else some are gone
+  pub those_smaller : (pairs left : List Pair) → AreThose IsOne pairs left → (length left ≡ length pairs → ⊥) → length left < length pairs
+  those_smaller pairs left those other = go (compared (length left) (length pairs) (those_length pairs left those))
+    where
+      go : (length left < length pairs) ⊎ (length left ≡ length pairs) → length left < length pairs
+      go (inl h) = h
+      go (inr e) = absurd (other e)
+
+  -- those that are gone
+  abbrev pub those_gone : (pairs left : List Pair) → AreThose IsOne pairs left → List Pair
+  those_gone pairs left none = []
+  those_gone pairs left (kept {pairs = ps} {left = ls} first one rest) = those_gone ps ls rest
+  those_gone pairs left (gone {pairs = ps} {left = ls} first one rest) = first ∷ those_gone ps ls rest
+
+  later : (x y : Pair) (xs : List Pair) → Contains xs y → Contains (x ∷ xs) y
+  later x y xs h = (suc h.0, (let low : h.0 < length xs = h.1 in omega arith), h.2)
+
+  gone_is_not : (pairs left : List Pair) (those : AreThose IsOne pairs left) (pair : Pair) → Contains (those_gone pairs left those) pair → (IsOne pair → ⊥) × Contains pairs pair
+  gone_is_not pairs left none pair there = absurd (let low : there.0 < 0 = there.1 in omega arith)
+  gone_is_not pairs left (kept {pairs = ps} {left = ls} first one rest) pair there =
+      let it = gone_is_not ps ls rest pair there in
+      (it.0, later first pair ps it.1)
+  gone_is_not pairs left (gone {pairs = ps} {left = ls} first one rest) pair there = go (first_or_later first (those_gone ps ls rest) pair there) (gone_is_not ps ls rest pair)
+    where
+      go : (first ≡ pair) ⊎ Contains (those_gone ps ls rest) pair → (Contains (those_gone ps ls rest) pair → (IsOne pair → ⊥) × Contains ps pair) → (IsOne pair → ⊥) × Contains (first ∷ ps) pair
+      go (inl e) inside = (subst (λ q. IsOne q → ⊥) e one, (0, omega arith, e))
+      go (inr h) inside =
+          let it = inside h in
+          (it.0, later first pair ps it.1)
+
+  left_or_gone : (pairs left : List Pair) (those : AreThose IsOne pairs left) (pair : Pair) → Contains pairs pair → Contains left pair ⊎ Contains (those_gone pairs left those) pair
+  left_or_gone pairs left none pair there = absurd (let low : there.0 < 0 = there.1 in omega arith)
+  left_or_gone pairs left (kept {pairs = ps} {left = ls} first one rest) pair there = go (first_or_later first ps pair there) (left_or_gone ps ls rest pair)
+    where
+      go : (first ≡ pair) ⊎ Contains ps pair → (Contains ps pair → Contains ls pair ⊎ Contains (those_gone ps ls rest) pair) → Contains (first ∷ ls) pair ⊎ Contains (those_gone ps ls rest) pair
+      go (inl e) inside = inl (0, omega arith, e)
+      go (inr h) inside = either (inside h)
+        where
+          either : Contains ls pair ⊎ Contains (those_gone ps ls rest) pair → Contains (first ∷ ls) pair ⊎ Contains (those_gone ps ls rest) pair
+          either (inl l) = inl (later first pair ls l)
+          either (inr g) = inr g
+  left_or_gone pairs left (gone {pairs = ps} {left = ls} first one rest) pair there = go (first_or_later first ps pair there) (left_or_gone ps ls rest pair)
+    where
+      go : (first ≡ pair) ⊎ Contains ps pair → (Contains ps pair → Contains ls pair ⊎ Contains (those_gone ps ls rest) pair) → Contains ls pair ⊎ Contains (first ∷ those_gone ps ls rest) pair
+      go (inl e) inside = inr (0, omega arith, e)
+      go (inr h) inside = either (inside h)
+        where
+          either : Contains ls pair ⊎ Contains (those_gone ps ls rest) pair → Contains ls pair ⊎ Contains (first ∷ those_gone ps ls rest) pair
+          either (inl l) = inl l
+          either (inr g) = inr (later first pair (those_gone ps ls rest) g)
+
+  left_there : (pairs left : List Pair) → AreThose IsOne pairs left → (pair : Pair) → Contains left pair → Contains pairs pair
+  left_there pairs left none pair there = there
+  left_there pairs left (kept {pairs = ps} {left = ls} first one rest) pair there = go (first_or_later first ls pair there) (left_there ps ls rest pair)
+    where
+      go : (first ≡ pair) ⊎ Contains ls pair → (Contains ls pair → Contains ps pair) → Contains (first ∷ ps) pair
+      go (inl e) inside = (0, omega arith, e)
+      go (inr h) inside = later first pair ps (inside h)
+  left_there pairs left (gone {pairs = ps} {left = ls} first one rest) pair there = later first pair ps (left_there ps ls rest pair there)
+
+module _ (book : List Node) (puts : List Put) (wanted : List Pair) where
+  pub left_first : (pairs : List Pair) → IsClosedList book (put_at puts) wanted pairs → IsLeft book puts wanted pairs
+  left_first pairs closed = record {
+    first = pairs;
+    closed = closed;
+    gone = [];
+    within = λ pair there. there;
+    refuted = λ pair there. absurd (let low : there.0 < 0 = there.1 in omega arith);
+    either = λ pair there. inl there;
+  }
+
+  -- a pair of the list that the list does not justify is refuted
+  now_refuted : (pairs : List Pair) (it : IsLeft book puts wanted pairs) (pair : Pair) → Contains pairs pair → (IsJustifiedBy book puts pairs pair → ⊥) → IsRefuted book puts pair
+  now_refuted pairs it pair there not_so = refuted it.gone it.refuted unjustified
+    where
+      -- a node is below itself
+      apart : IsPlainNode pair → ⊥
+      apart same = not_so (same_node same.0 same.1)
+
+      still : (other : Pair) → Contains (needs_of book (put_at puts) pair) other → (Contains it.gone other → ⊥) → Contains pairs other
+      still other needed outside = go (it.either other (it.closed.closed pair other (it.within pair there) apart needed))
+        where
+          go : Contains pairs other ⊎ Contains it.gone other → Contains pairs other
+          go (inl h) = h
+          go (inr h) = absurd (outside h)
+
+      unjustified : IsJustified book puts (IsOutside it.gone) pair.mode pair.left pair.right → ⊥
+      unjustified h =
+          not_so
+          (justified_more book puts (Named book puts (IsOutside it.gone) pair.mode pair.left pair.right) (Claims pairs)
+          (λ m k l named. still (pair_of m k l) named.1 named.0) pair.mode pair.left pair.right
+          (by_needs book puts (IsOutside it.gone) pair.mode pair.left pair.right h))
+
+  pub left_next : (pairs left : List Pair) → IsLeft book puts wanted pairs → AreThose (IsJustifiedBy book puts pairs) pairs left → IsLeft book puts wanted left
+  left_next pairs left it those = record {
+    first = it.first;
+    closed = it.closed;
+    gone = it.gone ++ now;
+    within = λ pair there. it.within pair (left_there (IsJustifiedBy book puts pairs) pairs left those pair there);
+    refuted = λ pair there. all_refuted pair (Contains-append_cases it.gone now pair there);
+    either = λ pair there. either pair (it.either pair there);
+  }
+    where
+      now : List Pair
+      now = those_gone (IsJustifiedBy book puts pairs) pairs left those
+
+      all_refuted : (pair : Pair) → Contains it.gone pair ⊎ Contains now pair → IsRefuted book puts pair
+      all_refuted pair (inl h) = it.refuted pair h
+      all_refuted pair (inr h) =
+          let is = gone_is_not (IsJustifiedBy book puts pairs) pairs left those pair h in
+          now_refuted pairs it pair is.1 is.0
+
+      either : (pair : Pair) → Contains pairs pair ⊎ Contains it.gone pair → Contains left pair ⊎ Contains (it.gone ++ now) pair
+      either pair (inr h) = inr (Contains-append_left it.gone now pair h)
+      either pair (inl h) = go (left_or_gone (IsJustifiedBy book puts pairs) pairs left those pair h)
+        where
+          go : Contains left pair ⊎ Contains now pair → Contains left pair ⊎ Contains (it.gone ++ now) pair
+          go (inl l) = inl l
+          go (inr g) = inr (Contains-append_right it.gone now pair g)
+
+  pub left_last : (pairs left : List Pair) → IsLeft book puts wanted pairs → AreThose (IsJustifiedBy book puts pairs) pairs left → length left ≡ length pairs → IsPairList book puts wanted pairs
+  left_last pairs left it those same = record {
+    justified = those_all (IsJustifiedBy book puts pairs) pairs left those same;
+    has = λ pair there. go pair (it.either pair (it.closed.has_wanted pair there));
+  }
+    where
+      go : (pair : Pair) → Contains pairs pair ⊎ Contains it.gone pair → Contains pairs pair ⊎ IsRefuted book puts pair
+      go pair (inl h) = inl h
+      go pair (inr h) = inr (it.refuted pair h)

@@ -1,0 +1,4 @@
+pub mod Lines
+pub mod PairLists
+pub mod ChosenLists
+pub mod steps

@@ -1,0 +1,407 @@
+//! The pairs that are left of a list where each pair keeps one of its reasons.
+ghost use Rattle.std.specs.Prelude.{◌≡◌, ◌↔◌, ◌⊎◌, ◌∷◌, [], All, IfOk, IfSome, IsTrue, Some};
+ghost use Rattle.mls_deriv.specs.Pairs.{AreJustified};
+ghost use Rattle.mls_pairs.specs.ChosenLists.{IsChosen};
+ghost use Rattle.mls_pairs.specs.PairLists.{pair_of};
+ghost use Rattle.mls_pairs.specs.steps.Reasons.{AreEndPairs, BothReason, FieldsReason, IsHeld, IsReasonFor};
+ghost use Rattle.mls_pairs.specs.steps.Reasons.{IsReasonOf, IsShownAt, LeftReason, LeftVariable, RightReason};
+ghost use Rattle.mls_pairs.specs.steps.Reasons.{RightVariable};
+ghost use Rattle.mls_pairs.specs.steps.Rounds.{AreThose, IsShownBy};
+
+use crate::found::Found;
+use crate::lines::table_with;
+use crate::needs::{exchanged, left_node, node_needs, push_fields, right_node};
+use crate::pairs::Pairs;
+use crate::thin::add_kept;
+use mls_base::memory::Memory;
+use mls_book::book::{Book, Fields, Node, NodeId};
+use mls_deriv::claim::{Pair, Put};
+use mls_deriv::derivation::Mode;
+use mls_deriv::justify::node_or;
+use mls_deriv::table::Table;
+use std::alloc::Global;
+
+// Whether the list has a pair.
+fn has(table: &Table, pair: Pair) -> bool
+    ensures { IsTrue result ↔ IsHeld table.now pair }
+{
+    table.holds(pair.mode, pair.left, pair.right)
+}
+
+// Whether the list has each of these pairs.
+fn has_all(table: &Table, pairs: &Pairs) -> bool
+    ensures { IsTrue result ↔ All (IsHeld table.now) pairs.now }
+{
+    pairs.as_slice().iter().all(|pair| has(table, *pair))
+}
+
+// The pairs, where the list has each of them.
+fn held(table: &Table, found: Option<Pairs>) -> Option<Pairs>
+    ensures same { IfSome result (λ reason. found ≡ Some reason) }
+    ensures held { IfSome result (All (IsHeld table.now)) }
+{
+    match found {
+        Some(reason) => {
+            if has_all(table, &reason) {
+                Some(reason)
+            } else {
+                None
+            }
+        }
+        None => None,
+    }
+}
+
+// The pairs of these that the list has, in order.
+fn those_held(alloc: Global, table: &Table, pairs: &[Pair]) -> Result<Pairs, Memory>
+    ensures { IfOk result (AreThose (IsHeld table.now) pairs.now) }
+{
+    let mut left = Pairs::new(alloc);
+    for pair in pairs {
+        let is_kept = has(table, *pair);
+        add_kept(&mut left, *pair, is_kept)?;
+    }
+    Ok(left)
+}
+
+// One pair alone.
+fn only(alloc: Global, pair: Pair) -> Result<Pairs, Memory>
+    ensures { IfOk result (λ pairs. pairs ≡ pair ∷ []) }
+{
+    let mut pairs = Pairs::new(alloc);
+    pairs.push(pair)?;
+    Ok(pairs)
+}
+
+// Two pairs.
+fn two(alloc: Global, first: Pair, second: Pair) -> Result<Pairs, Memory>
+    ensures { IfOk result (λ pairs. pairs ≡ first ∷ second ∷ []) }
+{
+    let mut pairs = Pairs::new(alloc);
+    pairs.push(first)?;
+    pairs.push(second)?;
+    Ok(pairs)
+}
+
+// The same pair with another node on the left.
+fn with_left(pair: Pair, id: NodeId) -> Pair
+    ensures { result ≡ pair_of pair.mode id.0 pair.right }
+{
+    Pair {
+        mode: pair.mode,
+        left: id.0,
+        right: pair.right,
+    }
+}
+
+// The same pair with another node on the right.
+fn with_right(pair: Pair, id: NodeId) -> Pair
+    ensures { result ≡ pair_of pair.mode pair.left id.0 }
+{
+    Pair {
+        mode: pair.mode,
+        left: pair.left,
+        right: id.0,
+    }
+}
+
+// Nodes that are read plainly.
+fn plain(left: usize, right: usize) -> Pair
+    ensures { result ≡ pair_of Mode.Pp left right }
+{
+    Pair {
+        mode: Mode::Pp,
+        left,
+        right,
+    }
+}
+
+// The left node is nothing, or a join of lower ones.
+fn by_left(alloc: Global, pair: Pair, left: &Node) -> Result<Option<Pairs>, Memory>
+    ensures { IfOk result (λ found. IfSome found (LeftReason pair left.now)) }
+{
+    match left {
+        Node::Bot => Ok(Some(Pairs::new(alloc))),
+        Node::Join(l, r) => {
+            let reason = two(alloc, with_left(pair, *l), with_left(pair, *r))?;
+            Ok(Some(reason))
+        }
+        _ => Ok(None),
+    }
+}
+
+// The right node is all, or a meet of higher ones.
+fn by_right(alloc: Global, pair: Pair, right: &Node) -> Result<Option<Pairs>, Memory>
+    ensures { IfOk result (λ found. IfSome found (RightReason pair right.now)) }
+{
+    match right {
+        Node::Top => Ok(Some(Pairs::new(alloc))),
+        Node::Meet(l, r) => {
+            let reason = two(alloc, with_right(pair, *l), with_right(pair, *r))?;
+            Ok(Some(reason))
+        }
+        _ => Ok(None),
+    }
+}
+
+// A variable on the left stands for a node.
+fn by_left_variable(
+    alloc: Global,
+    table: &Table,
+    pair: Pair,
+    left: &Node,
+) -> Result<Option<Pairs>, Memory>
+    ensures { IfOk result (λ found. IfSome found (LeftVariable table.now pair left.now)) }
+{
+    match left {
+        Node::Var(x) => match left_node(pair.mode, table, *x) {
+            Some(node) => {
+                let reason = only(alloc, plain(node, pair.right))?;
+                Ok(Some(reason))
+            }
+            None => Ok(None),
+        },
+        _ => Ok(None),
+    }
+}
+
+// A variable on the right stands for a node.
+fn by_right_variable(
+    alloc: Global,
+    table: &Table,
+    pair: Pair,
+    right: &Node,
+) -> Result<Option<Pairs>, Memory>
+    ensures { IfOk result (λ found. IfSome found (RightVariable table.now pair right.now)) }
+{
+    match right {
+        Node::Var(x) => match right_node(pair.mode, table, *x) {
+            Some(node) => {
+                let reason = only(alloc, plain(pair.left, node))?;
+                Ok(Some(reason))
+            }
+            None => Ok(None),
+        },
+        _ => Ok(None),
+    }
+}
+
+// Functions whose domains and codomains are in order.
+fn by_functions(
+    alloc: Global,
+    mode: Mode,
+    left: (NodeId, NodeId),
+    right: (NodeId, NodeId),
+) -> Result<Pairs, Memory>
+    ensures { IfOk result (AreEndPairs mode left right) }
+{
+    let domains = Pair {
+        mode: exchanged(mode),
+        left: right.0.0,
+        right: left.0.0,
+    };
+    let codomains = Pair {
+        mode,
+        left: left.1.0,
+        right: right.1.0,
+    };
+    two(alloc, domains, codomains)
+}
+
+// Records whose fields are in order, where the left one has each label of the right one.
+fn by_fields(
+    alloc: Global,
+    mode: Mode,
+    fields: &Fields,
+    others: &Fields,
+) -> Result<Option<Pairs>, Memory>
+    ensures { IfOk result (λ found. IfSome found (FieldsReason mode fields.now others.now)) }
+{
+    let mut reason = Pairs::new(alloc);
+    push_fields(&mut reason, mode, fields, others)?;
+    if reason.len() == others.as_slice().len() {
+        Ok(Some(reason))
+    } else {
+        Ok(None)
+    }
+}
+
+// Both nodes are of one kind, and their parts are in order.
+fn by_both(alloc: Global, pair: Pair, left: &Node, right: &Node) -> Result<Option<Pairs>, Memory>
+    ensures { IfOk result (λ found. IfSome found (BothReason pair left.now right.now)) }
+{
+    match (left, right) {
+        (Node::Arrow(a, b), Node::Arrow(c, d)) => {
+            let reason = by_functions(alloc, pair.mode, (*a, *b), (*c, *d))?;
+            Ok(Some(reason))
+        }
+        (Node::Rcd(fields), Node::Rcd(others)) => by_fields(alloc, pair.mode, fields, others),
+        _ => Ok(None),
+    }
+}
+
+// The first of two pairs that the list has, or else the second one.
+fn either(table: &Table, first: Pair, second: Pair) -> Pair
+    ensures { (result ≡ first) ⊎ (result ≡ second) }
+{
+    if has(table, first) { first } else { second }
+}
+
+// One member of a join on the right is higher.
+fn by_join(alloc: Global, table: &Table, pair: Pair, right: &Node) -> Result<Option<Pairs>, Memory>
+    ensures { IfOk result (λ found. IfSome found (RightReason pair right.now)) }
+{
+    match right {
+        Node::Join(l, r) => {
+            let (first, second) = (with_right(pair, *l), with_right(pair, *r));
+            let one = if r.0 == pair.left {
+                either(table, second, first)
+            } else {
+                either(table, first, second)
+            };
+            let reason = only(alloc, one)?;
+            Ok(Some(reason))
+        }
+        _ => Ok(None),
+    }
+}
+
+// One member of a meet on the left is lower.
+fn by_meet(alloc: Global, table: &Table, pair: Pair, left: &Node) -> Result<Option<Pairs>, Memory>
+    ensures { IfOk result (λ found. IfSome found (LeftReason pair left.now)) }
+{
+    match left {
+        Node::Meet(l, r) => {
+            let (first, second) = (with_left(pair, *l), with_left(pair, *r));
+            let one = if r.0 == pair.right {
+                either(table, second, first)
+            } else {
+                either(table, first, second)
+            };
+            let reason = only(alloc, one)?;
+            Ok(Some(reason))
+        }
+        _ => Ok(None),
+    }
+}
+
+// All pairs of the list that the rules name for these nodes.
+fn by_needs(
+    alloc: Global,
+    table: &Table,
+    pair: Pair,
+    left: &Node,
+    right: &Node,
+) -> Result<Pairs, Memory>
+    requires { IsShownAt table.now pair left.now right.now }
+    ensures { IfOk result (IsReasonFor table.now pair left.now right.now) }
+{
+    let needs = node_needs(alloc, table, pair, left, right)?;
+    let reason = those_held(alloc, table, needs.as_slice())?;
+    Ok(reason)
+}
+
+// A reason that the list has, where each side is looked at alone.
+fn by_one(
+    alloc: Global,
+    table: &Table,
+    pair: Pair,
+    left: &Node,
+    right: &Node,
+) -> Result<Option<Pairs>, Memory>
+    ensures { IfOk result (λ found. IfSome found (IsReasonFor table.now pair left.now right.now)) }
+{
+    if let Some(reason) = held(table, by_left(alloc, pair, left)?) {
+        return Ok(Some(reason));
+    }
+    if let Some(reason) = held(table, by_right(alloc, pair, right)?) {
+        return Ok(Some(reason));
+    }
+    if let Some(reason) = held(table, by_left_variable(alloc, table, pair, left)?) {
+        return Ok(Some(reason));
+    }
+    Ok(held(table, by_right_variable(alloc, table, pair, right)?))
+}
+
+// A reason that the list has, where one member of a join or a meet is chosen.
+fn by_member(
+    alloc: Global,
+    table: &Table,
+    pair: Pair,
+    left: &Node,
+    right: &Node,
+) -> Result<Option<Pairs>, Memory>
+    ensures { IfOk result (λ found. IfSome found (IsReasonFor table.now pair left.now right.now)) }
+{
+    if let Some(reason) = held(table, by_join(alloc, table, pair, right)?) {
+        return Ok(Some(reason));
+    }
+    Ok(held(table, by_meet(alloc, table, pair, left)?))
+}
+
+// The pairs of one reason that the list has for a pair of these nodes.
+fn reason_at(
+    alloc: Global,
+    table: &Table,
+    pair: Pair,
+    left: &Node,
+    right: &Node,
+) -> Result<Pairs, Memory>
+    requires { IsShownAt table.now pair left.now right.now }
+    ensures { IfOk result (IsReasonFor table.now pair left.now right.now) }
+{
+    if pair.mode == Mode::Pp && pair.left == pair.right {
+        return Ok(Pairs::new(alloc));
+    }
+    if let Some(reason) = by_one(alloc, table, pair, left, right)? {
+        return Ok(reason);
+    }
+    if let Some(reason) = held(table, by_both(alloc, pair, left, right)?) {
+        return Ok(reason);
+    }
+    if let Some(reason) = by_member(alloc, table, pair, left, right)? {
+        return Ok(reason);
+    }
+    by_needs(alloc, table, pair, left, right)
+}
+
+// The pairs of one reason that the list has for a pair which it shows.
+fn reason_for(alloc: Global, book: &Book, table: &Table, pair: Pair) -> Result<Pairs, Memory>
+    requires { IsShownBy book.now table.now pair }
+    ensures { IfOk result (IsReasonOf book.now table.now pair) }
+{
+    let bot = Node::Bot;
+    let left = node_or(book, NodeId(pair.left), &bot);
+    let right = node_or(book, NodeId(pair.right), &bot);
+    let reason = reason_at(alloc, table, pair, left, right)?;
+    Ok(reason)
+}
+
+/// The pairs of a list that justifies itself which are wanted, and those of one reason for each pair that is left.
+///
+/// # Errors
+///
+/// `Memory` where memory is wanting.
+pub fn chosen_of(
+    alloc: Global,
+    book: &Book,
+    puts: &[Put],
+    pairs: &Pairs,
+    wanted: &[Pair],
+) -> Result<Pairs, Memory>
+    requires { AreJustified book.now puts.now pairs.now }
+    ensures { IfOk result (IsChosen book.now puts.now wanted.now pairs.now) }
+{
+    let table = table_with(alloc, puts, pairs)?;
+    let held = those_held(alloc, &table, wanted)?;
+    let mut chosen = Found::new(alloc);
+    chosen.add_all(held.as_slice())?;
+    let mut next = 0;
+    while next < chosen.len() {
+        let pair = chosen.at(next);
+        let reason = reason_for(alloc, book, &table, pair)?;
+        chosen.add_all(reason.as_slice())?;
+        next += 1;
+    }
+    Ok(chosen.pairs)
+}

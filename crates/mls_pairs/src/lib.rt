@@ -1,0 +1,14 @@
+//! The pairs of a step by subsumption: those that are wanted, with pairs that justify them.
+#![tactic(auto)]
+
+pub mod chosen;
+mod found;
+mod justify;
+pub mod labelled;
+pub mod laws;
+pub mod lines;
+mod needs;
+pub mod pairs;
+#[cfg(test)]
+mod tests;
+mod thin;

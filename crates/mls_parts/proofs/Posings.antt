@@ -1,0 +1,174 @@
+-- Posing a node adds states, edges and goals.
+--     result_made         a positive state, and a negative one that flows into it
+--     result_added        a form that has such states
+--     bound_added         a use of a binder
+use Rattle.std.proofs.Common.{◌≡◌, ◌⊎◌, ◌↔◌, inl, inr, ℕ, suc, ◌+◌, List, [], ◌∷◌, ◌++◌, length, refl, sym, ap, ◌∙◌, subst, arith, Some, length-append, Contains, get_or, ◌<◌}
+use Rattle.std.specs.BTreeMap.{Updates}
+use Rattle.std.specs.Ordering.{nat_cmp}
+use Rattle.std.proofs.Math.ListN.{get_or-append}
+use Rattle.std.proofs.lemmas.List.{append_assoc}
+use Rattle.std.proofs.lemmas.List.Elements.{Contains-append_left, Contains-push, Contains-push_cases}
+use Rattle.mls_automaton.specs.declared.automaton.Flow.{Flow}
+use Rattle.mls_automaton.specs.declared.automaton.Polarity.{Polarity}
+use Rattle.mls_automaton.specs.declared.automaton.Polarity.TheVariants.{Positive}
+use Rattle.mls_automaton.specs.declared.automaton.Head.{Head}
+use Rattle.mls_automaton.specs.declared.automaton.State.{State}
+use Rattle.mls_automaton.specs.Automata.{Automaton, empty_head, with_state, HasFlow, IsState}
+use Rattle.mls_biunify.specs.declared.goal.Goal.{Goal}
+use Rattle.mls_parts.specs.declared.pose.Need.{Need}
+use Rattle.mls_parts.specs.declared.pose.Posing.{Posing}
+use Rattle.mls_parts.specs.Posings.{Adds, OneEdge, literal_added, negative, number_at, positive, root_in, size}
+use Rattle.mls_parts.specs.steps.Results.{AddsEdges, HasResult}
+
+abbrev pub no_needs : List Need
+no_needs = []
+
+pub nil_behind : {X : Type 0} (xs : List X) → xs ++ [] ≡ xs
+nil_behind [] = refl
+nil_behind (x ∷ xs) = ap (λ ys. x ∷ ys) (nil_behind xs)
+
+pub result_made : (p : Posing) (b d e : Automaton) (h k : Head) (root into : ℕ) → h ≡ empty_head → k ≡ empty_head
+    → b ≡ with_state p.automaton (positive h) → d ≡ with_state b (negative k) → root ≡ length p.automaton.states → into ≡ length b.states
+    → e.states ≡ d.states → ((n s : ℕ) → HasFlow e n s ↔ (HasFlow d n s ⊎ ((n ≡ into) × (s ≡ root))))
+    → HasResult p (record p { automaton = e })
+result_made p b d e h k root into is_h is_k is_b is_d is_root is_into same flows =
+    let states_b : b.states ≡ p.automaton.states ++ positive empty_head ∷ [] = ap (λ (a : Automaton). a.states) is_b ∙ ap (λ (x : Head). p.automaton.states ++ positive x ∷ []) is_h in
+    let states_d : d.states ≡ b.states ++ negative empty_head ∷ [] = ap (λ (a : Automaton). a.states) is_d ∙ ap (λ (x : Head). b.states ++ negative x ∷ []) is_k in
+    let flows_d : d.flows ≡ p.automaton.flows = ap (λ (a : Automaton). a.flows) is_d ∙ ap (λ (a : Automaton). a.flows) is_b in
+    let many : length b.states ≡ length p.automaton.states + 1 = ap length states_b ∙ length-append p.automaton.states (positive empty_head ∷ []) in
+    let into_is : into ≡ suc (size p) = let at : into ≡ length b.states = is_into in omega (arith, at, many) in
+    record {
+      states =
+          same
+          ∙ (states_d
+          ∙ (ap (λ (xs : List State). xs ++ negative empty_head ∷ []) states_b
+          ∙ append_assoc p.automaton.states (positive empty_head ∷ []) (negative empty_head ∷ [])));
+      flows = λ n s.
+          let first = subst (λ w. (HasFlow e n s ↔ (HasFlow d n s ⊎ ((n ≡ w) × (s ≡ root))))) into_is (flows n s) in
+          let it = subst (λ w. (HasFlow e n s ↔ (HasFlow d n s ⊎ ((n ≡ suc (size p)) × (s ≡ w))))) is_root first in
+          let P : List Flow → Type 0 = λ (fs : List Flow). (HasFlow e n s ↔ (HasFlow (record { states = d.states; flows = fs }) n s ⊎ OneEdge (suc (size p)) (size p) n s)) in
+          subst P flows_d it;
+      goals = refl;
+      needs = refl;
+      roots = refl;
+      binders = refl;
+    }
+
+pub result_added : (p m q : Posing) (i root : ℕ) (b : Automaton) (h k : Head) (goals : List Goal) → HasResult p m → root ≡ size p
+    → b ≡ with_state m.automaton (negative h) → h ≡ k → q.automaton ≡ b → q.goals ≡ m.goals ++ goals → q.needs ≡ m.needs
+    → Updates nat_cmp m.roots q.roots i (Some root) → q.binders ≡ m.binders
+    → Adds p q i (record { states = positive empty_head ∷ negative empty_head ∷ negative k ∷ []; goals = goals; needs = no_needs; root = size p }) (OneEdge (suc (size p)) (size p))
+result_added p m q i root b h k goals it is_root is_b is_h is_q goals_are needs_are updates binders_are =
+    let q_is : q.automaton ≡ with_state m.automaton (negative k) = is_q ∙ (is_b ∙ ap (λ (x : Head). with_state m.automaton (negative x)) is_h) in
+    record {
+      states =
+          ap (λ (a : Automaton). a.states) q_is
+          ∙ (ap (λ (xs : List State). xs ++ negative k ∷ []) it.states
+          ∙ append_assoc p.automaton.states (positive empty_head ∷ negative empty_head ∷ []) (negative k ∷ []));
+      flows = λ n s.
+          subst (λ (a : Automaton). (HasFlow a n s ↔ (HasFlow p.automaton n s ⊎ OneEdge (suc (size p)) (size p) n s))) (sym q_is) (it.flows n s);
+      goals = goals_are ∙ ap (λ (gs : List Goal). gs ++ goals) it.goals;
+      needs = needs_are ∙ (it.needs ∙ sym (nil_behind p.needs));
+      roots = subst (λ rs. Updates nat_cmp rs q.roots i (Some (size p))) it.roots (subst (λ r. Updates nat_cmp m.roots q.roots i (Some r)) is_root updates);
+      binders = binders_are ∙ it.binders;
+    }
+
+pub bound_added : (p q : Posing) (i state root : ℕ) (b : Automaton) (h : Head) → b ≡ with_state p.automaton (positive h) → h ≡ empty_head → root ≡ size p
+    → q.automaton.states ≡ b.states → ((n s : ℕ) → HasFlow q.automaton n s ↔ (HasFlow b n s ⊎ ((n ≡ state) × (s ≡ root))))
+    → q.goals ≡ p.goals → q.needs ≡ p.needs → Updates nat_cmp p.roots q.roots i (Some root) → q.binders ≡ p.binders
+    → Adds p q i (literal_added (size p) empty_head) (OneEdge state (size p))
+bound_added p q i state root b h is_b is_h is_root same flows goals_are needs_are updates binders_are =
+    let states_b : b.states ≡ p.automaton.states ++ positive empty_head ∷ [] = ap (λ (a : Automaton). a.states) is_b ∙ ap (λ (x : Head). p.automaton.states ++ positive x ∷ []) is_h in
+    let flows_b : b.flows ≡ p.automaton.flows = ap (λ (a : Automaton). a.flows) is_b in
+    record {
+      states = same ∙ states_b;
+      flows = λ n s.
+          let P : List Flow → Type 0 = λ fs. (HasFlow q.automaton n s ↔ (HasFlow (record { states = b.states; flows = fs }) n s ⊎ OneEdge state (size p) n s)) in
+          subst P flows_b (subst (λ w. (HasFlow q.automaton n s ↔ (HasFlow b n s ⊎ ((n ≡ state) × (s ≡ w))))) is_root (flows n s));
+      goals = goals_are ∙ sym (nil_behind p.goals);
+      needs = needs_are ∙ sym (nil_behind p.needs);
+      roots = subst (λ r. Updates nat_cmp p.roots q.roots i (Some r)) is_root updates;
+      binders = binders_are;
+    }
+
+-- behind such states stand as many as before, and two
+pub result_size : (p m : Posing) → HasResult p m → size m ≡ suc (suc (size p))
+result_size p m it =
+    let many : length m.automaton.states ≡ length p.automaton.states + 2 = ap length it.states ∙ length-append p.automaton.states (positive empty_head ∷ negative empty_head ∷ []) in
+    omega (arith, many)
+
+-- the roots of nodes are those before
+pub result_root : (p m : Posing) (i : ℕ) → HasResult p m → root_in m i ≡ root_in p i
+result_root p m i it = ap (λ rs. number_at rs i) it.roots
+
+-- edges that are added one after another
+pub no_edges : (p : Posing) (IsEdge : ℕ → ℕ → Type 0) → ((n s : ℕ) → IsEdge n s → ⊥) → AddsEdges p p IsEdge
+no_edges p IsEdge none = record {
+  states = refl;
+  flows = λ n s. (λ it. inl it, λ it. elim it [ inl old ↦ old | inr new ↦ absurd (none n s new) ]);
+  goals = refl;
+  needs = refl;
+  roots = refl;
+  binders = refl;
+}
+
+pub edge_more : (p m : Posing) (a : Automaton) (from to : ℕ) (IsEdge IsLater : ℕ → ℕ → Type 0) → AddsEdges p m IsEdge → a.states ≡ m.automaton.states
+    → ((n s : ℕ) → HasFlow a n s ↔ (HasFlow m.automaton n s ⊎ ((n ≡ from) × (s ≡ to))))
+    → ((n s : ℕ) → IsLater n s ↔ (IsEdge n s ⊎ ((n ≡ from) × (s ≡ to))))
+    → AddsEdges p (record m { automaton = a }) IsLater
+edge_more p m a from to IsEdge IsLater it same flows later = record {
+  states = same ∙ it.states;
+  flows = λ n s. (
+    λ edge. elim ((flows n s).0 edge) [
+      | inl old ↦ elim ((it.flows n s).0 old) [
+        | inl first ↦ inl first
+        | inr some ↦ inr ((later n s).1 (inl some))
+      ]
+      | inr new ↦ inr ((later n s).1 (inr new))
+    ],
+    λ edge. elim edge [
+      | inl old ↦ (flows n s).1 (inl ((it.flows n s).1 (inl old)))
+      | inr some ↦ elim ((later n s).0 some) [
+        | inl earlier ↦ (flows n s).1 (inl ((it.flows n s).1 (inr earlier)))
+        | inr new ↦ (flows n s).1 (inr new)
+      ]
+    ],
+  );
+  goals = it.goals;
+  needs = it.needs;
+  roots = it.roots;
+  binders = it.binders;
+}
+
+-- edges from one state to states of which there is one more
+pub one_end_more : (from first to : ℕ) (ends : List ℕ) (end : ℕ) → to ≡ first + end → (n s : ℕ)
+    → ((n ≡ from) × (k : ℕ) × Contains (ends ++ end ∷ []) k × (s ≡ first + k)) ↔ (((n ≡ from) × (k : ℕ) × Contains ends k × (s ≡ first + k)) ⊎ ((n ≡ from) × (s ≡ to)))
+one_end_more from first to ends end is n s = (
+  λ it. elim (Contains-push_cases ends end it.1 it.2) [
+    | inl old ↦ inl (it.0, it.1, old, it.3)
+    | inr new ↦ inr (it.0, it.3 ∙ (ap (λ k. first + k) (sym new) ∙ sym is))
+  ],
+  λ it. elim it [
+    | inl old ↦ (old.0, old.1, Contains-append_left ends (end ∷ []) old.1 old.2, old.3)
+    | inr new ↦ (new.0, end, Contains-push ends end, new.1 ∙ is)
+  ],
+)
+
+-- a state is there where the states are the same
+pub state_there : (a b : Automaton) (p : Polarity) (s : ℕ) → b.states ≡ a.states → IsState a p s → IsState b p s
+state_there a b p s same it = record {
+  in_range = subst (λ (xs : List State). s < length xs) (sym same) it.in_range;
+  polarity = subst (λ (xs : List State). (get_or xs s (record { polarity = Positive; head = empty_head })).polarity ≡ p) (sym same) it.polarity;
+}
+
+-- and where there are more of them behind
+pub longer : (a b : Automaton) (more : List State) (p : Polarity) (s : ℕ) → b.states ≡ a.states ++ more → IsState a p s → IsState b p s
+longer a b more p s same it = record {
+  in_range =
+      let many : length b.states ≡ length a.states + length more = ap length same ∙ length-append a.states more in
+      let low : s < length a.states = it.in_range in
+      omega arith;
+  polarity =
+      subst (λ (xs : List State). (get_or xs s (record { polarity = Positive; head = empty_head })).polarity ≡ p) (sym same)
+      (ap (λ (x : State). x.polarity) (get_or-append a.states more (record { polarity = Positive; head = empty_head }) s it.in_range) ∙ it.polarity);
+}

@@ -1,0 +1,14 @@
+pub mod Posings
+pub mod PosedCopies
+pub mod NumberedNodes
+pub mod NodeTypes
+pub mod PosedModels
+pub mod MetNeeds
+pub mod PosedParts
+pub mod MetCopies
+pub mod TreeNodes
+pub mod TermParts
+pub mod PartBinders
+pub mod PartUses
+pub mod SolvedTypes
+pub mod steps

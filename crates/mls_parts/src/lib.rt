@@ -1,0 +1,18 @@
+//! The parts of a term, and the constraint of each as one automaton.
+#![tactic(auto)]
+
+pub mod binders;
+pub mod first_type;
+pub mod posable;
+pub mod pose;
+mod shared;
+pub mod solve;
+pub mod split;
+#[cfg(test)]
+mod tests_of_lists;
+#[cfg(test)]
+mod tests_of_parts;
+#[cfg(test)]
+mod tests_of_posing;
+#[cfg(test)]
+mod tests_of_sharing;

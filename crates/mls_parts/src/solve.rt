@@ -1,0 +1,40 @@
+//! The solved automaton of a constraint, and the pairs of states that solving relates.
+ghost use Rattle.std.specs.Prelude.{All, IfOk};
+ghost use Rattle.mls_automaton.specs.Models.{IsClosed};
+ghost use Rattle.mls_biunify.specs.Relations.{IsGoal, IsGoalOf, IsRelated};
+ghost use Rattle.mls_biunify.specs.Rooms.{Holds, HoldsJust, HoldsStates};
+ghost use Rattle.mls_biunify.specs.Solved.{IsSolved};
+
+use mls_automaton::automaton::Automaton;
+use mls_base::memory::Memory;
+use mls_biunify::found::Found;
+use mls_biunify::goal::Goal;
+use mls_biunify::search::search;
+use mls_biunify::settle::settle;
+use std::alloc::Global;
+
+/// The related pairs of a constraint, and its solved automaton.
+#[derive(Drop)]
+pub struct Solution {
+    pub found: Found,
+    pub automaton: Automaton,
+}
+
+/// Relates the states of the goals and of all that follows from these, and solves a copy of the automaton by them.
+///
+/// # Errors
+///
+/// `Memory` where memory is wanting.
+pub fn solution_of(alloc: Global, a: &Automaton, goals: &[Goal]) -> Result<Solution, Memory>
+    requires closed { IsClosed a.now }
+    requires goals { All (IsGoalOf a.now) goals.now }
+    ensures related { IfOk result (λ s. HoldsJust s.found (IsRelated a.now (IsGoal goals.now))) }
+    ensures states { IfOk result (λ s. HoldsStates a.now s.found) }
+    ensures solved { IfOk result (λ s. IsSolved a.now (Holds s.found) s.automaton) }
+    ensures closed { IfOk result (λ s. IsClosed s.automaton) }
+{
+    let found = search(alloc, a, goals)?;
+    let mut automaton = a.copy()?;
+    settle(alloc, &found, &mut automaton)?;
+    Ok(Solution { found, automaton })
+}
