@@ -19,6 +19,7 @@ mod spines;
 mod steps;
 mod writer;
 
+use known::Schemes;
 use mls_base::list::List;
 use mls_base::memory::Memory;
 use mls_book::name::Name;
@@ -55,6 +56,7 @@ fn section_of(
     alloc: Global,
     declared: &[ReadScheme],
     entries: &[SigEntry],
+    schemes: &mut Schemes,
     binding: &ResolvedBinding,
     entry: &SigEntry,
 ) -> Result<Section, Memory>
@@ -66,7 +68,8 @@ fn section_of(
     ensures text { IfOk result (λ s. s.text ≡ entry.now.text) }
 {
     let nodes = binding.term.nodes.as_slice();
-    let written = write_section(alloc, declared, entries, nodes, scheme_of(entry))?;
+    let read = scheme_of(entry);
+    let written = write_section(alloc, declared, entries, schemes, nodes, read)?;
     Ok(Section {
         name: copied_name(&entry.name)?,
         text: copied_bytes(alloc, entry.text.as_slice())?,
@@ -99,9 +102,11 @@ fn sections_of(
     ensures texts { IfOk result (λ sections. section_texts sections ≡ entry_texts entries.now) }
 {
     let mut sections = Sections::new(alloc);
+    let mut schemes = Schemes::new(alloc);
     for entry in entries {
         let binding = binding_at(bindings, sections.len())?;
-        sections.push(section_of(alloc, declared, entries, binding, entry)?)?;
+        let section = section_of(alloc, declared, entries, &mut schemes, binding, entry)?;
+        sections.push(section)?;
     }
     Ok(sections)
 }

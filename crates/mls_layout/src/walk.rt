@@ -291,11 +291,7 @@ fn ends_of(alloc: Global, general: &Scheme, special: &Scheme) -> Result<Numbers,
 /// # Errors
 ///
 /// `Memory` where memory is wanting.
-pub fn walk_of(
-    alloc: Global,
-    general: &Scheme,
-    special: &Scheme,
-) -> Result<List<StatePair>, Memory>
+pub fn walk_of(alloc: Global, general: &Scheme, special: &Scheme) -> Result<List<StatePair>, Memory>
     ensures alike { IfOk result (All (IsPairAlike general.now.automaton special.now.automaton)) }
     ensures met { IfOk result (AreMet general.now special.now) }
 {

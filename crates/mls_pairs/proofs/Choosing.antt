@@ -3,7 +3,7 @@
 --     fields_reason               where each field of the right record is named, the left one has its label
 --     needed_reason               the held pairs that the rules name are a reason
 --     choosing_first, choosing_next, choosing_last    the loop over the list
---     chosen_list                 what is chosen of a list for wanted pairs is one too
+--     table_shown, chosen_list    the table of a list shows its pairs, and what is chosen of it is a list too
 use Rattle.std.proofs.Common.{◌≡◌, ◌⊎◌, inl, inr, ℕ, suc, ◌<◌, ◌≤◌, ◌+◌, Bool, true, false, List, [], ◌∷◌, ◌++◌, length, refl, sym, ap, ◌∙◌, subst, arith, Option, Some, None, cond, bytes_eq, length-append}
 use Rattle.std.specs.Prelude.{All, Contains, IfSome, get_or, option_map, find}
 use Rattle.std.specs.List.{flat_map}
@@ -26,12 +26,11 @@ use Rattle.mls_deriv.specs.inner.Tables.{Holds, put_in}
 use Rattle.mls_deriv.proofs.PairRules.{from_nodes}
 use Rattle.mls_deriv.proofs.ScopedNames.{first_or_later}
 use Rattle.mls_pairs.specs.declared.found.Found.{Found}
-use Rattle.mls_pairs.specs.ChosenLists.{IsChosen}
 use Rattle.mls_pairs.specs.PairLists.{pair_of, IsRefuted, IsPairList}
 use Rattle.mls_pairs.specs.steps.Growth.{Finds}
 use Rattle.mls_pairs.specs.Lines.{IsTable}
 use Rattle.mls_pairs.specs.steps.Needs.{read_as, left_needs, right_needs, label_needs, field_needs, both_needs, node_needs}
-use Rattle.mls_pairs.specs.steps.Reasons.{IsHeld, IsShownAt, FieldsReason, IsReasonFor, IsReasonOf, IsChoosing}
+use Rattle.mls_pairs.specs.steps.Reasons.{AreShown, IsChosen, IsHeld, IsShownAt, FieldsReason, IsReasonFor, IsReasonOf, IsChoosing}
 use Rattle.mls_pairs.specs.steps.Rounds.{AreThose, none, kept, gone, IsShownBy}
 use Rattle.mls_pairs.proofs.Growing.{at_front, split}
 use Rattle.mls_pairs.proofs.Needed.{head_there, next_there, field_there}
@@ -244,32 +243,35 @@ module _ (book : List Node) (table : Table) where
               ∙ (get_or_default f.pairs n one pair low ∙ is))))
 
   -- a pair that is chosen is shown by the table
-  pub choosing_shown : (puts : List Put) (pairs wanted : List Pair) (n : ℕ) (f : Found) → IsTable puts pairs table → AreJustified book puts pairs → IsChoosing book table wanted n f
-      → (pair : Pair) → Contains f.pairs pair → IsShownBy book table pair
-  choosing_shown puts pairs wanted n f is justified it pair there =
-      justified_shown book puts pairs table is pair
-      (All-contains (λ (p : Pair). IsJustified book puts (Claims pairs) p.mode p.left p.right) pairs pair justified ((is.holds pair.mode pair.left pair.right).0 (it.held pair there)))
+  pub choosing_shown : (wanted : List Pair) (n : ℕ) (f : Found) → AreShown book table → IsChoosing book table wanted n f → (pair : Pair) → Contains f.pairs pair → IsShownBy book table pair
+  choosing_shown wanted n f shown it pair there = shown pair (it.held pair there)
 
-  pub choosing_last : (puts : List Put) (pairs wanted : List Pair) (n : ℕ) (f : Found) → IsTable puts pairs table → length f.pairs ≤ n → IsChoosing book table wanted n f
-      → IsChosen book puts wanted pairs f.pairs
-  choosing_last puts pairs wanted n f is all it = record {
-    justified =
-        all_there (λ (p : Pair). IsJustified book puts (Claims f.pairs) p.mode p.left p.right) f.pairs
-        (λ pair there.
-        from_nodes book puts (Claims f.pairs) pair.mode pair.left pair.right
-        (subst (λ (put : ℕ → Option ℕ). ByNodes put (Claims f.pairs) pair.mode pair.left pair.right (node_at book pair.left) (node_at book pair.right)) (λ k x. is.put x k)
-        (it.reasoned there.0 pair (let low : there.0 < length f.pairs = there.1 in omega arith) there.1 there.2)));
-    within = λ pair there. (is.holds pair.mode pair.left pair.right).0 (it.held pair there);
-    has = λ pair there in_list. it.has_wanted pair there ((is.holds pair.mode pair.left pair.right).1 in_list);
+  pub choosing_last : (wanted : List Pair) (n : ℕ) (f : Found) → length f.pairs ≤ n → IsChoosing book table wanted n f → IsChosen book table wanted f.pairs
+  choosing_last wanted n f all it = record {
+    shown = λ pair there. it.reasoned there.0 pair (let low : there.0 < length f.pairs = there.1 in omega arith) there.1 there.2;
+    held = it.held;
+    has = it.has_wanted;
   }
 
--- what is chosen of a list for wanted pairs is one too
-pub chosen_list : (book : List Node) (puts : List Put) (wanted pairs chosen : List Pair) → IsPairList book puts wanted pairs → IsChosen book puts wanted pairs chosen → IsPairList book puts wanted chosen
-chosen_list book puts wanted pairs chosen list it = record {
-  justified = it.justified;
-  has = λ pair there. go pair there (list.has pair there);
-}
-  where
-    go : (pair : Pair) → Contains wanted pair → Contains pairs pair ⊎ IsRefuted book puts pair → Contains chosen pair ⊎ IsRefuted book puts pair
-    go pair there (inl h) = inl (it.has pair there h)
-    go pair there (inr h) = inr h
+module _ (book : List Node) (puts : List Put) (pairs : List Pair) (table : Table) (is : IsTable puts pairs table) where
+  -- the table of a list that justifies itself shows all of its pairs
+  pub table_shown : AreJustified book puts pairs → AreShown book table
+  table_shown justified pair held =
+      justified_shown book puts pairs table is pair
+      (All-contains (λ (p : Pair). IsJustified book puts (Claims pairs) p.mode p.left p.right) pairs pair justified ((is.holds pair.mode pair.left pair.right).0 held))
+
+  -- what is chosen for wanted pairs is a list for them too
+  pub chosen_list : (wanted chosen : List Pair) → IsPairList book puts wanted pairs → IsChosen book table wanted chosen → IsPairList book puts wanted chosen
+  chosen_list wanted chosen list it = record {
+    justified =
+        all_there (λ (p : Pair). IsJustified book puts (Claims chosen) p.mode p.left p.right) chosen
+        (λ pair there.
+        from_nodes book puts (Claims chosen) pair.mode pair.left pair.right
+        (subst (λ (put : ℕ → Option ℕ). ByNodes put (Claims chosen) pair.mode pair.left pair.right (node_at book pair.left) (node_at book pair.right)) (λ k x. is.put x k)
+        (it.shown pair there)));
+    has = λ pair there. go pair there (list.has pair there);
+  }
+    where
+      go : (pair : Pair) → Contains wanted pair → Contains pairs pair ⊎ IsRefuted book puts pair → Contains chosen pair ⊎ IsRefuted book puts pair
+      go pair there (inl h) = inl (it.has pair there ((is.holds pair.mode pair.left pair.right).1 h))
+      go pair there (inr h) = inr h

@@ -1,4 +1,3 @@
 pub mod Lines
 pub mod PairLists
-pub mod ChosenLists
 pub mod steps

@@ -1,21 +1,18 @@
 //! The pairs that are left of a list where each pair keeps one of its reasons.
 ghost use Rattle.std.specs.Prelude.{◌≡◌, ◌↔◌, ◌⊎◌, ◌∷◌, [], All, IfOk, IfSome, IsTrue, Some};
-ghost use Rattle.mls_deriv.specs.Pairs.{AreJustified};
-ghost use Rattle.mls_pairs.specs.ChosenLists.{IsChosen};
 ghost use Rattle.mls_pairs.specs.PairLists.{pair_of};
 ghost use Rattle.mls_pairs.specs.steps.Reasons.{AreEndPairs, BothReason, FieldsReason, IsHeld, IsReasonFor};
-ghost use Rattle.mls_pairs.specs.steps.Reasons.{IsReasonOf, IsShownAt, LeftReason, LeftVariable, RightReason};
+ghost use Rattle.mls_pairs.specs.steps.Reasons.{AreShown, IsChosen, IsReasonOf, IsShownAt, LeftReason, LeftVariable, RightReason};
 ghost use Rattle.mls_pairs.specs.steps.Reasons.{RightVariable};
 ghost use Rattle.mls_pairs.specs.steps.Rounds.{AreThose, IsShownBy};
 
 use crate::found::Found;
-use crate::lines::table_with;
 use crate::needs::{exchanged, left_node, node_needs, push_fields, right_node};
 use crate::pairs::Pairs;
 use crate::thin::add_kept;
 use mls_base::memory::Memory;
 use mls_book::book::{Book, Fields, Node, NodeId};
-use mls_deriv::claim::{Pair, Put};
+use mls_deriv::claim::Pair;
 use mls_deriv::derivation::Mode;
 use mls_deriv::justify::node_or;
 use mls_deriv::table::Table;
@@ -377,29 +374,27 @@ fn reason_for(alloc: Global, book: &Book, table: &Table, pair: Pair) -> Result<P
     Ok(reason)
 }
 
-/// The pairs of a list that justifies itself which are wanted, and those of one reason for each pair that is left.
+/// The wanted pairs of a table that shows all of its pairs, and those of one reason for each pair that is left.
 ///
 /// # Errors
 ///
 /// `Memory` where memory is wanting.
-pub fn chosen_of(
+pub(crate) fn chosen_of(
     alloc: Global,
     book: &Book,
-    puts: &[Put],
-    pairs: &Pairs,
+    table: &Table,
     wanted: &[Pair],
 ) -> Result<Pairs, Memory>
-    requires { AreJustified book.now puts.now pairs.now }
-    ensures { IfOk result (IsChosen book.now puts.now wanted.now pairs.now) }
+    requires { AreShown book.now table.now }
+    ensures { IfOk result (IsChosen book.now table.now wanted.now) }
 {
-    let table = table_with(alloc, puts, pairs)?;
-    let held = those_held(alloc, &table, wanted)?;
+    let held = those_held(alloc, table, wanted)?;
     let mut chosen = Found::new(alloc);
     chosen.add_all(held.as_slice())?;
     let mut next = 0;
     while next < chosen.len() {
         let pair = chosen.at(next);
-        let reason = reason_for(alloc, book, &table, pair)?;
+        let reason = reason_for(alloc, book, table, pair)?;
         chosen.add_all(reason.as_slice())?;
         next += 1;
     }

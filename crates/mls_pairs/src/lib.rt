@@ -1,7 +1,7 @@
 //! The pairs of a step by subsumption: those that are wanted, with pairs that justify them.
 #![tactic(auto)]
 
-pub mod chosen;
+mod chosen;
 mod found;
 mod justify;
 pub mod labelled;

@@ -1,13 +1,12 @@
 //! Pairs that the others of a list justify.
 ghost use Rattle.std.specs.Prelude.{IfOk, OnOk};
-ghost use Rattle.mls_pairs.specs.steps.Rounds.{AddsKept, AreThose, IsJustifiedBy, IsShownBy};
+ghost use Rattle.mls_pairs.specs.steps.Rounds.{AddsKept, AreThose, IsShownBy};
 
 use crate::justify::is_shown;
-use crate::lines::table_with;
 use crate::pairs::Pairs;
 use mls_base::memory::Memory;
 use mls_book::book::{Book, NodeId};
-use mls_deriv::claim::{Pair, Put};
+use mls_deriv::claim::Pair;
 use mls_deriv::table::Table;
 use std::alloc::Global;
 
@@ -26,8 +25,17 @@ pub(crate) fn add_kept(left: &mut Pairs, pair: Pair, is_kept: bool) -> Result<()
     Ok(())
 }
 
-// The pairs that the table shows, in order.
-fn shown(alloc: Global, book: &Book, table: &Table, pairs: &[Pair]) -> Result<Pairs, Memory>
+/// The pairs that the table shows, in order. Where it is the table of the list, they are those that the list justifies.
+///
+/// # Errors
+///
+/// `Memory` where memory is wanting.
+pub(crate) fn shown(
+    alloc: Global,
+    book: &Book,
+    table: &Table,
+    pairs: &[Pair],
+) -> Result<Pairs, Memory>
     ensures { IfOk result (AreThose (IsShownBy book.now table.now) pairs.now) }
 {
     let mut left = Pairs::new(alloc);
@@ -41,19 +49,5 @@ fn shown(alloc: Global, book: &Book, table: &Table, pairs: &[Pair]) -> Result<Pa
         );
         add_kept(&mut left, *pair, is_kept)?;
     }
-    Ok(left)
-}
-
-/// The pairs of the list that the list justifies, in order.
-pub(crate) fn justified(
-    alloc: Global,
-    book: &Book,
-    puts: &[Put],
-    pairs: &Pairs,
-) -> Result<Pairs, Memory>
-    ensures { IfOk result (AreThose (IsJustifiedBy book.now puts.now pairs.now) pairs.now) }
-{
-    let table = table_with(alloc, puts, pairs)?;
-    let left = shown(alloc, book, &table, pairs.as_slice())?;
     Ok(left)
 }

@@ -156,12 +156,10 @@ fn poses_a_record(rt: HostRuntime) -> Result<(), Fail> {
 fn solves_a_constraint(rt: HostRuntime) -> Result<(), Fail> {
     let alloc = rt.alloc();
     let a = sample(&rt, alloc, "+i - + 1~2")?;
-    let goals = [
-        Goal {
-            positive: StateId(0),
-            negative: StateId(1),
-        },
-    ];
+    let goals = [Goal {
+        positive: StateId(0),
+        negative: StateId(1),
+    }];
     assert!(rt; are_goals(&a, &goals));
     let solution = solution_of(alloc, &a, &goals)?;
     let line = show_automaton(alloc, &solution.automaton)?;

@@ -1,8 +1,8 @@
 //! Nodes of a book once more in another one, and what the variables of a read type stand for at a use.
 
-use mls_parts::split::Numbers;
 use mls_base::memory::Memory;
 use mls_book::book::{Book, Field, Fields, Node, NodeId};
+use mls_parts::split::Numbers;
 use std::alloc::Global;
 use std::collections::{BTreeMap, BTreeSet};
 

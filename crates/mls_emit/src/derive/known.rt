@@ -31,7 +31,10 @@ pub(crate) struct FirstPart {
     pub(crate) variable: usize,
 }
 
-/// Types of names of the environment by their numbers.
+/// The types of names of the environment by their numbers, as far as they were read.
+pub(crate) type Schemes = BTreeMap<usize, Scheme>;
+
+/// Where types of names of the environment stand, by their numbers.
 pub(crate) type Globals = BTreeMap<usize, GlobalAt>;
 
 /// First parts by the numbers of their lets.

@@ -2,15 +2,15 @@
 //! them.
 
 use crate::derive::known::GlobalAt;
-use mls_layout::layout::Places;
-use mls_parts::pose::Posing;
-use mls_layout::tree::{NodeIds, push_tree};
 use mls_automaton::automaton::Polarity;
 use mls_automaton::scheme::Scheme;
 use mls_base::list::List;
 use mls_base::memory::Memory;
 use mls_book::book::{Book, NodeId};
 use mls_deriv::claim::Put;
+use mls_layout::layout::Places;
+use mls_layout::tree::{NodeIds, push_tree};
+use mls_parts::pose::Posing;
 use std::alloc::Global;
 use std::collections::BTreeMap;
 

@@ -9,28 +9,28 @@ ghost use Rattle.mls_iface.specs.Signatures.{IsEntry};
 ghost use Rattle.mls_parts.specs.TermParts.{IsTermPart};
 ghost use Rattle.mls_parts.specs.TreeNodes.{AreTreeNodes};
 
-use mls_parts::binders::binders_of;
 use crate::derive::copies::push_book;
-use crate::derive::known::{FirstPart, FirstParts, Globals, put_global};
+use crate::derive::known::{FirstPart, FirstParts, Globals, Schemes, put_global};
 use crate::derive::prune::{Written, pruned};
 use crate::derive::spines::Spines;
-use mls_parts::split::{TermPart, parts_of};
 use crate::derive::steps::Steps;
 use crate::derive::writer::{PartView, Writer};
-use mls_parts::first_type::first_type_of;
-use mls_layout::layout::{LaidOut, Places, lay_out};
-use mls_parts::posable::posed;
-use mls_parts::pose::{KnownTypes, Posing};
-use mls_parts::solve::{Solution, solution_of};
-use mls_layout::tree::NodeIds;
-use mls_layout::type_layout::lay_out_type;
-use mls_layout::walk::walk_of;
 use mls_automaton::scheme::{Env, EnvEntry, Scheme};
 use mls_automaton::state_set::StateId;
 use mls_base::memory::Memory;
 use mls_book::book::{Book, Node, NodeId};
 use mls_deriv::derivation::{BinderNode, BinderNodes};
 use mls_iface::signature::SigEntry;
+use mls_layout::layout::{LaidOut, Places, lay_out};
+use mls_layout::tree::NodeIds;
+use mls_layout::type_layout::lay_out_type;
+use mls_layout::walk::walk_of;
+use mls_parts::binders::binders_of;
+use mls_parts::first_type::first_type_of;
+use mls_parts::posable::posed;
+use mls_parts::pose::{KnownTypes, Posing};
+use mls_parts::solve::{Solution, solution_of};
+use mls_parts::split::{TermPart, parts_of};
 use mls_scheme::read::scheme_of_read;
 use mls_term::term::{TermForm, TermNode};
 use mls_typetext::scheme::ReadScheme;
@@ -133,15 +133,15 @@ fn type_env(alloc: Global, at: &TypeAt) -> Result<BinderNodes, Memory> {
 }
 
 impl Draft {
-    // A section that begins with the nodes of a type.
-    fn new(alloc: Global, read: &ReadScheme) -> Result<Draft, Memory> {
+    // A section that begins with the nodes of a type, where the types of these names were read before.
+    fn new(alloc: Global, read: &ReadScheme, schemes: Schemes) -> Result<Draft, Memory> {
         let mut book = Book::new(alloc);
         push_book(alloc, &mut book, &read.book)?;
         Ok(Draft {
             book,
             steps: Steps::new(alloc),
             known: KnownTypes {
-                globals: BTreeMap::new(alloc),
+                globals: schemes,
                 lets: BTreeMap::new(alloc),
             },
             globals: Globals::new(alloc),
@@ -150,7 +150,7 @@ impl Draft {
         })
     }
 
-    // Reads the type of a name, and puts it into the book, where that was not done.
+    // Reads the type of a name, and puts it into the book, each where that was not done.
     fn add_global(
         &mut self,
         alloc: Global,
@@ -165,14 +165,16 @@ impl Draft {
             return Ok(());
         }
         let read = read_at(declared, entries, g).ok_or(Memory)?;
-        let scheme = scheme_of_read(alloc, read)?;
-        let global = put_global(alloc, &mut self.book, read, &scheme)?;
+        if !self.known.globals.contains_key(&g) {
+            self.known.globals.insert(g, scheme_of_read(alloc, read)?)?;
+        }
+        let scheme = self.known.globals.get(&g).ok_or(Memory)?;
+        let global = put_global(alloc, &mut self.book, read, scheme)?;
         // The variables of first parts come behind those of all names, since both may be put in at once.
         if read.vars > self.variable {
             self.variable = read.vars;
         }
         self.globals.insert(g, global)?;
-        self.known.globals.insert(g, scheme)?;
         Ok(())
     }
 
@@ -357,12 +359,18 @@ fn replace_book(book: &mut Book, alloc: Global) -> Book
     std::mem::replace(book, Book::new(alloc))
 }
 
+// Takes the types of names out.
+fn replace_schemes(schemes: &mut Schemes, alloc: Global) -> Schemes {
+    std::mem::replace(schemes, Schemes::new(alloc))
+}
+
 // Takes the steps out.
 fn replace_steps(steps: &mut Steps, alloc: Global) -> Steps {
     std::mem::replace(steps, Steps::new(alloc))
 }
 
 /// The section of a term that has this type: its nodes begin with those of the type, and each other node serves a line.
+/// The types of names that were read before are read once for all sections; where memory is wanting, none is left.
 ///
 /// # Errors
 ///
@@ -371,6 +379,7 @@ pub(crate) fn write_section(
     alloc: Global,
     declared: &[ReadScheme],
     entries: &[SigEntry],
+    schemes: &mut Schemes,
     nodes: &[TermNode],
     read: &ReadScheme,
 ) -> Result<Written, Memory>
@@ -380,7 +389,7 @@ pub(crate) fn write_section(
     requires read { IsRead read.now }
 {
     let parts = parts_of(alloc, nodes)?;
-    let mut draft = Draft::new(alloc, read)?;
+    let mut draft = Draft::new(alloc, read, replace_schemes(schemes, alloc))?;
     draft.add_globals(alloc, declared, entries, nodes)?;
     let fixed = draft.book.len();
     for root in 0..nodes.len() {
@@ -388,5 +397,8 @@ pub(crate) fn write_section(
             draft.add_part(alloc, nodes, part, read)?;
         }
     }
-    pruned(alloc, &draft.book, draft.steps.lines.as_slice(), fixed)
+    let written = pruned(alloc, &draft.book, draft.steps.lines.as_slice(), fixed)?;
+    let known = draft.known;
+    *schemes = known.globals;
+    Ok(written)
 }

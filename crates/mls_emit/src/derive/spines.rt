@@ -1,9 +1,9 @@
 //! The binders that a chain of applications needs: those of a function, of its arguments, and of what the result is
 //! applied to in turn.
 
-use mls_parts::split::Numbers;
 use mls_automaton::scheme::Scheme;
 use mls_base::memory::Memory;
+use mls_parts::split::Numbers;
 use mls_term::term::{Part, TermForm, TermNode};
 use std::alloc::Global;
 use std::collections::{BTreeMap, BTreeSet};

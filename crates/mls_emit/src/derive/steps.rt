@@ -3,21 +3,19 @@ ghost use Rattle.std.specs.Prelude.{◌≡◌, ◌↔◌, ◌++◌, [], option_m
 ghost use Rattle.mls_deriv.specs.Sections.{steps_of};
 ghost use Rattle.mls_deriv.specs.Steps.{IsRising};
 ghost use Rattle.mls_layout.specs.Emitted.{binder_pair};
-ghost use Rattle.mls_pairs.specs.PairLists.{IsPairList};
 ghost use Rattle.mls_emit.specs.steps.Stepping.{AddsAdapted, AddsStep, AddsSub, AreCounted, Stands};
 ghost use Rattle.mls_emit.specs.steps.Stepping.{binder_node, pairs_over};
 
-use mls_pairs::chosen::chosen_of;
 use crate::derive::puts::Puts;
-use mls_pairs::lines::{push_pairs, push_puts};
-use mls_pairs::pairs::{Pairs, pair_list};
 use mls_base::list::List;
 use mls_base::memory::Memory;
 use mls_book::book::{Book, NodeId};
-use mls_deriv::claim::{Pair, Put};
+use mls_deriv::claim::Pair;
 use mls_deriv::derivation::{
     BinderNode, BinderNodes, Mode, SectionLine, SectionLines, StepLine, StepRule,
 };
+use mls_pairs::lines::{push_pairs, push_puts};
+use mls_pairs::pairs::{Pairs, pairs_for};
 use std::alloc::Global;
 
 /// What a step concludes: its number, its type, and what it needs of binders. Where variables of its type still have to
@@ -102,15 +100,6 @@ fn asked(
     for entry in from.env.as_slice() {
         push_asked(&mut pairs, *entry, env)?;
     }
-    Ok(pairs)
-}
-
-// The pairs that are wanted, and those that they rest on, where each keeps one of its reasons.
-fn pairs_for(alloc: Global, book: &Book, puts: &[Put], wanted: &[Pair]) -> Result<Pairs, Memory>
-    ensures { IfOk result (IsPairList book.now puts.now wanted.now) }
-{
-    let all = pair_list(alloc, book, puts, wanted)?;
-    let pairs = chosen_of(alloc, book, puts, &all, wanted)?;
     Ok(pairs)
 }
 

@@ -7,15 +7,15 @@ use crate::derive::known::{FirstPart, FirstParts, Globals};
 use crate::derive::puts::{Puts, add_puts, global_puts, let_puts, share_variables};
 use crate::derive::spines::Spines;
 use crate::derive::steps::{Conclusion, Steps, copied, node_of};
-use mls_pairs::labelled::labelled;
-use mls_layout::layout::LaidOut;
-use mls_parts::pose::{KnownTypes, Posing};
-use mls_layout::tree::NodeIds;
 use mls_base::list::List;
 use mls_base::memory::Memory;
 use mls_book::book::{Field, Fields, Node, NodeId};
 use mls_book::name::Name;
 use mls_deriv::derivation::{BinderNode, BinderNodes, StepRule};
+use mls_layout::layout::LaidOut;
+use mls_layout::tree::NodeIds;
+use mls_pairs::labelled::labelled;
+use mls_parts::pose::{KnownTypes, Posing};
 use mls_term::term::{Part, TermForm, TermNode};
 use std::alloc::Global;
 use std::collections::BTreeMap;
@@ -260,6 +260,12 @@ impl Writer {
         first: &[BinderNode],
         second: &[BinderNode],
     ) -> Result<BinderNodes, Memory> {
+        if first.is_empty() || first == second {
+            return copied(alloc, second);
+        }
+        if second.is_empty() {
+            return copied(alloc, first);
+        }
         let mut env = BinderNodes::new(alloc);
         let binders = both(alloc, first, second)?;
         for binder in binders.as_slice() {
@@ -424,33 +430,18 @@ impl Writer {
         Ok(env)
     }
 
-    // A function of this type and an argument of that of its domain, with the binders that both need.
+    // The type of the function of an application and the environment of both parts. Where a function of this type needs
+    // a step by pairs in any case, and the argument has all binders, the function takes what the argument is, and the
+    // argument needs no step by pairs.
     fn met(
-        &self,
-        alloc: Global,
-        view: &PartView,
-        node: usize,
-        function: usize,
-        argument: usize,
-        arrow: ArrowNode,
-    ) -> Result<Applied, Memory> {
-        let left = self.offered(alloc, view, function, arrow.node)?;
-        let right = self.offered(alloc, view, argument, arrow.from)?;
-        let env = self.chained(alloc, view, node, left.as_slice(), right.as_slice())?;
-        Ok(Applied { arrow, env })
-    }
-
-    // The same where a function of this type needs a step by pairs in any case, and the argument has all binders: the
-    // function then takes what the argument is, and the argument needs no step by pairs.
-    fn fitted(
         &mut self,
         alloc: Global,
         view: &PartView,
         node: usize,
         function: usize,
         argument: usize,
-        arrow: ArrowNode,
-    ) -> Result<Option<Applied>, Memory> {
+    ) -> Result<Applied, Memory> {
+        let arrow = self.applied(view, node, function)?;
         let own = self.own_type(argument, arrow.from)?;
         let left = self.offered(alloc, view, function, arrow.node)?;
         let right = self.offered(alloc, view, argument, own)?;
@@ -458,14 +449,14 @@ impl Writer {
         let is_there = self.placed_type(view, function)? == Some(arrow.node)
             && left.as_slice() == env.as_slice();
         if is_there || own == arrow.from || right.as_slice() != env.as_slice() {
-            return Ok(None);
+            return Ok(Applied { arrow, env });
         }
         let arrow = ArrowNode {
             node: self.laid.book.push(Node::Arrow(own, arrow.to))?,
             from: own,
             to: arrow.to,
         };
-        Ok(Some(Applied { arrow, env }))
+        Ok(Applied { arrow, env })
     }
 
     fn apply(
@@ -476,11 +467,7 @@ impl Writer {
         function: usize,
         argument: usize,
     ) -> Result<Conclusion, Memory> {
-        let arrow = self.applied(view, node, function)?;
-        let at = match self.fitted(alloc, view, node, function, argument, arrow)? {
-            Some(at) => at,
-            None => self.met(alloc, view, node, function, argument, arrow)?,
-        };
+        let at = self.met(alloc, view, node, function, argument)?;
         let env = at.env.as_slice();
         let first = self.adapted(alloc, function, env, at.arrow.node)?;
         let second = self.adapted(alloc, argument, env, at.arrow.from)?;

@@ -8,7 +8,7 @@ use Rattle.mls_deriv.specs.declared.derivation.Mode.{Mode}
 use Rattle.mls_deriv.specs.declared.claim.Pair.{Pair}
 use Rattle.mls_deriv.specs.declared.table.Table.{Table}
 use Rattle.mls_deriv.specs.Pairs.{Claims, exchanged}
-use Rattle.mls_deriv.specs.inner.PairRules.{AllLabelsFit, ByBoth, ByLeft, ByNodes, ByRight}
+use Rattle.mls_deriv.specs.inner.PairRules.{AllLabelsFit, ByBoth, ByLeft, ByNodes, ByRight, IsShown}
 use Rattle.mls_deriv.specs.inner.Tables.{Holds, put_in}
 use Rattle.mls_pairs.specs.declared.found.Found.{Found}
 use Rattle.mls_pairs.specs.PairLists.{pair_of}
@@ -17,6 +17,10 @@ use Rattle.mls_pairs.specs.steps.Growth.{IsFound}
 -- the table has the pair
 abbrev pub IsHeld : Table → Pair → Type 0
 IsHeld table pair = Holds table pair.mode pair.left pair.right
+
+-- the table shows all of its pairs
+abbrev pub AreShown : List Node → Table → Type 0
+AreShown book table = (pair : Pair) → IsHeld table pair → IsShown book (put_in table) (Holds table) pair.mode pair.left pair.right
 
 -- the table shows a pair of these nodes
 abbrev pub IsShownAt : Table → Pair → (left right : Node) → Type 0
@@ -69,3 +73,10 @@ pub record IsChoosing (book : List Node) (table : Table) (wanted : List Pair) (n
   pub has_wanted : (pair : Pair) → Contains wanted pair → IsHeld table pair → Contains f.pairs pair
   pub held : (pair : Pair) → Contains f.pairs pair → IsHeld table pair
   pub reasoned : AreReasoned book (put_in table) n f.pairs
+
+-- Pairs of a table that show each other, among them each wanted pair of the table.
+pub record IsChosen (book : List Node) (table : Table) (wanted chosen : List Pair) : Type 0 where
+  pub shown : (pair : Pair) → Contains chosen pair
+      → ByNodes (put_in table) (Claims chosen) pair.mode pair.left pair.right (node_at book pair.left) (node_at book pair.right)
+  pub held : (pair : Pair) → Contains chosen pair → IsHeld table pair
+  pub has : (pair : Pair) → Contains wanted pair → IsHeld table pair → Contains chosen pair

@@ -6,23 +6,22 @@ use Rattle.mls_pairs.proofs.chosen.chosen_of.Goals as goal
 
 pub loop-next-init : goal.loop-next-init
 loop-next-init c =
-    choosing_first c.args.book.now c.in_ok-table.table c.args.wanted.now c.in_ok-held.held c.new-chosen.result c.add_all.new.self c.new-chosen.ensures.empty c.in_ok-held.ensures
+    choosing_first c.args.book.now c.args.table.now c.args.wanted.now c.in_ok-held.held c.new-chosen.result c.add_all.new.self c.new-chosen.ensures.empty c.in_ok-held.ensures
     (subst (λ (l : List Pair). Finds c.new-chosen.result c.add_all.new.self l) c.as_slice.ensures c.in_ok-add_all.ensures)
 
 pub reason_for-requires : goal.reason_for-requires
 reason_for-requires c =
     let low : c.loop-next.next < length c.loop-next.chosen.pairs = search rules in
-    choosing_shown c.args.book.now c.in_ok-table.table c.args.puts.now c.args.pairs.now c.args.wanted.now c.loop-next.next c.loop-next.chosen c.in_ok-table.ensures c.requires c.loop-next.invariant
-    c.at-pair.result (c.loop-next.next, low, c.at-pair.ensures)
+    choosing_shown c.args.book.now c.args.table.now c.args.wanted.now c.loop-next.next c.loop-next.chosen c.requires c.loop-next.invariant c.at-pair.result (c.loop-next.next, low, c.at-pair.ensures)
 
 pub loop-next-preserved : goal.loop-next-preserved
 loop-next-preserved c =
     let low : c.loop-next.next < length c.loop-next.chosen.pairs = search rules in
-    choosing_next c.args.book.now c.in_ok-table.table c.args.wanted.now c.in_ok-reason.reason c.loop-next.chosen c.add_all-in-loop-next.new.self c.loop-next.next c.at-pair.result low
+    choosing_next c.args.book.now c.args.table.now c.args.wanted.now c.in_ok-reason.reason c.loop-next.chosen c.add_all-in-loop-next.new.self c.loop-next.next c.at-pair.result low
     c.at-pair.ensures c.loop-next.invariant c.in_ok-reason.ensures
     (subst (λ (l : List Pair). Finds c.loop-next.chosen c.add_all-in-loop-next.new.self l) c.as_slice-in-loop-next.ensures c.in_ok-add_all-2.ensures)
 
 pub returns : goal.returns
 returns c =
     let all : length c.loop-next.chosen.pairs ≤ c.loop-next.next = search rules in
-    choosing_last c.args.book.now c.in_ok-table.table c.args.puts.now c.args.pairs.now c.args.wanted.now c.loop-next.next c.loop-next.chosen c.in_ok-table.ensures all c.loop-next.invariant
+    choosing_last c.args.book.now c.args.table.now c.args.wanted.now c.loop-next.next c.loop-next.chosen all c.loop-next.invariant

@@ -1,6 +1,6 @@
 use Rattle.std.proofs.Common.{length}
 use Rattle.mls_pairs.specs.steps.Rounds.{IsLeft}
-use Rattle.mls_pairs.proofs.pairs.pair_list.Given as goal
+use Rattle.mls_pairs.proofs.pairs.listed.Given as goal
 
 -- what is left
 abbrev pub invariant-loop-pairs : goal.invariant-loop-pairs
