@@ -73,6 +73,24 @@ pub(crate) fn places_of(alloc: Global, nodes: &[usize], past: usize) -> Result<P
     })
 }
 
+// Nodes behind a blank each.
+fn show_places(line: &mut String, places: &Places) -> Result<(), Memory> {
+    for place in places.nodes.as_slice() {
+        write!(line, " {}", place.0)?;
+    }
+    Ok(())
+}
+
+// A book, the nodes of the states and the node past their end.
+pub(crate) fn show_laid(alloc: Global, book: &Book, places: &Places) -> Result<String, Memory> {
+    let mut line = String::new(alloc);
+    show_book(&mut line, book)?;
+    line.push_str("at")?;
+    show_places(&mut line, places)?;
+    write!(line, " and {}", places.past.0)?;
+    Ok(line)
+}
+
 // The book and the places of the states, where the type is the first nodes and its states stand there in order.
 fn laid(
     rt: &impl Abort,
@@ -89,14 +107,7 @@ fn laid(
     assert!(rt; type_places.are_below(book.len()));
     let found = search(alloc, &a, goals)?;
     let laid = lay_out(alloc, book, &a, &found, pairs, type_places)?;
-    let mut line = String::new(alloc);
-    show_book(&mut line, &laid.book)?;
-    line.push_str("at")?;
-    for place in laid.places.nodes.as_slice() {
-        write!(line, " {}", place.0)?;
-    }
-    write!(line, " and {}", laid.places.past.0)?;
-    Ok(line)
+    show_laid(alloc, &laid.book, &laid.places)
 }
 
 fn push(book: &mut Book, node: Node) -> Result<(), Memory> {

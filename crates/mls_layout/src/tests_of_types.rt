@@ -3,7 +3,7 @@ ghost use Rattle.std.specs.Prelude.{IfOk};
 ghost use Rattle.mls_automaton.specs.Schemes.{IsScheme};
 
 use crate::layout::lay_out;
-use crate::tests_of_layout::{places_of, sample, show_book};
+use crate::tests_of_layout::{places_of, sample, show_laid};
 use crate::type_layout::lay_out_type;
 use crate::walk::walk_of;
 use mls_automaton::sample::scheme_of;
@@ -63,13 +63,8 @@ fn lays_out_types(rt: HostRuntime) -> Result<(), Fail> {
     for (text, wanted) in rows {
         let scheme = scheme(&rt, alloc, text)?;
         let laid = lay_out_type(Book::new(alloc), &scheme, 5)?;
-        let mut line = String::new(alloc);
-        show_book(&mut line, &laid.book)?;
-        line.push_str("at")?;
-        for place in laid.places.nodes.as_slice() {
-            write!(line, " {}", place.0)?;
-        }
-        write!(line, " and {}, {}", laid.places.past.0, laid.variables)?;
+        let mut line = show_laid(alloc, &laid.book, &laid.places)?;
+        write!(line, ", {}", laid.variables)?;
         assert_eq!(rt; line.as_str(), wanted);
     }
     Ok(())

@@ -6,6 +6,7 @@ ghost use Rattle.mls_biunify.specs.Rooms.{HoldsStates};
 ghost use Rattle.mls_scheme.specs.ReadTypes.{IsReadFromBook};
 ghost use Rattle.mls_iface.specs.Matches.{IsRead};
 ghost use Rattle.mls_iface.specs.Signatures.{IsEntry};
+ghost use Rattle.mls_parts.specs.PosedParts.{IsPartList};
 ghost use Rattle.mls_parts.specs.TermParts.{IsTermPart};
 ghost use Rattle.mls_parts.specs.TreeNodes.{AreTreeNodes};
 
@@ -30,7 +31,7 @@ use mls_parts::first_type::first_type_of;
 use mls_parts::posable::posed;
 use mls_parts::pose::{KnownTypes, Posing};
 use mls_parts::solve::{Solution, solution_of};
-use mls_parts::split::{TermPart, parts_of};
+use mls_parts::split::{Numbers, TermPart, parts_of};
 use mls_scheme::read::scheme_of_read;
 use mls_term::term::{TermForm, TermNode};
 use mls_typetext::scheme::ReadScheme;
@@ -81,6 +82,14 @@ pub(crate) fn scheme_of(entry: &SigEntry) -> &ReadScheme
     ensures { IsRead result.now }
 {
     &entry.scheme
+}
+
+// The constraint of a part, what it is solved to, and the binders around the part.
+#[derive(Drop)]
+struct SolvedPart {
+    posing: Posing,
+    solution: Solution,
+    around: Numbers,
 }
 
 // The nodes of a book, each as its own state.
@@ -264,6 +273,38 @@ impl Draft {
         )
     }
 
+    // What writes the lines of a part.
+    fn writer(&mut self, alloc: Global, laid: LaidOut) -> Writer {
+        Writer {
+            laid,
+            steps: replace_steps(&mut self.steps, alloc),
+            concluded: BTreeMap::new(alloc),
+            top: None,
+            widths: BTreeMap::new(alloc),
+            chains: BTreeMap::new(alloc),
+        }
+    }
+
+    // Writes the lines of the nodes of a part.
+    fn write_nodes(
+        &self,
+        alloc: Global,
+        writer: &mut Writer,
+        nodes: &[TermNode],
+        part: &[usize],
+        posing: &Posing,
+    ) -> Result<(), Memory> {
+        let spines = Spines::of(alloc, nodes, part, &self.known.lets)?;
+        let view = PartView {
+            posing,
+            spines: &spines,
+            known: &self.known,
+            globals: &self.globals,
+            firsts: &self.firsts,
+        };
+        writer.write_part(alloc, &view, nodes, part)
+    }
+
     // Writes the lines of a part, and answers its last step, which has the type of the part.
     fn write(
         &mut self,
@@ -275,21 +316,8 @@ impl Draft {
         at: &TypeAt,
     ) -> Result<usize, Memory> {
         let root = *part.last().ok_or(Memory)?;
-        let mut writer = Writer {
-            laid,
-            steps: replace_steps(&mut self.steps, alloc),
-            concluded: BTreeMap::new(alloc),
-            top: None,
-        };
-        let spines = Spines::of(alloc, nodes, part, &self.known.lets)?;
-        let view = PartView {
-            posing,
-            spines: &spines,
-            known: &self.known,
-            globals: &self.globals,
-            firsts: &self.firsts,
-        };
-        writer.write_part(alloc, &view, nodes, part)?;
+        let mut writer = self.writer(alloc, laid);
+        self.write_nodes(alloc, &mut writer, nodes, part, posing)?;
         let env = type_env(alloc, at)?;
         let type_root = at.places.node(at.scheme.root.0);
         let step = writer.adapted(alloc, root, env.as_slice(), type_root)?;
@@ -320,6 +348,70 @@ impl Draft {
         Ok(())
     }
 
+    // The constraint of a part, solved, where the types of its names are known.
+    fn solved(
+        &self,
+        alloc: Global,
+        nodes: &[TermNode],
+        list: &[usize],
+    ) -> Result<SolvedPart, Memory>
+        requires { IsPartList nodes.now list.now }
+        ensures closed { IfOk result (λ s. IsClosed s.posing.automaton) }
+        ensures related { IfOk result (λ s. HoldsStates s.posing.automaton s.solution.found) }
+    {
+        let binders = binders_of(alloc, nodes, list, &self.known.lets)?;
+        let posing = posed(alloc, nodes, list, binders.all.as_slice(), &self.known)?;
+        let solution = solution_of(alloc, &posing.automaton, posing.goals.as_slice())?;
+        Ok(SolvedPart {
+            posing,
+            solution,
+            around: binders.around,
+        })
+    }
+
+    // The type of a part: that of the first part of a let, or that of the whole term.
+    fn type_of(
+        &mut self,
+        alloc: Global,
+        solved: &SolvedPart,
+        root: usize,
+        of_let: Option<usize>,
+        read: &ReadScheme,
+    ) -> Result<TypeAt, Memory>
+        requires read { IsRead read.now }
+    {
+        match of_let {
+            Some(_) => self.first_type(
+                alloc,
+                &solved.posing,
+                &solved.solution,
+                root,
+                solved.around.as_slice(),
+            ),
+            None => self.whole_type(alloc, read),
+        }
+    }
+
+    // Lays out a part behind its type, and writes its lines. It answers the last step.
+    fn add_lines(
+        &mut self,
+        alloc: Global,
+        nodes: &[TermNode],
+        list: &[usize],
+        solved: SolvedPart,
+        root: usize,
+        at: &TypeAt,
+    ) -> Result<usize, Memory>
+        requires closed { IsClosed solved.posing.automaton }
+        requires related { HoldsStates solved.posing.automaton solved.solution.found }
+    {
+        let posing = solved.posing;
+        let solution = solved.solution;
+        let around = solved.around;
+        let laid = self.laid_out(alloc, &posing, solution, root, around.as_slice(), at)?;
+        self.write(alloc, nodes, list, &posing, laid, at)
+    }
+
     // Writes a part.
     fn add_part(
         &mut self,
@@ -333,18 +425,11 @@ impl Draft {
         requires read { IsRead read.now }
     {
         let list = part.nodes.as_slice();
-        let binders = binders_of(alloc, nodes, list, &self.known.lets)?;
-        let around = binders.around.as_slice();
-        let posing = posed(alloc, nodes, list, binders.all.as_slice(), &self.known)?;
-        let solution = solution_of(alloc, &posing.automaton, posing.goals.as_slice())?;
-        let root = posing.root(*list.last().ok_or(Memory)?);
+        let solved = self.solved(alloc, nodes, list)?;
+        let root = solved.posing.root(*list.last().ok_or(Memory)?);
         let variable = self.variable;
-        let at = match part.of_let {
-            Some(_) => self.first_type(alloc, &posing, &solution, root, around)?,
-            None => self.whole_type(alloc, read)?,
-        };
-        let laid = self.laid_out(alloc, &posing, solution, root, around, &at)?;
-        let step = self.write(alloc, nodes, list, &posing, laid, &at)?;
+        let at = self.type_of(alloc, &solved, root, part.of_let, read)?;
+        let step = self.add_lines(alloc, nodes, list, solved, root, &at)?;
         match part.of_let {
             Some(k) => self.add_first(alloc, k, step, variable, at),
             None => Ok(()),

@@ -1,5 +1,5 @@
-//! The binders that a chain of applications needs: those of a function, of its arguments, and of what the result is
-//! applied to in turn.
+//! The binders that a chain of applications and conditionals needs. A chain goes from a node to that part of it which
+//! needs most binders, as long as that is an application or a conditional itself.
 
 use mls_automaton::scheme::Scheme;
 use mls_base::memory::Memory;
@@ -10,23 +10,20 @@ use std::collections::{BTreeMap, BTreeSet};
 
 type Binders = BTreeSet<usize>;
 
-// The binders that nodes need, until the node above takes them.
-type Needed = BTreeMap<usize, Binders>;
-
-/// The chains of applications of a part: the last application of each, by its first parts, and the binders that it
-/// needs.
+/// The chains of a part: the first node of the chain of each application and conditional, and by this node how many nodes
+/// the chain has, and the binders that it needs.
 #[derive(Drop)]
 pub(crate) struct Spines {
-    lasts: BTreeMap<usize, usize>,
+    firsts: BTreeMap<usize, usize>,
+    links: BTreeMap<usize, usize>,
     binders: BTreeMap<usize, Numbers>,
 }
 
-// Takes what a node needs.
-fn taken(alloc: Global, needed: &mut Needed, node: usize) -> Binders {
-    match needed.remove(&node) {
-        Some(binders) => binders,
-        None => Binders::new(alloc),
-    }
+// The chains of the nodes so far, and the binders that each of these nodes needs, until the node above takes them.
+#[derive(Drop)]
+struct Chains {
+    spines: Spines,
+    needed: BTreeMap<usize, Binders>,
 }
 
 // Adds binders to others.
@@ -76,52 +73,6 @@ fn one(alloc: Global, x: usize) -> Result<Binders, Memory> {
     Ok(binders)
 }
 
-fn of_parts(alloc: Global, needed: &mut Needed, parts: &[Part]) -> Result<Binders, Memory> {
-    let mut binders = Binders::new(alloc);
-    for part in parts {
-        binders = merged(binders, taken(alloc, needed, part.child))?;
-    }
-    Ok(binders)
-}
-
-fn of_both(
-    alloc: Global,
-    needed: &mut Needed,
-    first: usize,
-    second: usize,
-) -> Result<Binders, Memory> {
-    let left = taken(alloc, needed, first);
-    merged(left, taken(alloc, needed, second))
-}
-
-// The binders that an expression needs, from those that its parts need.
-fn needed_by(
-    alloc: Global,
-    needed: &mut Needed,
-    lets: &BTreeMap<usize, Scheme>,
-    form: &TermForm,
-) -> Result<Binders, Memory> {
-    match form {
-        TermForm::Bound(x) => one(alloc, *x),
-        TermForm::Inner(k) => binders_of_let(alloc, lets, *k),
-        TermForm::Global(_) | TermForm::Number(_) | TermForm::Truth(_) => Ok(Binders::new(alloc)),
-        TermForm::Fun(x, body) | TermForm::Rec(x, body) => {
-            Ok(without(taken(alloc, needed, *body), *x))
-        }
-        TermForm::Apply(function, argument) => of_both(alloc, needed, *function, *argument),
-        TermForm::Make(parts) => of_parts(alloc, needed, parts.as_slice()),
-        TermForm::Project(body, _) => Ok(taken(alloc, needed, *body)),
-        TermForm::If(condition, first, second) => {
-            let asked = taken(alloc, needed, *condition);
-            merged(asked, of_both(alloc, needed, *first, *second)?)
-        }
-        TermForm::Let(k, _, second) => {
-            let inner = taken(alloc, needed, *second);
-            merged(inner, binders_of_let(alloc, lets, *k)?)
-        }
-    }
-}
-
 fn listed(alloc: Global, binders: &Binders) -> Result<Numbers, Memory> {
     let mut list = Numbers::new(alloc);
     for x in binders {
@@ -131,27 +82,28 @@ fn listed(alloc: Global, binders: &Binders) -> Result<Numbers, Memory> {
 }
 
 impl Spines {
-    // Notes the last application of the chain that this node is in. Nodes are noted from the last on.
-    fn note(&mut self, node: usize, form: &TermForm) -> Result<(), Memory> {
-        if let TermForm::Apply(function, _) = form {
-            let last = *self.lasts.get(&node).unwrap_or(&node);
-            self.lasts.insert(*function, last)?;
+    fn new(alloc: Global) -> Spines {
+        Spines {
+            firsts: BTreeMap::new(alloc),
+            links: BTreeMap::new(alloc),
+            binders: BTreeMap::new(alloc),
         }
+    }
+
+    // Notes that a node goes on with the chain of this part, or begins one.
+    fn go_on(&mut self, node: usize, part: usize) -> Result<(), Memory> {
+        let first = *self.firsts.get(&part).unwrap_or(&node);
+        let links = self.links_of(first).saturating_add(1);
+        self.links.insert(first, links)?;
+        self.firsts.insert(node, first)?;
         Ok(())
     }
 
-    // Notes what the chain with this last application needs.
-    fn note_needed(
-        &mut self,
-        alloc: Global,
-        node: usize,
-        form: &TermForm,
-        binders: &Binders,
-    ) -> Result<(), Memory> {
-        if let TermForm::Apply(_, _) = form {
-            if !self.lasts.contains_key(&node) {
-                self.binders.insert(node, listed(alloc, binders)?)?;
-            }
+    // Notes what a chain needs, if this is its last node.
+    fn end(&mut self, alloc: Global, node: usize, binders: &Binders) -> Result<(), Memory> {
+        if let Some(first) = self.firsts.get(&node) {
+            let first = *first;
+            self.binders.insert(first, listed(alloc, binders)?)?;
         }
         Ok(())
     }
@@ -167,32 +119,129 @@ impl Spines {
         part: &[usize],
         lets: &BTreeMap<usize, Scheme>,
     ) -> Result<Spines, Memory> {
-        let mut spines = Spines {
-            lasts: BTreeMap::new(alloc),
-            binders: BTreeMap::new(alloc),
+        let mut chains = Chains {
+            spines: Spines::new(alloc),
+            needed: BTreeMap::new(alloc),
         };
-        for i in part.iter().rev() {
-            if let Some(node) = nodes.get(*i) {
-                spines.note(*i, &node.form)?;
-            }
-        }
-        let mut needed = Needed::new(alloc);
         for i in part {
             if let Some(node) = nodes.get(*i) {
-                let binders = needed_by(alloc, &mut needed, lets, &node.form)?;
-                spines.note_needed(alloc, *i, &node.form, &binders)?;
-                needed.insert(*i, binders)?;
+                let binders = chains.needed_by(alloc, lets, *i, &node.form)?;
+                chains.needed.insert(*i, binders)?;
             }
         }
-        Ok(spines)
+        if let Some(last) = part.last() {
+            chains.ended(alloc, *last)?;
+        }
+        Ok(chains.spines)
     }
 
-    /// The binders that the chain of an application needs.
-    pub(crate) fn binders(&self, node: usize) -> &[usize] {
-        let last = *self.lasts.get(&node).unwrap_or(&node);
-        match self.binders.get(&last) {
+    /// The first node of the chain that a node is in, if it is in one.
+    pub(crate) fn first(&self, node: usize) -> Option<usize> {
+        self.firsts.get(&node).copied()
+    }
+
+    /// How many nodes the chain with this first node has.
+    pub(crate) fn links_of(&self, first: usize) -> usize {
+        *self.links.get(&first).unwrap_or(&0)
+    }
+
+    /// The binders that the chain with this first node needs.
+    pub(crate) fn binders_of(&self, first: usize) -> &[usize] {
+        match self.binders.get(&first) {
             Some(binders) => binders.as_slice(),
             None => &[],
+        }
+    }
+}
+
+impl Chains {
+    // Takes what a node needs.
+    fn taken(&mut self, alloc: Global, node: usize) -> Binders {
+        match self.needed.remove(&node) {
+            Some(binders) => binders,
+            None => Binders::new(alloc),
+        }
+    }
+
+    // Takes what a node needs. No chain goes on behind it.
+    fn ended(&mut self, alloc: Global, node: usize) -> Result<Binders, Memory> {
+        let binders = self.taken(alloc, node);
+        self.spines.end(alloc, node, &binders)?;
+        Ok(binders)
+    }
+
+    fn of_parts(&mut self, alloc: Global, parts: &[Part]) -> Result<Binders, Memory> {
+        let mut binders = Binders::new(alloc);
+        for part in parts {
+            let more = self.ended(alloc, part.child)?;
+            binders = merged(binders, more)?;
+        }
+        Ok(binders)
+    }
+
+    // How many binders a node needs.
+    fn weight(&self, node: usize) -> usize {
+        match self.needed.get(&node) {
+            Some(binders) => binders.len(),
+            None => 0,
+        }
+    }
+
+    // The part that needs most binders, the first of several, or the node itself if no part needs any.
+    fn heaviest(&self, node: usize, parts: &[usize]) -> usize {
+        let mut heaviest = node;
+        for part in parts {
+            if self.weight(heaviest) < self.weight(*part) {
+                heaviest = *part;
+            }
+        }
+        heaviest
+    }
+
+    // An application or a conditional goes on with the chain of its heaviest part; those of the others end.
+    fn of_link(&mut self, alloc: Global, node: usize, parts: &[usize]) -> Result<Binders, Memory> {
+        let heaviest = self.heaviest(node, parts);
+        self.spines.go_on(node, heaviest)?;
+        let mut binders = self.taken(alloc, heaviest);
+        for part in parts {
+            if *part != heaviest {
+                let more = self.ended(alloc, *part)?;
+                binders = merged(binders, more)?;
+            }
+        }
+        Ok(binders)
+    }
+
+    // The binders that an expression needs, from those that its parts need.
+    fn needed_by(
+        &mut self,
+        alloc: Global,
+        lets: &BTreeMap<usize, Scheme>,
+        node: usize,
+        form: &TermForm,
+    ) -> Result<Binders, Memory> {
+        match form {
+            TermForm::Bound(x) => one(alloc, *x),
+            TermForm::Inner(k) => binders_of_let(alloc, lets, *k),
+            TermForm::Global(_) | TermForm::Number(_) | TermForm::Truth(_) => {
+                Ok(Binders::new(alloc))
+            }
+            TermForm::Fun(x, body) | TermForm::Rec(x, body) => {
+                let inner = self.ended(alloc, *body)?;
+                Ok(without(inner, *x))
+            }
+            TermForm::Apply(function, argument) => {
+                self.of_link(alloc, node, &[*function, *argument])
+            }
+            TermForm::Make(parts) => self.of_parts(alloc, parts.as_slice()),
+            TermForm::Project(body, _) => self.ended(alloc, *body),
+            TermForm::If(condition, first, second) => {
+                self.of_link(alloc, node, &[*condition, *first, *second])
+            }
+            TermForm::Let(k, _, second) => {
+                let inner = self.ended(alloc, *second)?;
+                merged(inner, binders_of_let(alloc, lets, *k)?)
+            }
         }
     }
 }

@@ -122,24 +122,24 @@ impl Steps {
         alloc: Global,
         node: usize,
         rule: StepRule,
-        env: &[BinderNode],
+        env: BinderNodes,
         root: NodeId,
     ) -> Result<Conclusion, Memory>
         ensures { IfOk result (AddsStep
-            self.old self.new (record { node = node; rule = «rule»; env = env.now; root = root })) }
+            self.old self.new (record { node = node; rule = «rule»; env = env; root = root })) }
     {
         let step = self.count;
         self.count = step.checked_add(1).ok_or(Memory)?;
         self.lines.push(SectionLine::Step(StepLine {
             node,
             rule,
-            env: copied(alloc, env)?,
+            env: copied(alloc, env.as_slice())?,
             root,
         }))?;
         Ok(Conclusion {
             step,
             root,
-            env: copied(alloc, env)?,
+            env,
             puts: Puts::new(alloc),
         })
     }
@@ -160,7 +160,8 @@ impl Steps {
         let puts = from.puts.as_slice();
         let wanted = asked(alloc, from, env, root)?;
         let pairs = pairs_for(alloc, book, puts, wanted.as_slice())?;
-        let to = self.step(alloc, node, StepRule::Sub(from.step), env, root)?;
+        let own = copied(alloc, env)?;
+        let to = self.step(alloc, node, StepRule::Sub(from.step), own, root)?;
         push_puts(&mut self.lines, puts)?;
         push_pairs(&mut self.lines, pairs.as_slice())?;
         Ok(to)

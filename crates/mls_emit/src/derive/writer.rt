@@ -30,14 +30,20 @@ pub(crate) struct PartView<'a> {
     pub(crate) firsts: &'a FirstParts,
 }
 
-/// The nodes of a part, the steps so far, what the nodes of the term conclude, and the node of the greatest type, where
-/// a binder that is not used asked for one.
+// How many nodes the meet of a binder's nodes may have. What a step by pairs looks at grows with the square.
+const MEMBERS: usize = 8;
+
+/// The nodes of a part, the steps so far, what the nodes of the term conclude, the node of the greatest type, where a
+/// binder that is not used asked for one, how many nodes the meets of binders have, and the environment of each chain, by
+/// its first node, which has no binder where that of each node is its own.
 #[derive(Drop)]
 pub(crate) struct Writer {
     pub(crate) laid: LaidOut,
     pub(crate) steps: Steps,
     pub(crate) concluded: BTreeMap<usize, Concluded>,
     pub(crate) top: Option<NodeId>,
+    pub(crate) widths: BTreeMap<usize, usize>,
+    pub(crate) chains: BTreeMap<usize, BinderNodes>,
 }
 
 /// What a node concludes: a binder may have any type, and another node has a step.
@@ -252,9 +258,41 @@ impl Writer {
         }
     }
 
-    // Both environments in one: where a binder has two nodes, it goes to its own.
+    // How many nodes a meet has that was made for a binder; another node is one.
+    fn width(&self, id: NodeId) -> usize {
+        self.widths.get(&id.0).copied().unwrap_or(1)
+    }
+
+    // Whether the node is a record of many fields.
+    fn is_wide(&self, id: NodeId) -> bool {
+        self.many_fields(id) > 0
+    }
+
+    // The node of a binder that has two. It is its own, or the meet of both where its own has many fields and the meet
+    // has few nodes: a step that brings a part to another type goes over all of the node of each binder.
+    fn agreed(
+        &mut self,
+        view: &PartView,
+        binder: usize,
+        left: NodeId,
+        right: NodeId,
+    ) -> Result<NodeId, Memory> {
+        let place = self.place(view.posing.binder(binder));
+        let width = behind(self.width(left), self.width(right))?;
+        if left == right {
+            return Ok(left);
+        }
+        if left == place || right == place || width > MEMBERS || !self.is_wide(place) {
+            return Ok(place);
+        }
+        let met = self.meet(left, right)?;
+        self.widths.insert(met.0, width)?;
+        Ok(met)
+    }
+
+    // Both environments in one.
     fn joined(
-        &self,
+        &mut self,
         alloc: Global,
         view: &PartView,
         first: &[BinderNode],
@@ -270,8 +308,7 @@ impl Writer {
         let binders = both(alloc, first, second)?;
         for binder in binders.as_slice() {
             let node = match (node_of(first, *binder), node_of(second, *binder)) {
-                (Some(left), Some(right)) if left == right => left,
-                (Some(_), Some(_)) => self.place(view.posing.binder(*binder)),
+                (Some(left), Some(right)) => self.agreed(view, *binder, left, right)?,
                 (Some(left), None) => left,
                 (None, Some(right)) => right,
                 (None, None) => return Err(Memory),
@@ -299,8 +336,7 @@ impl Writer {
         let from = match self.concluded.remove(&node).ok_or(Memory)? {
             Concluded::Bound(x) => {
                 let own = with(alloc, &[], x, root)?;
-                self.steps
-                    .step(alloc, node, StepRule::Var, own.as_slice(), root)?
+                self.steps.step(alloc, node, StepRule::Var, own, root)?
             }
             Concluded::Step(from) => from,
         };
@@ -322,7 +358,8 @@ impl Writer {
         let first = *view.posing.copies.get(&node).ok_or(Memory)?;
         let puts = global_puts(alloc, &mut self.laid.book, &self.laid.places, global, first)?;
         let rule = StepRule::Name(NodeId(global.first));
-        let mut own = self.steps.step(alloc, node, rule, &[], global.root)?;
+        let env = BinderNodes::new(alloc);
+        let mut own = self.steps.step(alloc, node, rule, env, global.root)?;
         own.puts = puts;
         Ok(own)
     }
@@ -359,16 +396,16 @@ impl Writer {
         let part = view.firsts.get(&k).ok_or(Memory)?;
         let puts = self.puts_of_let(alloc, view, node, k, part)?;
         let rule = StepRule::Use(part.step);
-        let mut own = self
-            .steps
-            .step(alloc, node, rule, part.env.as_slice(), part.root)?;
+        let env = copied(alloc, part.env.as_slice())?;
+        let mut own = self.steps.step(alloc, node, rule, env, part.root)?;
         own.puts = puts;
         Ok(own)
     }
 
     // A number or a truth value.
     fn literal(&mut self, alloc: Global, node: usize, root: NodeId) -> Result<Conclusion, Memory> {
-        self.steps.step(alloc, node, StepRule::Lit, &[], root)
+        self.steps
+            .step(alloc, node, StepRule::Lit, BinderNodes::new(alloc), root)
     }
 
     fn fun(
@@ -392,7 +429,8 @@ impl Writer {
             false => self.laid.book.push(Node::Arrow(domain, root))?,
         };
         let env = without(alloc, own.as_slice(), x)?;
-        self.steps.step(alloc, node, StepRule::Fun(step), env.as_slice(), own_arrow)
+        self.steps
+            .step(alloc, node, StepRule::Fun(step), env, own_arrow)
     }
 
     // The type of the function of an application: that which the function has, if it is one of functions, or else that
@@ -406,28 +444,111 @@ impl Writer {
         self.function(behind(view.posing.root(node), 2)?)
     }
 
-    // The environment of an application: where its chain needs several binders, all of them with their own nodes, so
-    // that no binder comes in later, and else those of both parts.
-    fn chained(
+    // How many fields a node has, where they are many.
+    fn many_fields(&self, id: NodeId) -> usize {
+        if id.0 >= self.laid.book.len() {
+            return 0;
+        }
+        match self.laid.book.node(id) {
+            Node::Rcd(fields) if fields.as_slice().len() > MEMBERS => fields.as_slice().len(),
+            _ => 0,
+        }
+    }
+
+    // All binders that the chain with this first node needs, with their own nodes, where they are several and have no
+    // more fields than the chain is long, by a constant: a step that brings the chain to another type goes over all of
+    // these. No binder where it is otherwise.
+    fn env_of_chain(
         &self,
         alloc: Global,
         view: &PartView,
-        node: usize,
-        left: &[BinderNode],
-        right: &[BinderNode],
+        first: usize,
     ) -> Result<BinderNodes, Memory> {
-        let binders = view.spines.binders(node);
-        if binders.len() < 2 {
-            return self.joined(alloc, view, left, right);
-        }
         let mut env = BinderNodes::new(alloc);
-        for binder in binders {
+        let mut fields: usize = 0;
+        for binder in view.spines.binders_of(first) {
+            let node = self.place(view.posing.binder(*binder));
+            fields = fields.saturating_add(self.many_fields(node));
             env.push(BinderNode {
                 binder: *binder,
-                node: self.place(view.posing.binder(*binder)),
+                node,
             })?;
         }
+        let most = view.spines.links_of(first).saturating_mul(MEMBERS);
+        if env.len() < 2 || fields > most {
+            return Ok(BinderNodes::new(alloc));
+        }
         Ok(env)
+    }
+
+    // The environment of the chain that a node is in, if all its nodes have the same.
+    fn chained(
+        &mut self,
+        alloc: Global,
+        view: &PartView,
+        node: usize,
+    ) -> Result<Option<BinderNodes>, Memory> {
+        let first = match view.spines.first(node) {
+            Some(first) => first,
+            None => return Ok(None),
+        };
+        if !self.chains.contains_key(&first) {
+            let env = self.env_of_chain(alloc, view, first)?;
+            self.chains.insert(first, env)?;
+        }
+        match self.chains.get(&first) {
+            Some(env) if !env.is_empty() => Ok(Some(copied(alloc, env.as_slice())?)),
+            _ => Ok(None),
+        }
+    }
+
+    // The environment of a conditional: that of its chain, or else that of all parts at these types.
+    fn env_of_choice(
+        &mut self,
+        alloc: Global,
+        view: &PartView,
+        node: usize,
+        parts: [(usize, NodeId); 3],
+    ) -> Result<BinderNodes, Memory> {
+        if let Some(env) = self.chained(alloc, view, node)? {
+            return Ok(env);
+        }
+        let mut env = BinderNodes::new(alloc);
+        for (part, root) in parts {
+            let own = self.offered(alloc, view, part, root)?;
+            env = self.joined(alloc, view, env.as_slice(), own.as_slice())?;
+        }
+        Ok(env)
+    }
+
+    // The environment of an application: that of its chain, so that no binder comes in later, or else that of both
+    // parts at these types.
+    fn env_of_application(
+        &mut self,
+        alloc: Global,
+        view: &PartView,
+        node: usize,
+        function: (usize, NodeId),
+        argument: (usize, NodeId),
+    ) -> Result<BinderNodes, Memory> {
+        if let Some(env) = self.chained(alloc, view, node)? {
+            return Ok(env);
+        }
+        let left = self.offered(alloc, view, function.0, function.1)?;
+        let right = self.offered(alloc, view, argument.0, argument.1)?;
+        self.joined(alloc, view, left.as_slice(), right.as_slice())
+    }
+
+    // Whether a node has this environment at this type without a step by pairs.
+    fn has_env(&self, node: usize, root: NodeId, env: &[BinderNode]) -> bool {
+        match self.concluded.get(&node) {
+            Some(Concluded::Bound(x)) => match env {
+                [only] => only.binder == *x && only.node == root,
+                _ => false,
+            },
+            Some(Concluded::Step(of)) => of.puts.is_empty() && of.env.as_slice() == env,
+            None => false,
+        }
     }
 
     // The type of the function of an application and the environment of both parts. Where a function of this type needs
@@ -443,12 +564,16 @@ impl Writer {
     ) -> Result<Applied, Memory> {
         let arrow = self.applied(view, node, function)?;
         let own = self.own_type(argument, arrow.from)?;
-        let left = self.offered(alloc, view, function, arrow.node)?;
-        let right = self.offered(alloc, view, argument, own)?;
-        let env = self.chained(alloc, view, node, left.as_slice(), right.as_slice())?;
+        let env = self.env_of_application(
+            alloc,
+            view,
+            node,
+            (function, arrow.node),
+            (argument, own),
+        )?;
         let is_there = self.placed_type(view, function)? == Some(arrow.node)
-            && left.as_slice() == env.as_slice();
-        if is_there || own == arrow.from || right.as_slice() != env.as_slice() {
+            && self.has_env(function, arrow.node, env.as_slice());
+        if is_there || own == arrow.from || !self.has_env(argument, own, env.as_slice()) {
             return Ok(Applied { arrow, env });
         }
         let arrow = ArrowNode {
@@ -467,11 +592,11 @@ impl Writer {
         function: usize,
         argument: usize,
     ) -> Result<Conclusion, Memory> {
-        let at = self.met(alloc, view, node, function, argument)?;
-        let env = at.env.as_slice();
-        let first = self.adapted(alloc, function, env, at.arrow.node)?;
-        let second = self.adapted(alloc, argument, env, at.arrow.from)?;
-        self.steps.step(alloc, node, StepRule::App(first, second), env, at.arrow.to)
+        let Applied { arrow, env } = self.met(alloc, view, node, function, argument)?;
+        let first = self.adapted(alloc, function, env.as_slice(), arrow.node)?;
+        let second = self.adapted(alloc, argument, env.as_slice(), arrow.from)?;
+        self.steps
+            .step(alloc, node, StepRule::App(first, second), env, arrow.to)
     }
 
     // The nodes of the fields of a record at the labels of these parts.
@@ -536,7 +661,7 @@ impl Writer {
 
     // The environment of the parts of a record.
     fn env_of_parts(
-        &self,
+        &mut self,
         alloc: Global,
         view: &PartView,
         fields: &[NodeId],
@@ -568,7 +693,7 @@ impl Writer {
             false => self.own_record(alloc, record, parts, own.as_slice())?,
         };
         self.steps
-            .step(alloc, node, StepRule::Make(steps), env.as_slice(), root)
+            .step(alloc, node, StepRule::Make(steps), env, root)
     }
 
     // The type of the record of a projection, with its field: that which the record has, if it is one of this label
@@ -602,7 +727,7 @@ impl Writer {
         let env = self.offered(alloc, view, body, record)?;
         let step = self.adapted(alloc, body, env.as_slice(), record)?;
         self.steps
-            .step(alloc, node, StepRule::Proj(step), env.as_slice(), field)
+            .step(alloc, node, StepRule::Proj(step), env, field)
     }
 
     // The type of a condition: its own, if it is `bool`, or else the node of `bool`.
@@ -643,16 +768,13 @@ impl Writer {
     ) -> Result<Conclusion, Memory> {
         let into = self.common_type(view, node, first, second)?;
         let truth = self.asked_type(condition)?;
-        let left = self.offered(alloc, view, condition, truth)?;
-        let middle = self.offered(alloc, view, first, into)?;
-        let right = self.offered(alloc, view, second, into)?;
-        let upper = self.joined(alloc, view, left.as_slice(), middle.as_slice())?;
-        let env = self.joined(alloc, view, upper.as_slice(), right.as_slice())?;
+        let parts = [(condition, truth), (first, into), (second, into)];
+        let env = self.env_of_choice(alloc, view, node, parts)?;
         let asked = self.adapted(alloc, condition, env.as_slice(), truth)?;
         let yes = self.adapted(alloc, first, env.as_slice(), into)?;
         let no = self.adapted(alloc, second, env.as_slice(), into)?;
         let rule = StepRule::If(asked, yes, no);
-        self.steps.step(alloc, node, rule, env.as_slice(), into)
+        self.steps.step(alloc, node, rule, env, into)
     }
 
     // The environment of a let: the binders that both parts need have meets of both nodes.
@@ -694,8 +816,7 @@ impl Writer {
             Concluded::Bound(x) => {
                 let place = self.place(view.posing.binder(x));
                 let own = with(alloc, &[], x, place)?;
-                self.steps
-                    .step(alloc, node, StepRule::Var, own.as_slice(), place)
+                self.steps.step(alloc, node, StepRule::Var, own, place)
             }
             Concluded::Step(from) => Ok(from),
         }
@@ -727,9 +848,7 @@ impl Writer {
         }
         let met = self.meets(alloc, part.env.as_slice(), inner.env.as_slice())?;
         let rule = StepRule::Let(part.step, inner.step);
-        let mut own = self
-            .steps
-            .step(alloc, node, rule, met.as_slice(), inner.root)?;
+        let mut own = self.steps.step(alloc, node, rule, met, inner.root)?;
         own.puts = inner.puts;
         add_puts(&mut own.puts, puts.as_slice())?;
         Ok(own)
@@ -748,8 +867,7 @@ impl Writer {
         let inner = with(alloc, own.as_slice(), x, root)?;
         let step = self.adapted(alloc, body, inner.as_slice(), root)?;
         let env = without(alloc, own.as_slice(), x)?;
-        self.steps
-            .step(alloc, node, StepRule::Rec(step), env.as_slice(), root)
+        self.steps.step(alloc, node, StepRule::Rec(step), env, root)
     }
 
     // What a node concludes by its rule, behind what its rule asks for.
