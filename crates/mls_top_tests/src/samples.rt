@@ -1,8 +1,8 @@
 //! What the tests of runs share: words, files, stores of them, and what is printed over them.
-use crate::run::run;
 use mls_base::memory::Memory;
 use mls_io::memory::{FileEntry, SureSink, SureStore};
 use mls_io::store::{Fetch, Store};
+use mls_top::run::run;
 use std::alloc::Global;
 use std::process::Abort;
 

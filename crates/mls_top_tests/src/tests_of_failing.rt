@@ -1,8 +1,8 @@
 //! Fetches and puts that fail.
-use crate::run::run;
 use crate::samples::{ListedStore, MODULES, answered, words_of};
 use mls_base::memory::Memory;
 use mls_io::failing::{FailAt, MemSink};
+use mls_top::run::run;
 use std::alloc::Global;
 use std::process::Abort;
 use std::test::Fail;

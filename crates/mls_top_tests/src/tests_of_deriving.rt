@@ -1,9 +1,9 @@
 //! Derivations of the types of modules.
-use crate::run::run;
 use crate::samples::{MODULES, Row, are_answered, text_among, words_of};
 use mls_base::memory::Memory;
 use mls_io::memory::SureSink;
 use mls_io::store::{Fetch, Store};
+use mls_top::run::run;
 use std::alloc::Global;
 use std::process::Abort;
 use std::test::Fail;

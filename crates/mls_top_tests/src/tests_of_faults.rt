@@ -1,7 +1,9 @@
 //! Faults of the text of a module, and its limits.
-use crate::reading::MODULE_LIMIT;
 use crate::samples::inferred;
 use std::test::Fail;
+
+// How many bytes the text of a module may have.
+const MODULE_LIMIT: usize = 1_048_576;
 
 #[test]
 fn answers_the_first_fault_with_its_line(rt: HostRuntime) -> Result<(), Fail> {

@@ -1,8 +1,8 @@
 //! Modules over the interfaces of their imports.
-use crate::run::run;
 use crate::samples::{Row, are_answered, words_of};
 use mls_base::memory::Memory;
 use mls_io::memory::{FileEntry, SureSink, SureStore, have_distinct_names};
+use mls_top::run::run;
 use std::alloc::Global;
 use std::test::Fail;
 

@@ -1,9 +1,9 @@
 //! Words of command lines.
-use crate::run::run;
 use crate::samples::words_of;
 use mls_base::memory::Memory;
 use mls_io::memory::SureSink;
 use mls_io::store::{Fetch, Store};
+use mls_top::run::run;
 use std::alloc::Global;
 use std::test::Fail;
 

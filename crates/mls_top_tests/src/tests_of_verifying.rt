@@ -1,10 +1,10 @@
 //! Derivations beside their modules.
-use crate::run::run;
 use crate::samples::{Row, are_answered, words_of};
 use mls_base::memory::Memory;
 use mls_io::failing::{FailAt, MemSink};
 use mls_io::memory::SureSink;
 use mls_io::store::{Fetch, Store};
+use mls_top::run::run;
 use std::alloc::Global;
 use std::test::Fail;
 
