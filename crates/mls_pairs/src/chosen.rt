@@ -1,5 +1,7 @@
 //! The pairs that are left of a list where each pair keeps one of its reasons.
 ghost use Rattle.std.specs.Prelude.{◌≡◌, ◌↔◌, ◌⊎◌, ◌∷◌, [], All, IfOk, IfSome, IsTrue, Some};
+ghost use Rattle.mls_book.specs.Books.{AreRising};
+ghost use Rattle.mls_deriv.specs.inner.PairRules.{HasRisingLabels};
 ghost use Rattle.mls_pairs.specs.PairLists.{pair_of};
 ghost use Rattle.mls_pairs.specs.steps.Reasons.{AreEndPairs, BothReason, FieldsReason, IsHeld, IsReasonFor};
 ghost use Rattle.mls_pairs.specs.steps.Reasons.{AreShown, IsChosen, IsReasonOf, IsShownAt, LeftReason, LeftVariable, RightReason};
@@ -7,14 +9,13 @@ ghost use Rattle.mls_pairs.specs.steps.Reasons.{RightVariable};
 ghost use Rattle.mls_pairs.specs.steps.Rounds.{AreThose, IsShownBy};
 
 use crate::found::Found;
-use crate::needs::{exchanged, left_node, node_needs, push_fields, right_node};
+use crate::needs::{exchanged, left_node, node_needs, node_of, push_fields, right_node};
 use crate::pairs::Pairs;
 use crate::thin::add_kept;
 use mls_base::memory::Memory;
 use mls_book::book::{Book, Fields, Node, NodeId};
 use mls_deriv::claim::Pair;
 use mls_deriv::derivation::Mode;
-use mls_deriv::justify::node_or;
 use mls_deriv::table::Table;
 use std::alloc::Global;
 
@@ -212,6 +213,7 @@ fn by_fields(
     fields: &Fields,
     others: &Fields,
 ) -> Result<Option<Pairs>, Memory>
+    requires { AreRising fields.now }
     ensures { IfOk result (λ found. IfSome found (FieldsReason mode fields.now others.now)) }
 {
     let mut reason = Pairs::new(alloc);
@@ -225,6 +227,7 @@ fn by_fields(
 
 // Both nodes are of one kind, and their parts are in order.
 fn by_both(alloc: Global, pair: Pair, left: &Node, right: &Node) -> Result<Option<Pairs>, Memory>
+    requires { HasRisingLabels left.now }
     ensures { IfOk result (λ found. IfSome found (BothReason pair left.now right.now)) }
 {
     match (left, right) {
@@ -290,7 +293,8 @@ fn by_needs(
     left: &Node,
     right: &Node,
 ) -> Result<Pairs, Memory>
-    requires { IsShownAt table.now pair left.now right.now }
+    requires shown { IsShownAt table.now pair left.now right.now }
+    requires rising { HasRisingLabels left.now }
     ensures { IfOk result (IsReasonFor table.now pair left.now right.now) }
 {
     let needs = node_needs(alloc, table, pair, left, right)?;
@@ -344,7 +348,8 @@ fn reason_at(
     left: &Node,
     right: &Node,
 ) -> Result<Pairs, Memory>
-    requires { IsShownAt table.now pair left.now right.now }
+    requires shown { IsShownAt table.now pair left.now right.now }
+    requires rising { HasRisingLabels left.now }
     ensures { IfOk result (IsReasonFor table.now pair left.now right.now) }
 {
     if pair.mode == Mode::Pp && pair.left == pair.right {
@@ -368,8 +373,8 @@ fn reason_for(alloc: Global, book: &Book, table: &Table, pair: Pair) -> Result<P
     ensures { IfOk result (IsReasonOf book.now table.now pair) }
 {
     let bot = Node::Bot;
-    let left = node_or(book, NodeId(pair.left), &bot);
-    let right = node_or(book, NodeId(pair.right), &bot);
+    let left = node_of(book, NodeId(pair.left), &bot);
+    let right = node_of(book, NodeId(pair.right), &bot);
     let reason = reason_at(alloc, table, pair, left, right)?;
     Ok(reason)
 }

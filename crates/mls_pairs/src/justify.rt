@@ -1,17 +1,17 @@
-//! Whether a pair of nodes is shown by one look at both, and by other pairs, in any book: its labels need not rise, but
-//! they are looked up by halves where they do.
+//! Whether a pair of nodes is shown by one look at both, and by other pairs, in any book: what its nodes name need not
+//! be there.
 ghost use Rattle.std.specs.Prelude.{◌≡◌, ◌↔◌, ◌⊎◌, IsTrue, All};
 ghost use Rattle.mls_book.specs.Books.{AreRising};
 ghost use Rattle.mls_deriv.specs.Pairs.{exchanged};
 ghost use Rattle.mls_deriv.specs.inner.PairRules.{ByLeft, ByRight, ByBoth, ByNodes, LabelFits, AllLabelsFit};
-ghost use Rattle.mls_deriv.specs.inner.PairRules.{left_node, right_node, IsShown};
+ghost use Rattle.mls_deriv.specs.inner.PairRules.{left_node, right_node, HasRisingLabels, IsShown};
 ghost use Rattle.mls_deriv.specs.inner.Tables.{Holds, put_in};
 
-use crate::labelled::labelled;
-use mls_book::book::{Book, Fields, Node, NodeId};
+use crate::needs::node_of;
+use mls_book::book::{Book, Field, Node, NodeId};
 use mls_book::name::Name;
 use mls_deriv::derivation::Mode;
-use mls_deriv::justify::node_or;
+use mls_deriv::lookup::field_of;
 use mls_deriv::table::Table;
 
 /// The node that a variable is read as on the left side.
@@ -69,21 +69,14 @@ fn by_right(table: &Table, mode: Mode, i: usize, right: &Node) -> bool
 }
 
 /// Whether the left record has this label with a lower field, if the right one has it.
-fn label_fits(
-    table: &Table,
-    mode: Mode,
-    fields: &Fields,
-    others: &Fields,
-    are_rising: bool,
-    label: &Name,
-) -> bool
-    requires fields { IsTrue are_rising → AreRising fields.now }
-    requires others { IsTrue are_rising → AreRising others.now }
+fn label_fits(table: &Table, mode: Mode, fields: &[Field], others: &[Field], label: &Name) -> bool
+    requires left { AreRising fields.now }
+    requires right { AreRising others.now }
     ensures { IsTrue result ↔ LabelFits (Holds table.now) mode fields.now others.now label.now }
 {
-    match labelled(others, are_rising, label) {
+    match field_of(others, label) {
         None => true,
-        Some(k) => match labelled(fields, are_rising, label) {
+        Some(k) => match field_of(fields, label) {
             None => false,
             Some(m) => table.holds(mode, m.0, k.0),
         },
@@ -91,28 +84,22 @@ fn label_fits(
 }
 
 /// Whether each field of the right record is in the left one and lower there.
-fn labels_fit(table: &Table, mode: Mode, fields: &Fields, others: &Fields, are_rising: bool) -> bool
-    requires fields { IsTrue are_rising → AreRising fields.now }
-    requires others { IsTrue are_rising → AreRising others.now }
+fn labels_fit(table: &Table, mode: Mode, fields: &[Field], others: &[Field]) -> bool
+    requires left { AreRising fields.now }
+    requires right { AreRising others.now }
     ensures { IsTrue result ↔ All (λ field. LabelFits
         (Holds table.now) mode fields.now others.now field.label) others.now }
 {
-    others.as_slice().iter().all(|field| label_fits(
-        table,
-        mode,
-        fields,
-        others,
-        are_rising,
-        &field.label,
-    ))
+    others.iter().all(|field| label_fits(table, mode, fields, others, &field.label))
 }
 
 /// Whether the left record is shown to be below the right one.
-fn records_fit(table: &Table, mode: Mode, fields: &Fields, others: &Fields) -> bool
+fn records_fit(table: &Table, mode: Mode, fields: &[Field], others: &[Field]) -> bool
+    requires left { AreRising fields.now }
+    requires right { AreRising others.now }
     ensures { IsTrue result ↔ AllLabelsFit (Holds table.now) mode fields.now others.now }
 {
-    let are_rising = fields.is_rising() && others.is_rising();
-    labels_fit(table, mode, fields, others, are_rising)
+    labels_fit(table, mode, fields, others)
 }
 
 /// The mode with its sides exchanged.
@@ -128,6 +115,8 @@ fn exchanged(mode: Mode) -> Mode
 
 /// Whether both nodes show that the left one is below the right one.
 fn by_both(table: &Table, mode: Mode, left: &Node, right: &Node) -> bool
+    requires left { HasRisingLabels left.now }
+    requires right { HasRisingLabels right.now }
     ensures { IsTrue result ↔ ByBoth (put_in table.now) (Holds table.now) mode left.now right.now }
 {
     match (left, right) {
@@ -138,13 +127,20 @@ fn by_both(table: &Table, mode: Mode, left: &Node, right: &Node) -> bool
             && right_node(mode, table, *x).is_none(),
         (Node::Arrow(a, b), Node::Arrow(c, d)) => table.holds(exchanged(mode), c.0, a.0)
             && table.holds(mode, b.0, d.0),
-        (Node::Rcd(fields), Node::Rcd(others)) => records_fit(table, mode, fields, others),
+        (Node::Rcd(fields), Node::Rcd(others)) => records_fit(
+            table,
+            mode,
+            fields.as_slice(),
+            others.as_slice(),
+        ),
         _ => false,
     }
 }
 
 /// Whether two nodes show that the one is below the other.
 fn by_nodes(table: &Table, mode: Mode, i: usize, j: usize, left: &Node, right: &Node) -> bool
+    requires left { HasRisingLabels left.now }
+    requires right { HasRisingLabels right.now }
     ensures { IsTrue result ↔ ByNodes (put_in table.now) (Holds table.now) mode i j left.now right.now }
 {
     by_one(table, mode, i, j, left, right) || by_other(table, mode, i, j, left, right)
@@ -158,6 +154,8 @@ fn by_one(table: &Table, mode: Mode, i: usize, j: usize, left: &Node, right: &No
 }
 
 fn by_other(table: &Table, mode: Mode, i: usize, j: usize, left: &Node, right: &Node) -> bool
+    requires left { HasRisingLabels left.now }
+    requires right { HasRisingLabels right.now }
     ensures { IsTrue result ↔ (ByBoth (put_in table.now) (Holds table.now) mode left.now right.now
         ⊎ ((mode ≡ Mode.Pp) × (i ≡ j))) }
 {
@@ -169,7 +167,7 @@ pub fn is_shown(book: &Book, table: &Table, mode: Mode, left: NodeId, right: Nod
     ensures { IsTrue result ↔ IsShown book.now (put_in table.now) (Holds table.now) mode left.0 right.0 }
 {
     let bot = Node::Bot;
-    let first = node_or(book, left, &bot);
-    let second = node_or(book, right, &bot);
+    let first = node_of(book, left, &bot);
+    let second = node_of(book, right, &bot);
     by_nodes(table, mode, left.0, right.0, first, second)
 }

@@ -1,20 +1,20 @@
 //! The pairs that the rules name for a pair of nodes.
-ghost use Rattle.std.specs.Prelude.{◌≡◌, ◌++◌, ◌∷◌, [], IfOk, IsTrue, OnOk};
+ghost use Rattle.std.specs.Prelude.{◌≡◌, ◌++◌, ◌∷◌, [], IfOk, OnOk};
 ghost use Rattle.std.specs.List.{flat_map};
-ghost use Rattle.mls_book.specs.Books.{AreRising};
+ghost use Rattle.mls_book.specs.declared.book.Node.TheVariants.{Bot};
+ghost use Rattle.mls_book.specs.Books.{AreRising, node_at};
 ghost use Rattle.mls_deriv.specs.Pairs.{exchanged};
-ghost use Rattle.mls_deriv.specs.inner.PairRules.{left_node, right_node};
+ghost use Rattle.mls_deriv.specs.inner.PairRules.{HasRisingLabels, left_node, right_node};
 ghost use Rattle.mls_deriv.specs.inner.Tables.{put_in};
 ghost use Rattle.mls_pairs.specs.PairLists.{pair_of};
 ghost use Rattle.mls_pairs.specs.steps.Needs.{both_needs, field_needs, left_needs, needs_of, node_needs, right_needs};
 
-use crate::labelled::labelled;
 use crate::pairs::Pairs;
 use mls_base::memory::Memory;
 use mls_book::book::{Book, Field, Fields, Node, NodeId};
 use mls_deriv::claim::Pair;
 use mls_deriv::derivation::Mode;
-use mls_deriv::justify::node_or;
+use mls_deriv::lookup::field_of;
 use mls_deriv::table::Table;
 use std::alloc::Global;
 
@@ -109,17 +109,11 @@ fn push_right(
 }
 
 // Adds the pair of a field of the right record, where the left one has its label.
-fn push_field(
-    needs: &mut Pairs,
-    mode: Mode,
-    fields: &Fields,
-    is_rising: bool,
-    other: &Field,
-) -> Result<(), Memory>
-    requires { IsTrue is_rising → AreRising fields.now }
+fn push_field(needs: &mut Pairs, mode: Mode, fields: &Fields, other: &Field) -> Result<(), Memory>
+    requires { AreRising fields.now }
     ensures { OnOk result (needs.new ≡ needs.old ++ field_needs mode fields.now other.now) }
 {
-    match labelled(fields, is_rising, &other.label) {
+    match field_of(fields.as_slice(), &other.label) {
         None => Ok(()),
         Some(m) => push(needs, mode, m.0, other.node.0),
     }
@@ -132,11 +126,11 @@ pub(crate) fn push_fields(
     fields: &Fields,
     others: &Fields,
 ) -> Result<(), Memory>
+    requires { AreRising fields.now }
     ensures { OnOk result (needs.new ≡ needs.old ++ flat_map (field_needs mode fields.now) others.now) }
 {
-    let is_rising = fields.is_rising();
     for other in others.as_slice() {
-        push_field(needs, mode, fields, is_rising, other)?;
+        push_field(needs, mode, fields, other)?;
     }
     Ok(())
 }
@@ -154,6 +148,7 @@ pub(crate) fn exchanged(mode: Mode) -> Mode
 
 // Adds what both nodes ask for.
 fn push_both(needs: &mut Pairs, mode: Mode, left: &Node, right: &Node) -> Result<(), Memory>
+    requires { HasRisingLabels left.now }
     ensures { OnOk result (needs.new ≡ needs.old ++ both_needs mode left.now right.now) }
 {
     match (left, right) {
@@ -178,6 +173,7 @@ pub(crate) fn node_needs(
     left: &Node,
     right: &Node,
 ) -> Result<Pairs, Memory>
+    requires { HasRisingLabels left.now }
     ensures { IfOk result (λ needs. needs ≡ node_needs (put_in table.now) pair left.now right.now) }
 {
     let mut needs = Pairs::new(alloc);
@@ -185,6 +181,19 @@ pub(crate) fn node_needs(
     push_right(&mut needs, table, pair.mode, pair.left, right)?;
     push_both(&mut needs, pair.mode, left, right)?;
     Ok(needs)
+}
+
+/// The node of this number, whose labels rise; past the end of the book it is the other one, a `Bot`.
+pub(crate) fn node_of<'a>(book: &'a Book, id: NodeId, bot: &'a Node) -> &'a Node
+    requires { bot.now ≡ Bot }
+    ensures node { result.now ≡ node_at book.now id.0 }
+    ensures rising { HasRisingLabels result.now }
+{
+    if id.0 < book.len() {
+        book.node(id)
+    } else {
+        bot
+    }
 }
 
 /// The pairs that the rules name for this pair.
@@ -197,7 +206,7 @@ pub(crate) fn needs_of(
     ensures { IfOk result (λ needs. needs ≡ needs_of book.now (put_in table.now) pair) }
 {
     let bot = Node::Bot;
-    let left = node_or(book, NodeId(pair.left), &bot);
-    let right = node_or(book, NodeId(pair.right), &bot);
+    let left = node_of(book, NodeId(pair.left), &bot);
+    let right = node_of(book, NodeId(pair.right), &bot);
     node_needs(alloc, table, pair, left, right)
 }
