@@ -29,6 +29,7 @@ use Rattle.mls_typing.proofs.Lists.{Contains-here, Contains-later, Contains-case
 use Rattle.mls_typing.proofs.TypedForms.{with_binder-same, generated, rule_allows, typed_number, typed_truth, typed_bound}
 use Rattle.mls_parts.specs.NodeTypes.{part_types, AreTyped, AreAllTyped, HasInstance, NeedsOnly, IsKnownHere}
 use Rattle.mls_parts.specs.NumberedNodes.{behind, IsPlaced}
+use Rattle.mls_allowed.proofs.EachTyped.{IsChoice, conditional_tree}
 use Rattle.mls_allowed.proofs.DistinctLists.{AreDistinct, distinct_left, distinct_both, distinct_first}
 use Rattle.mls_parts.proofs.HeldTypes.{bool_type, int_type, arrow_type}
 use Rattle.mls_parts.proofs.NumberedNodes.{before-fun, before-fix, before-project, before-apply, before-local, before-choice, before-make, nodes-a_field}
@@ -78,28 +79,37 @@ module _ (nodes : List TermNode) (known : Known) where
         → AreTyped nodes known T B (n + before t) t
 
   -- a root of this type over what was found for the parts
+  rooted_at : (scope : List ℕ) (n : ℕ) (t : TermTree) (f g : Predicate) (old : ℕ → Predicate) (olds : Types) (type : ℕ → Predicate) (binder : Types)
+      → (((m : ℕ) → IsType (old m)) → IsType g) → Implies g f → AreKept n (binders_of t) old olds type binder
+      → ((T : ℕ → Predicate) (B : Types) → T (n + before t) ≡ g → ((m : ℕ) → m < n + before t → T m ≡ type m) → ((x : ℕ) → Near scope (binders_of t) x → B x ≡ binder x)
+      → AreTyped nodes known T B (n + before t) t)
+      → (it : IsFound scope n t f old olds) × (it.type (n + before t) ≡ g)
+  rooted_at scope n t f g old olds type binder is below kept typed =
+      let i : ℕ = n + before t in (
+        record {
+          type = with_binder type i g;
+          binder = binder;
+          kept = record {
+            nodes = λ m low. with_other type i g m (λ same. let low' : m < n = low in let at : m ≡ i = same in omega arith) ∙ kept.nodes m low;
+            binders = kept.binders;
+            nodes_are = λ are m. with_is_type type i g m (is are) (kept.nodes_are are m);
+            binders_are = kept.binders_are;
+          };
+          root = Implies-trans (with_binder type i g i) g f (Implies-same (with_binder type i g i) g (with_binder-same type i g)) below;
+          typed = λ T B same_T same_B.
+              typed T B (same_T i (omega arith) ∙ with_binder-same type i g)
+              (λ m low. let low' : m < i = low in same_T m (omega arith) ∙ with_other type i g m (λ same. let at : m ≡ i = same in omega arith))
+              same_B;
+        },
+        with_binder-same type i g,
+      )
+
   rooted : (scope : List ℕ) (n : ℕ) (t : TermTree) (f g : Predicate) (old : ℕ → Predicate) (olds : Types) (type : ℕ → Predicate) (binder : Types)
       → (((m : ℕ) → IsType (old m)) → IsType g) → Implies g f → AreKept n (binders_of t) old olds type binder
       → ((T : ℕ → Predicate) (B : Types) → T (n + before t) ≡ g → ((m : ℕ) → m < n + before t → T m ≡ type m) → ((x : ℕ) → Near scope (binders_of t) x → B x ≡ binder x)
       → AreTyped nodes known T B (n + before t) t)
       → IsFound scope n t f old olds
-  rooted scope n t f g old olds type binder is below kept typed =
-      let i : ℕ = n + before t in
-      record {
-        type = with_binder type i g;
-        binder = binder;
-        kept = record {
-          nodes = λ m low. with_other type i g m (λ same. let low' : m < n = low in let at : m ≡ i = same in omega arith) ∙ kept.nodes m low;
-          binders = kept.binders;
-          nodes_are = λ are m. with_is_type type i g m (is are) (kept.nodes_are are m);
-          binders_are = kept.binders_are;
-        };
-        root = Implies-trans (with_binder type i g i) g f (Implies-same (with_binder type i g i) g (with_binder-same type i g)) below;
-        typed = λ T B same_T same_B.
-            typed T B (same_T i (omega arith) ∙ with_binder-same type i g)
-            (λ m low. let low' : m < i = low in same_T m (omega arith) ∙ with_other type i g m (λ same. let at : m ≡ i = same in omega arith))
-            same_B;
-      }
+  rooted scope n t f g old olds type binder is below kept typed = (rooted_at scope n t f g old olds type binder is below kept typed).0
 
   -- a node without parts
   leaf : (scope : List ℕ) (n : ℕ) (t : TermTree) (f g : Predicate) (old : ℕ → Predicate) (olds : Types) → IsType g → Implies g f
@@ -247,9 +257,10 @@ module _ (nodes : List TermNode) (known : Known) where
         ))
 
     pub choice_found : (c e e' : TermTree) (g : Predicate) → IsType g → Implies g f → IsPlaced nodes scope n (choice at c e e')
-        → (one : IsFound scope n c bool old olds) (two : IsFound scope (behind n c) e g one.type one.binder) → IsFound scope (behind (behind n c) e) e' g two.type two.binder
-        → IsFound scope n (choice at c e e') f old olds
-    choice_found c e e' g is below placed one two three =
+        → (one : IsFound scope n c bool old olds) (two : IsFound scope (behind n c) e g one.type one.binder) (three : IsFound scope (behind (behind n c) e) e' g two.type two.binder)
+        → (IsChoice e → two.type (behind n c + before e) ≡ g) → (IsChoice e' → three.type (behind (behind n c) e + before e') ≡ g)
+        → (it : IsFound scope n (choice at c e e') f old olds) × (it.type (n + before (choice at c e e')) ≡ g)
+    choice_found c e e' g is below placed one two three first_type second_type =
         let i : ℕ = n + before (choice at c e e') in
         let j : ℕ = n + before c in
         let k : ℕ = behind n c + before e in
@@ -257,7 +268,7 @@ module _ (nodes : List TermNode) (known : Known) where
         let bs : List ℕ = binders_of c ++ binders_of e in
         let size : before (choice at c e e') ≡ suc (before c) + suc (before e) + suc (before e') = before-choice at c e e' in
         let early : AreDistinct bs = distinct_left bs (binders_of e') placed.once in
-        rooted scope n (choice at c e e') f g old olds three.type three.binder (λ are. is) below
+        rooted_at scope n (choice at c e e') f g old olds three.type three.binder (λ are. is) below
         (kept_then n (behind (behind n c) e) bs (binders_of e') old olds two.type two.binder three.type three.binder (omega arith)
         (kept_then n (behind n c) (binders_of c) (binders_of e) old olds one.type one.binder two.type two.binder (omega arith) one.kept two.kept) three.kept)
         (λ T B same same_T same_B.
@@ -266,7 +277,9 @@ module _ (nodes : List TermNode) (known : Known) where
         let at_condition : (m : ℕ) → m ≤ j → T m ≡ one.type m = λ m le. let le' : m ≤ j = le in at_first m (omega arith) ∙ two.kept.nodes m (omega arith) in
         let before_second : (x : ℕ) → Near scope bs x → B x ≡ two.binder x = λ x which.
         same_B x (in_left scope bs (binders_of e') x which) ∙ three.kept.binders x (not_right scope bs (binders_of e') placed.once placed.apart x which) in
-        let apart : AreApart scope bs = apart_left scope bs (binders_of e') placed.apart in (
+        let apart : AreApart scope bs = apart_left scope bs (binders_of e') placed.apart in
+        let first_typed : AreTyped nodes known T B k e = two.typed T B at_first (λ x which. before_second x (in_right scope (binders_of c) (binders_of e) x which)) in
+        let second_typed : AreTyped nodes known T B l e' = three.typed T B (λ m le. let le' : m ≤ l = le in same_T m (omega arith)) (λ x which. same_B x (in_right scope bs (binders_of e') x which)) in (
           j,
           k,
           l,
@@ -276,12 +289,14 @@ module _ (nodes : List TermNode) (known : Known) where
               Implies-trans (T j) (one.type j) bool (Implies-same (T j) (one.type j) (at_condition j (omega arith))) one.root,
               Implies-trans (T k) g (T i) (Implies-trans (T k) (two.type k) g (Implies-same (T k) (two.type k) (at_first k (omega arith))) two.root) (Implies-same_back (T i) g same),
               Implies-trans (T l) g (T i) (Implies-trans (T l) (three.type l) g (Implies-same (T l) (three.type l) at_second) three.root) (Implies-same_back (T i) g same),
+              λ conditional. at_first k (omega arith) ∙ (first_type (conditional_tree nodes known T B e k first_typed conditional) ∙ sym same),
+              λ conditional. at_second ∙ (second_type (conditional_tree nodes known T B e' l second_typed conditional) ∙ sym same),
             ),
           ),
           one.typed T B at_condition
               (λ x which. before_second x (in_left scope (binders_of c) (binders_of e) x which) ∙ two.kept.binders x (not_right scope (binders_of c) (binders_of e) early apart x which)),
-          two.typed T B at_first (λ x which. before_second x (in_right scope (binders_of c) (binders_of e) x which)),
-          three.typed T B (λ m le. let le' : m ≤ l = le in same_T m (omega arith)) (λ x which. same_B x (in_right scope bs (binders_of e') x which)),
+          first_typed,
+          second_typed,
         ))
 
     -- a let, of whose first part nothing is a node here

@@ -59,6 +59,7 @@ binder_bound p m n known entry from ends head needs can from_is partners it head
       needs = needs_are ∙ (ap (λ (ns : List Need). ns ++ record { binder = entry.binder; head = head } ∷ []) it.needs ∙ ap (λ (h : Head). p.needs ++ record { binder = entry.binder; head = h } ∷ []) same);
       roots = it.roots;
       binders = it.binders;
+      results = it.results;
     }
 
 module _ (p : Posing) (known : Scheme) where
@@ -86,6 +87,7 @@ module _ (p : Posing) (known : Scheme) where
     needs = sym (nil_behind p.needs);
     roots = refl;
     binders = refl;
+    results = refl;
   }
     where
       second : (m r : ℕ) → IsEdgeAbove n known m r → HasFlow (appended p.automaton known.automaton) m r
@@ -125,6 +127,7 @@ module _ (p : Posing) (known : Scheme) where
             ∙ ap (λ (ns : List Need). p.needs ++ ns) (sym (map-append (copied_need n known) entries (entry ∷ [])))));
         roots = more.roots ∙ it.roots;
         binders = more.binders ∙ it.binders;
+        results = more.results ∙ it.results;
       }
 
   module _ (is : IsKnownTo p known) (m : Posing) (entries : List EnvEntry) (it : AddsCopy p m n known entries) where
@@ -163,4 +166,5 @@ copy_posed p m i roots copies known root other it updates same = record {
   needs = it.needs;
   roots = subst (λ rs. Updates nat_cmp rs roots i (Some other)) it.roots (subst (λ r. Updates nat_cmp m.roots roots i (Some r)) same updates);
   binders = it.binders;
+  results = it.results;
 }

@@ -29,11 +29,11 @@ use Rattle.mls_term.specs.declared.term.TermForm.{TermForm}
 use Rattle.mls_term.specs.declared.term.TermForm.TheVariants as form
 use Rattle.mls_parts.specs.declared.pose.Need.{Need}
 use Rattle.mls_parts.specs.declared.pose.Posing.{Posing}
-use Rattle.mls_parts.specs.PosedCopies.{HasBinder, HasBinderOf, IsGood}
+use Rattle.mls_parts.specs.PosedCopies.{HasBinder, HasBinderOf, IsGood, IsNew, IsResult}
 use Rattle.mls_layout.specs.PosedNodes.{HasPartsIn}
-use Rattle.mls_parts.specs.Posings.{Added, Adds, AddsNode, CanPose, HasKnown, known_in, IsCopiedEdge, IsKnownTo, OneEdge, binder_in, copied_need, copy_added, NoEdge, bool_head, fix_added, function_head, goal, int_head, literal_added, negative, one_field, or_zero, positive, record_head, root_in, size}
+use Rattle.mls_parts.specs.Posings.{Added, Adds, AddsNode, CanPose, HasKnown, known_in, IsCopiedEdge, IsKnownTo, OneEdge, binder_in, copied_need, copy_added, NoEdge, bool_head, choice_goals, fix_added, function_head, goal, int_head, joined_choice_added, literal_added, negative, one_field, or_zero, positive, record_head, root_in, size}
 use Rattle.mls_parts.specs.steps.Sharing.{shared_added}
-use Rattle.mls_parts.proofs.PosedByNode.{new_state}
+use Rattle.mls_parts.proofs.PosedByNode.{new_state, none_noted, noted_cases, root_is, root_kept, same_root}
 use Rattle.mls_parts.proofs.Posings.{longer, state_there}
 
 abbrev past : State
@@ -62,11 +62,12 @@ module _ (p q : Posing) (i : ℕ) (new : Added) (IsEdge : ℕ → ℕ → Type 0
   abbrev HasGood : State → Type 0
   HasGood x = HasStatesIn (IsState q.automaton) x.polarity x.head × HasRisingLabels x.head.fields
 
-  pub adds_good : ((k : ℕ) → HasGood (get_or new.states k past))
+  pub adds_good : IsNew p i → ((k : ℕ) → HasGood (get_or new.states k past))
       → ((n s : ℕ) → IsEdge n s → IsState q.automaton Negative n × IsState q.automaton Positive s)
       → ((g : Goal) → Contains new.goals g → IsGoalOf q.automaton g) → IsState q.automaton Positive new.root
-      → ((need : Need) → Contains new.needs need → HasStatesIn (IsState q.automaton) Negative need.head × HasRisingLabels need.head.fields × HasBinder p need.binder) → IsGood q
-  adds_good heads edges goals root needs = record {
+      → ((need : Need) → Contains new.needs need → HasStatesIn (IsState q.automaton) Negative need.head × HasRisingLabels need.head.fields × HasBinder p need.binder)
+      → ((n : ℕ) → new.result ≡ Some n → IsState q.automaton Negative n × HasFlow q.automaton n new.root) → IsGood q
+  adds_good is_new heads edges goals root needs noted = record {
     closed = record {
       heads = λ s. (state_good s (below_or_more s (size p))).0;
       labels = λ s. (state_good s (below_or_more s (size p))).1;
@@ -84,6 +85,7 @@ module _ (p q : Posing) (i : ℕ) (new : Added) (IsEdge : ℕ → ℕ → Type 0
     around = λ need there.
         subst (λ bs. IsSome (get nat_cmp bs need.binder)) (sym it.binders)
         (need_good need (Contains-append_cases p.needs new.needs need (subst (λ (ns : List Need). Contains ns need) it.needs there))).2;
+    results = λ k n e. result_good k n (noted_cases p.results q.results i new.result it.results k n e);
   }
     where
       same_state : (s : ℕ) → s < size p → state_at q.automaton s ≡ state_at p.automaton s
@@ -114,6 +116,26 @@ module _ (p q : Posing) (i : ℕ) (new : Added) (IsEdge : ℕ → ℕ → Type 0
       root_good k s e true is = let same : new.root ≡ s = cc in subst (IsState q.automaton Positive) same root
       root_good k s e false is = old_state Positive s (good.roots k s (sym is ∙ e))
 
+      root_there : (k : ℕ) (o : Option ℕ) → get nat_cmp p.roots k ≡ o → IsSome o → IsSome (get nat_cmp q.roots k)
+      root_there k None e wrong = absurd (cc)
+      root_there k (Some s) e some = subst IsSome (sym (root_kept p q i new IsEdge it is_new k s e)) refl
+
+      result_good : (k n : ℕ) → (get nat_cmp p.results k ≡ Some n) ⊎ ((k ≡ i) × (new.result ≡ Some n)) → IsResult q k n
+      result_good k n (inl before) =
+          let at = good.results k n before in
+          record {
+            negative = old_state Negative n at.negative;
+            rooted = root_there k (get nat_cmp p.roots k) refl at.rooted;
+            flows = subst (HasFlow q.automaton n) (sym (same_root p q i new IsEdge it is_new k at.rooted)) ((it.flows n (root_in p k)).1 (inl at.flows));
+          }
+      result_good k n (inr (same, is)) =
+          let at = noted n is in
+          subst (λ j. IsResult q j n) (sym same) (record {
+            negative = at.0;
+            rooted = subst IsSome (sym it.roots.1) refl;
+            flows = subst (HasFlow q.automaton n) (sym (root_is p q i new IsEdge it)) at.1;
+          })
+
       need_good : (need : Need) → Contains p.needs need ⊎ Contains new.needs need → HasStatesIn (IsState q.automaton) Negative need.head × HasRisingLabels need.head.fields × HasBinder p need.binder
       need_good need (inl old) = (states_more (IsState p.automaton) (IsState q.automaton) old_state Negative need.head (good.needs need old), good.labels need old, good.around need old)
       need_good need (inr there) = needs need there
@@ -123,7 +145,7 @@ pub known_from : (p : Posing) (s : Scheme) (o : Option Scheme) → HasKnown p o 
 known_from p s None has e = absurd has
 known_from p s (Some t) has e = let same : t ≡ s = cc in subst (IsKnownTo p) same has
 
-module _ (p q : Posing) (i : ℕ) (good : IsGood p) where
+module _ (p q : Posing) (i : ℕ) (good : IsGood p) (is_new : IsNew p i) where
   abbrev HasRoot : ℕ → Type 0
   HasRoot k = IsSome (get nat_cmp p.roots k)
 
@@ -156,10 +178,11 @@ module _ (p q : Posing) (i : ℕ) (good : IsGood p) where
       → (((r : Polarity) (s : ℕ) → IsState p.automaton r s → IsState q.automaton r s) → HasStatesIn (IsState q.automaton) Positive head) → HasRisingLabels head.fields
       → ((n s : ℕ) → E n s → (s ≡ size p) × IsState p.automaton Negative n) → IsGood q
   literal_good head E it states labels edges =
-      adds_good p q i (literal_added (size p) head) E it good each
+      adds_good p q i (literal_added (size p) head) E it good is_new each
       (λ n s edge. let at = edges n s edge in (old Negative n at.1, subst (IsState q.automaton Positive) (sym at.0) root))
       (λ g there. let low : there.0 < 0 = there.1 in absurd (omega arith)) root
       (λ need there. let low : there.0 < 0 = there.1 in absurd (omega arith))
+      (λ n e. absurd (none_noted n e))
     where
       old : (r : Polarity) (s : ℕ) → IsState p.automaton r s → IsState q.automaton r s
       old = old_state p q i (literal_added (size p) head) E it good
@@ -172,29 +195,31 @@ module _ (p q : Posing) (i : ℕ) (good : IsGood p) where
       each (suc k) = (no_states (IsState q.automaton) Positive, tt)
 
   -- a node of three, of which the second flows into the first, and the third has this head
-  result_good : (head : Head) (goals : List Goal) → Adds p q i (record { states = positive empty_head ∷ negative empty_head ∷ negative head ∷ []; goals = goals; needs = []; root = size p }) (OneEdge (suc (size p)) (size p))
+  result_good : (head : Head) (goals : List Goal) (result : Option ℕ) → Adds p q i (record { states = positive empty_head ∷ negative empty_head ∷ negative head ∷ []; goals = goals; needs = []; root = size p; result = result }) (OneEdge (suc (size p)) (size p))
       → (((r : Polarity) (s : ℕ) → IsState p.automaton r s → IsState q.automaton r s) → IsState q.automaton Negative (suc (size p)) → HasStatesIn (IsState q.automaton) Negative head) → HasRisingLabels head.fields
-      → ((g : Goal) → Contains goals g → IsState p.automaton Positive g.positive.0 × ((g.negative.0 ≡ suc (size p)) ⊎ (g.negative.0 ≡ suc (suc (size p))))) → IsGood q
-  result_good head goals it states labels between =
-      adds_good p q i new (OneEdge (suc (size p)) (size p)) it good each
+      → ((g : Goal) → Contains goals g → IsState p.automaton Positive g.positive.0 × ((g.negative.0 ≡ suc (size p)) ⊎ (g.negative.0 ≡ suc (suc (size p)))))
+      → ((n : ℕ) → result ≡ Some n → n ≡ suc (size p)) → IsGood q
+  result_good head goals result it states labels between noted =
+      adds_good p q i new (OneEdge (suc (size p)) (size p)) it good is_new each
       (λ n s edge. (subst (IsState q.automaton Negative) (sym edge.0) into, subst (IsState q.automaton Positive) (sym edge.1) root))
       (λ g there. let at = between g there in (old Positive g.positive.0 at.0, lower g at.1)) root
       (λ need there. let low : there.0 < 0 = there.1 in absurd (omega arith))
+      (λ n e. (subst (IsState q.automaton Negative) (sym (noted n e)) into, (it.flows n (size p)).1 (inr (noted n e, refl))))
     where
       new : Added
-      new = record { states = positive empty_head ∷ negative empty_head ∷ negative head ∷ []; goals = goals; needs = []; root = size p }
+      new = record { states = positive empty_head ∷ negative empty_head ∷ negative head ∷ []; goals = goals; needs = []; root = size p; result = result }
 
       old : (r : Polarity) (s : ℕ) → IsState p.automaton r s → IsState q.automaton r s
-      old = old_state p q i (record { states = positive empty_head ∷ negative empty_head ∷ negative head ∷ []; goals = goals; needs = []; root = size p }) (OneEdge (suc (size p)) (size p)) it good
+      old = old_state p q i (record { states = positive empty_head ∷ negative empty_head ∷ negative head ∷ []; goals = goals; needs = []; root = size p; result = result }) (OneEdge (suc (size p)) (size p)) it good
 
       root : IsState q.automaton Positive (size p)
-      root = let at : size p + 0 ≡ size p = omega arith in subst (IsState q.automaton Positive) at (fresh_state p q i (record { states = positive empty_head ∷ negative empty_head ∷ negative head ∷ []; goals = goals; needs = []; root = size p }) (OneEdge (suc (size p)) (size p)) it good 0 (omega arith))
+      root = let at : size p + 0 ≡ size p = omega arith in subst (IsState q.automaton Positive) at (fresh_state p q i (record { states = positive empty_head ∷ negative empty_head ∷ negative head ∷ []; goals = goals; needs = []; root = size p; result = result }) (OneEdge (suc (size p)) (size p)) it good 0 (omega arith))
 
       into : IsState q.automaton Negative (suc (size p))
-      into = let at : size p + 1 ≡ suc (size p) = omega arith in subst (IsState q.automaton Negative) at (fresh_state p q i (record { states = positive empty_head ∷ negative empty_head ∷ negative head ∷ []; goals = goals; needs = []; root = size p }) (OneEdge (suc (size p)) (size p)) it good 1 (omega arith))
+      into = let at : size p + 1 ≡ suc (size p) = omega arith in subst (IsState q.automaton Negative) at (fresh_state p q i (record { states = positive empty_head ∷ negative empty_head ∷ negative head ∷ []; goals = goals; needs = []; root = size p; result = result }) (OneEdge (suc (size p)) (size p)) it good 1 (omega arith))
 
       upper : IsState q.automaton Negative (suc (suc (size p)))
-      upper = let at : size p + 2 ≡ suc (suc (size p)) = omega arith in subst (IsState q.automaton Negative) at (fresh_state p q i (record { states = positive empty_head ∷ negative empty_head ∷ negative head ∷ []; goals = goals; needs = []; root = size p }) (OneEdge (suc (size p)) (size p)) it good 2 (omega arith))
+      upper = let at : size p + 2 ≡ suc (suc (size p)) = omega arith in subst (IsState q.automaton Negative) at (fresh_state p q i (record { states = positive empty_head ∷ negative empty_head ∷ negative head ∷ []; goals = goals; needs = []; root = size p; result = result }) (OneEdge (suc (size p)) (size p)) it good 2 (omega arith))
 
       lower : (g : Goal) → (g.negative.0 ≡ suc (size p)) ⊎ (g.negative.0 ≡ suc (suc (size p))) → IsState q.automaton Negative g.negative.0
       lower g (inl is) = subst (IsState q.automaton Negative) (sym is) into
@@ -206,12 +231,42 @@ module _ (p q : Posing) (i : ℕ) (good : IsGood p) where
       each (suc (suc zero)) = (states old into, labels)
       each (suc (suc (suc k))) = (no_states (IsState q.automaton) Positive, tt)
 
+  -- a conditional that shares the states of another one
+  joined_good : (c f s root into : ℕ) → Adds p q i (joined_choice_added (size p) c f s root into) NoEdge
+      → IsState p.automaton Positive c → IsState p.automaton Positive f → IsState p.automaton Positive s → IsState p.automaton Positive root → IsState p.automaton Negative into → HasFlow p.automaton into root → IsGood q
+  joined_good c f s root into it c_is f_is s_is root_state into_is edge =
+      adds_good p q i (joined_choice_added (size p) c f s root into) NoEdge it good is_new each (λ n s edge. absurd edge) goal_good (old Positive root root_state)
+      (λ need there. let low : there.0 < 0 = there.1 in absurd (omega arith))
+      (λ n e. let same : into ≡ n = cc in subst (λ n. IsState q.automaton Negative n × HasFlow q.automaton n root) same (old Negative into into_is, (it.flows into root).1 (inl edge)))
+    where
+      old : (r : Polarity) (k : ℕ) → IsState p.automaton r k → IsState q.automaton r k
+      old = old_state p q i (joined_choice_added (size p) c f s root into) NoEdge it good
+
+      bit : IsState q.automaton Negative (size p)
+      bit = let at : size p + 0 ≡ size p = omega arith in subst (IsState q.automaton Negative) at (fresh_state p q i (joined_choice_added (size p) c f s root into) NoEdge it good 0 (omega arith))
+
+      each : (k : ℕ) → HasStatesIn (IsState q.automaton) (get_or (negative bool_head ∷ []) k past).polarity (get_or (negative bool_head ∷ []) k past).head × HasRisingLabels (get_or (negative bool_head ∷ []) k past).head.fields
+      each zero = (record { function = tt; fields = tt }, tt)
+      each (suc k) = (no_states (IsState q.automaton) Positive, tt)
+
+      goal_good : (g : Goal) → Contains (choice_goals c f s (size p) into) g → IsGoalOf q.automaton g
+      goal_good g there = elim (Contains-cases (goal c (size p)) (goal f into ∷ goal s into ∷ []) g there) [
+        | inl same ↦ subst (IsGoalOf q.automaton) same (old Positive c c_is, bit)
+        | inr later ↦ elim (Contains-cases (goal f into) (goal s into ∷ []) g later) [
+          | inl same ↦ subst (IsGoalOf q.automaton) same (old Positive f f_is, old Negative into into_is)
+          | inr last ↦ elim (Contains-cases (goal s into) [] g last) [
+            | inl same ↦ subst (IsGoalOf q.automaton) same (old Positive s s_is, old Negative into into_is)
+            | inr none ↦ let low : none.0 < 0 = none.1 in absurd (omega arith)
+          ]
+        ]
+      ]
+
   -- a node with a copy of a known type
   pub copy_good : (s : Scheme) (root : ℕ) (known : IsKnownTo p s) → Adds p q i (copy_added (size p) s root) (IsCopiedEdge (size p) (binder_in p) s s.env)
       → (((r : Polarity) (k : ℕ) → IsState s.automaton r k → IsState q.automaton r (size p + k)) → ((r : Polarity) (k : ℕ) → IsState p.automaton r k → IsState q.automaton r k) → IsState q.automaton Positive root) → IsGood q
   copy_good s root known it root_is =
-      adds_good p q i (copy_added (size p) s root) (IsCopiedEdge (size p) (binder_in p) s s.env) it good each edges
-      (λ g there. let low : there.0 < 0 = there.1 in absurd (omega arith)) (root_is above old) needed
+      adds_good p q i (copy_added (size p) s root) (IsCopiedEdge (size p) (binder_in p) s s.env) it good is_new each edges
+      (λ g there. let low : there.0 < 0 = there.1 in absurd (omega arith)) (root_is above old) needed (λ n e. absurd (none_noted n e))
     where
       n : ℕ
       n = size p
@@ -286,14 +341,14 @@ module _ (p q : Posing) (i : ℕ) (good : IsGood p) where
         fields = tt;
       }) tt (λ n s edge. absurd edge)
   node_good globals lets (form.Apply j k) it parts binder can =
-      result_good (function_head (root_in p k) (suc (size p))) (goal (root_in p j) (suc (suc (size p))) ∷ []) it
+      result_good (function_head (root_in p k) (suc (size p))) (goal (root_in p j) (suc (suc (size p))) ∷ []) None it
       (λ old into. record {
         function = (
           only (IsState q.automaton Positive) (root_in p k) (old Positive (root_in p k) (root_before k parts.1)),
           only (IsState q.automaton Negative) (suc (size p)) into,
         );
         fields = tt;
-      }) tt (λ g there. one_goal (root_in p j) (suc (suc (size p))) (root_before j parts.0) (inr refl) g there)
+      }) tt (λ g there. one_goal (root_in p j) (suc (suc (size p))) (root_before j parts.0) (inr refl) g there) (λ n e. absurd (none_noted n e))
   node_good globals lets (form.Make ps) (fields, are, it) roots binder can =
       literal_good (record_head fields) NoEdge it
       (λ old. record { function = tt; fields = All-contained (λ (field : FieldSet). All (IsState q.automaton Positive) field.set) fields (λ field there. field_good old field there) })
@@ -304,11 +359,15 @@ module _ (p q : Posing) (i : ℕ) (good : IsGood p) where
           let found = are.single field there in
           subst (λ (set : List ℕ). All (IsState q.automaton Positive) set) (sym found.2) (only (IsState q.automaton Positive) (root_in p found.0.child) (old Positive (root_in p found.0.child) (root_before found.0.child (roots found.0 found.1))))
   node_good globals lets (form.Project j label) it parts binder can =
-      result_good (record_head (one_field label (suc (size p)))) (goal (root_in p j) (suc (suc (size p))) ∷ []) it
+      result_good (record_head (one_field label (suc (size p)))) (goal (root_in p j) (suc (suc (size p))) ∷ []) None it
       (λ old into. record { function = tt; fields = only (λ (field : FieldSet). All (IsState q.automaton Negative) field.set) _ (only (IsState q.automaton Negative) (suc (size p)) into) })
-      (λ i d low. absurd (omega arith), tt) (λ g there. one_goal (root_in p j) (suc (suc (size p))) (root_before j parts) (inr refl) g there)
-  node_good globals lets (form.If j k l) it parts binder can =
-      result_good bool_head (goal (root_in p j) (suc (suc (size p))) ∷ goal (root_in p k) (suc (size p)) ∷ goal (root_in p l) (suc (size p)) ∷ []) it
+      (λ i d low. absurd (omega arith), tt) (λ g there. one_goal (root_in p j) (suc (suc (size p))) (root_before j parts) (inr refl) g there) (λ n e. absurd (none_noted n e))
+  node_good globals lets (form.If j k l) (inr (branch, into, which, noted, it)) parts binder can =
+      let at = good.results branch into noted in
+      joined_good (root_in p j) (root_in p k) (root_in p l) (root_in p branch) into it
+      (root_before j parts.0) (root_before k parts.1) (root_before l parts.2) (root_before branch at.rooted) at.negative at.flows
+  node_good globals lets (form.If j k l) (inl it) parts binder can =
+      result_good bool_head (choice_goals (root_in p j) (root_in p k) (root_in p l) (suc (suc (size p))) (suc (size p))) (Some (suc (size p))) it
       (λ old into. record { function = tt; fields = tt }) tt
       (λ g there. elim (Contains-cases (goal (root_in p j) (suc (suc (size p)))) (goal (root_in p k) (suc (size p)) ∷ goal (root_in p l) (suc (size p)) ∷ []) g there) [
         | inl same ↦ at_goal (root_in p j) (suc (suc (size p))) (root_before j parts.0) (inr refl) g same
@@ -317,11 +376,12 @@ module _ (p q : Posing) (i : ℕ) (good : IsGood p) where
           | inr last ↦ one_goal (root_in p l) (suc (size p)) (root_before l parts.2) (inl refl) g last
         ]
       ])
+      (λ n e. let same : suc (size p) ≡ n = cc in sym same)
   node_good globals lets (form.Let k j l) (s, is, it) parts binder can =
       copy_good s (root_in p l) (known_from p s (known_in lets k) can is) it (λ above old. old Positive (root_in p l) (root_before l parts))
   node_good globals lets (form.Rec x j) it parts binder can =
-      adds_good p q i (fix_added (root_in p j) (binder_in p x)) NoEdge it good (λ k. (no_states (IsState q.automaton) Positive, tt)) (λ n s edge. absurd edge)
-      (λ g there. recursion g there) (old Positive (root_in p j) (root_before j parts)) (λ need there. let low : there.0 < 0 = there.1 in absurd (omega arith))
+      adds_good p q i (fix_added (root_in p j) (binder_in p x)) NoEdge it good is_new (λ k. (no_states (IsState q.automaton) Positive, tt)) (λ n s edge. absurd edge)
+      (λ g there. recursion g there) (old Positive (root_in p j) (root_before j parts)) (λ need there. let low : there.0 < 0 = there.1 in absurd (omega arith)) (λ n e. absurd (none_noted n e))
     where
       old : (r : Polarity) (s : ℕ) → IsState p.automaton r s → IsState q.automaton r s
       old = old_state p q i (fix_added (root_in p j) (binder_in p x)) NoEdge it good
@@ -335,7 +395,7 @@ module _ (p q : Posing) (i : ℕ) (good : IsGood p) where
   -- a use that shares the copy of another one
   pub shared_good : (j : ℕ) → HasRoot j → Adds p q i (shared_added (root_in p j)) NoEdge → IsGood q
   shared_good j rooted it =
-      adds_good p q i (shared_added (root_in p j)) NoEdge it good (λ k. (no_states (IsState q.automaton) Positive, tt)) (λ n s edge. absurd edge)
+      adds_good p q i (shared_added (root_in p j)) NoEdge it good is_new (λ k. (no_states (IsState q.automaton) Positive, tt)) (λ n s edge. absurd edge)
       (λ g there. let low : there.0 < 0 = there.1 in absurd (omega arith))
       (old_state p q i (shared_added (root_in p j)) NoEdge it good Positive (root_in p j) (root_before j rooted))
-      (λ need there. let low : there.0 < 0 = there.1 in absurd (omega arith))
+      (λ need there. let low : there.0 < 0 = there.1 in absurd (omega arith)) (λ n e. absurd (none_noted n e))

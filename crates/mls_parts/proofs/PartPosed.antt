@@ -87,6 +87,7 @@ module _ (q : Posing) (good : IsGood q) where
       goals = m.goals;
       roots = m.roots;
       binders = m.binders;
+      results = m.results;
       needs = m.needs;
     }
       where

@@ -3,7 +3,9 @@
 --     node_posed          and the node is posed
 --     node_extends, node_root
 --     used_again          a use whose root is that of another use of its name
-use Rattle.std.proofs.Common.{◌≡◌, inl, inr, ℕ, suc, ◌+◌, Bool, true, false, List, [], ◌∷◌, map, length, get_or, Contains, refl, sym, ap, ◌∙◌, subst, arith, Option, Some, None, length-append, IsSome}
+--     noted_cases         what is noted of conditionals
+--     node_noted
+use Rattle.std.proofs.Common.{◌≡◌, ◌⊎◌, inl, inr, ℕ, suc, ◌+◌, Bool, true, false, List, [], ◌∷◌, map, length, get_or, Contains, refl, sym, ap, ◌∙◌, subst, arith, Option, Some, None, length-append, IsSome}
 use Rattle.std.specs.Prelude.{cond}
 use Rattle.std.specs.BTreeMap.{BTreeMap, get, Updates}
 use Rattle.std.specs.Ordering.{nat_cmp, is_eq}
@@ -28,11 +30,24 @@ use Rattle.mls_parts.specs.declared.pose.Posing.{Posing}
 use Rattle.mls_parts.specs.PosedCopies.{Extends, IsCopyAt, IsGood, IsNew, IsUsePosed}
 use Rattle.mls_layout.specs.PosedNodes.{HasPartsIn, IsNodePosed}
 use Rattle.mls_parts.specs.steps.Sharing.{HasNoEdges}
-use Rattle.mls_parts.specs.Posings.{Added, Adds, AddsNode, IsCopiedEdge, OneEdge, binder_in, copied_need, copy_added, goal, number_at, or_zero, root_in, size}
+use Rattle.mls_parts.specs.Posings.{Added, Adds, AddsNode, IsCopiedEdge, IsNoted, OneEdge, binder_in, copied_need, copy_added, goal, number_at, or_zero, root_in, size}
 
 -- the state past the first ones
 abbrev past : State
 past = record { polarity = Positive; head = empty_head }
+
+-- what is noted was noted before, or it is noted of this node
+pub noted_cases : (before after : BTreeMap ℕ ℕ) (i : ℕ) (result : Option ℕ) → IsNoted before after i result → (k n : ℕ) → get nat_cmp after k ≡ Some n → (get nat_cmp before k ≡ Some n) ⊎ ((k ≡ i) × (result ≡ Some n))
+noted_cases before after i None same k n e = inl (ap (λ rs. get nat_cmp rs k) (sym same) ∙ e)
+noted_cases before after i (Some m) it k n e = go (is_eq (nat_cmp i k)) refl (it.0 k)
+  where
+    go : (b : Bool) → is_eq (nat_cmp i k) ≡ b → get nat_cmp after k ≡ cond b (Some m) (get nat_cmp before k) → (get nat_cmp before k ≡ Some n) ⊎ ((k ≡ i) × (Some m ≡ Some n))
+    go true same is = inr (sym (same_key i k same), sym is ∙ e)
+    go false other is = inl (sym is ∙ e)
+
+-- nothing is noted of a node of another form
+pub none_noted : (n : ℕ) → None ≡ Some n → ⊥
+none_noted n e = cc
 
 module _ (p q : Posing) (i : ℕ) (new : Added) (IsEdge : ℕ → ℕ → Type 0) (it : Adds p q i new IsEdge) where
   -- the state of number k among the new ones
@@ -112,7 +127,10 @@ module _ (known_global known_let : ℕ → Option Scheme) (p q : Posing) (i : �
       let at : root_in q i ≡ size p + 0 = let both : root_in q i ≡ size p = root_is p q i new E it ∙ first in omega arith in
       ap (state_at q.automaton) at ∙ new_state p q i new E it 0
 
-  -- the second and the third new state
+  -- the first new state, and the second and the third one
+  first_state : (new : Added) (E : ℕ → ℕ → Type 0) → Adds p q i new E → state_at q.automaton (size p) ≡ get_or new.states 0 past
+  first_state new E it = let at : size p ≡ size p + 0 = omega arith in ap (state_at q.automaton) at ∙ new_state p q i new E it 0
+
   second_state : (new : Added) (E : ℕ → ℕ → Type 0) → Adds p q i new E → state_at q.automaton (suc (size p)) ≡ get_or new.states 1 past
   second_state new E it = let at : suc (size p) ≡ size p + 1 = omega arith in ap (state_at q.automaton) at ∙ new_state p q i new E it 1
 
@@ -177,7 +195,7 @@ module _ (known_global known_let : ℕ → Option Scheme) (p q : Posing) (i : �
     goal_there _ _ it j (suc (suc (size p))) parts (Contains-here _ []),
     into_root _ (suc (size p)) it refl,
   )
-  node_posed (form.If j k l) it parts = (
+  node_posed (form.If j k l) (inl it) parts = (
     suc (suc (size p)),
     suc (size p),
     ap (λ (s : State). s.head.boolean) (third_state _ _ it),
@@ -185,6 +203,15 @@ module _ (known_global known_let : ℕ → Option Scheme) (p q : Posing) (i : �
     goal_there _ _ it k (suc (size p)) parts.1 (1, omega arith, refl),
     goal_there _ _ it l (suc (size p)) parts.2 (2, omega arith, refl),
     into_root _ (suc (size p)) it refl,
+  )
+  node_posed (form.If j k l) (inr (branch, n, which, noted, it)) parts = (
+    size p,
+    n,
+    ap (λ (s : State). s.head.boolean) (first_state _ _ it),
+    goal_there _ _ it j (size p) parts.0 (0, omega arith, refl),
+    goal_there _ _ it k n parts.1 (1, omega arith, refl),
+    goal_there _ _ it l n parts.2 (2, omega arith, refl),
+    subst (HasFlow q.automaton n) (sym (root_is p q i _ _ it)) ((it.flows n (root_in p branch)).1 (inl (good.results branch n noted).flows)),
   )
   node_posed (form.Let k j l) it parts = (
     root_is p q i _ _ it.2 ∙ sym (same_root p q i _ _ it.2 is_new l parts),
@@ -205,7 +232,8 @@ module _ (known_global known_let : ℕ → Option Scheme) (p q : Posing) (i : �
   node_extends (form.Apply j k) it = adds_extends p q i _ _ it is_new
   node_extends (form.Make parts) it = adds_extends p q i _ _ it.2 is_new
   node_extends (form.Project j label) it = adds_extends p q i _ _ it is_new
-  node_extends (form.If j k l) it = adds_extends p q i _ _ it is_new
+  node_extends (form.If j k l) (inl it) = adds_extends p q i _ _ it is_new
+  node_extends (form.If j k l) (inr (branch, n, which, noted, it)) = adds_extends p q i _ _ it is_new
   node_extends (form.Let k j l) it = adds_extends p q i _ _ it.2 is_new
   node_extends (form.Rec x j) it = adds_extends p q i _ _ it is_new
 
@@ -220,9 +248,43 @@ module _ (known_global known_let : ℕ → Option Scheme) (p q : Posing) (i : �
   node_root (form.Apply j k) it = (_, it.roots)
   node_root (form.Make parts) it = (_, it.2.roots)
   node_root (form.Project j label) it = (_, it.roots)
-  node_root (form.If j k l) it = (_, it.roots)
+  node_root (form.If j k l) (inl it) = (_, it.roots)
+  node_root (form.If j k l) (inr (branch, n, which, noted, it)) = (_, it.roots)
   node_root (form.Let k j l) it = (_, it.2.roots)
   node_root (form.Rec x j) it = (_, it.roots)
+
+-- a form that is a conditional
+abbrev pub IsChoiceForm : TermForm → Type 0
+IsChoiceForm f = (j k l : ℕ) × (f ≡ form.If j k l)
+
+module _ (known_global known_let : ℕ → Option Scheme) (p q : Posing) (i k n : ℕ) (e : get nat_cmp q.results k ≡ Some n) where
+  -- what is noted after a node was noted before, or the node is a conditional
+  abbrev WasNoted : TermForm → Type 0
+  WasNoted f = (get nat_cmp p.results k ≡ Some n) ⊎ ((k ≡ i) × IsChoiceForm f)
+
+  before : (f : TermForm) → q.results ≡ p.results → WasNoted f
+  before f same = inl (ap (λ rs. get nat_cmp rs k) (sym same) ∙ e)
+
+  choice_noted : (j l m : ℕ) (result : Option ℕ) → IsNoted p.results q.results i result → WasNoted (form.If j l m)
+  choice_noted j l m result it = elim (noted_cases p.results q.results i result it k n e) [
+    | inl old ↦ inl old
+    | inr new ↦ inr (new.0, (j, l, m, refl))
+  ]
+
+  pub node_noted : (f : TermForm) → AddsNode known_global known_let p q i f → WasNoted f
+  node_noted (form.Bound x) it = before (form.Bound x) it.results
+  node_noted (form.Inner l) it = before (form.Inner l) it.2.results
+  node_noted (form.Global g) it = before (form.Global g) it.2.results
+  node_noted (form.Number value) it = before (form.Number value) it.results
+  node_noted (form.Truth value) it = before (form.Truth value) it.results
+  node_noted (form.Fun x j) it = before (form.Fun x j) it.results
+  node_noted (form.Apply j l) it = before (form.Apply j l) it.results
+  node_noted (form.Make parts) it = before (form.Make parts) it.2.results
+  node_noted (form.Project j label) it = before (form.Project j label) it.results
+  node_noted (form.If j l m) (inl it) = choice_noted j l m (Some (suc (size p))) it.results
+  node_noted (form.If j l m) (inr (branch, into, which, noted, it)) = choice_noted j l m (Some into) it.results
+  node_noted (form.Let l j m) it = before (form.Let l j m) it.2.results
+  node_noted (form.Rec x j) it = before (form.Rec x j) it.results
 
 -- a form that is a use of a name
 abbrev pub IsName : TermForm → Type 0

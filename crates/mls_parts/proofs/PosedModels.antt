@@ -34,10 +34,11 @@ use Rattle.mls_term.specs.Derivations.{Known}
 use Rattle.mls_term.specs.declared.term.Part.{Part}
 use Rattle.mls_term.specs.declared.term.TermForm.{TermForm}
 use Rattle.mls_term.specs.declared.term.TermForm.TheVariants as form
+use Rattle.mls_term.specs.declared.term.TermNode.{TermNode}
 use Rattle.mls_typing.specs.Typed.{IsType}
 use Rattle.mls_typing.specs.Typed.{one_field as typed_field}
 use Rattle.mls_automaton.specs.declared.automaton.FieldSet.{FieldSet}
-use Rattle.mls_parts.specs.NodeTypes.{HasInstance, IsNodeTyped, part_types}
+use Rattle.mls_parts.specs.NodeTypes.{HasInstance, IsConditional, IsNodeTyped, part_types}
 use Rattle.mls_layout.specs.PosedNodes.{HasPartsIn}
 use Rattle.mls_typing.proofs.Contexts.{same_key}
 use Rattle.mls_parts.specs.declared.pose.Need.{Need}
@@ -47,14 +48,14 @@ use Rattle.mls_parts.specs.PosedModels.{AreOver, HasModel}
 use Rattle.mls_parts.proofs.GoodPosings.{known_from}
 use Rattle.mls_book.proofs.Depths.{Implies-same, Implies-trans}
 use Rattle.mls_parts.specs.steps.Sharing.{HasNoEdges, IsWithoutEdges, shared_added}
-use Rattle.mls_parts.specs.Posings.{Added, Adds, AddsNode, CanPose, known_in, IsCopiedEdge, IsKnownTo, NoEdge, OneEdge, binder_in, bool_head, copied_need, copy_added, fix_added, function_head, goal, int_head, literal_added, negative, one_field, or_zero, positive, record_head, root_in, size}
+use Rattle.mls_parts.specs.Posings.{Added, Adds, AddsNode, CanPose, known_in, IsCopiedEdge, IsKnownTo, NoEdge, OneEdge, binder_in, bool_head, choice_goals, copied_need, copy_added, fix_added, function_head, goal, int_head, IsBranch, joined_choice_added, literal_added, negative, one_field, or_zero, positive, record_head, root_in, size}
 use Rattle.mls_automaton.specs.declared.scheme.EnvEntry.{EnvEntry}
 use Rattle.mls_automaton.specs.declared.scheme.Scheme.{Scheme}
 use Rattle.mls_automaton.proofs.BookValues.{root-value}
 use Rattle.mls_automaton.proofs.StatesHeld.{state_passes-agree}
 use Rattle.mls_parts.proofs.TypedModels.{IsCopiedModel, copied_model}
 use Rattle.mls_parts.proofs.HeldTypes.{arrow_type, bool_type, field_type, top_type}
-use Rattle.mls_parts.proofs.PosedByNode.{new_state}
+use Rattle.mls_parts.proofs.PosedByNode.{new_state, none_noted, noted_cases}
 
 -- these values below n, and others from n on
 abbrev pub extended : ℕ → (ℕ → Predicate) → (ℕ → Predicate) → ℕ → Predicate
@@ -92,8 +93,9 @@ module _ (p q : Posing) (i : ℕ) (new : Added) (IsEdge : ℕ → ℕ → Type 0
   pub adds_model : ((k : ℕ) → IsMet (size p + k) (state_at q.automaton (size p + k))) → ((n s : ℕ) → IsEdge n s → Implies (value n) (value s))
       → ((g : Goal) → Contains new.goals g → Implies (value g.positive.0) (value g.negative.0)) → value new.root ≡ type i
       → ((need : Need) → Contains new.needs need → Implies (binder need.binder) (head_value Negative value need.head))
+      → ((n : ℕ) → new.result ≡ Some n → value n ≡ type i)
       → HasModel q type binder
-  adds_model states edges goals root needs = record {
+  adds_model states edges goals root needs noted = record {
     value = value;
     types_are = extended_types (size p) m.value fresh (λ s low. m.types_are s) are;
     model = record {
@@ -105,6 +107,7 @@ module _ (p q : Posing) (i : ℕ) (new : Added) (IsEdge : ℕ → ℕ → Type 0
     binders = λ x s e.
         let before : get nat_cmp p.binders x ≡ Some s = ap (λ bs. get nat_cmp bs x) (sym it.binders) ∙ e in
         old_value Negative s (good.binders x s before) ∙ m.binders x s before;
+    results = λ k n e. result_at k n (noted_cases p.results q.results i new.result it.results k n e);
     needs = λ need there. need_met need (Contains-append_cases p.needs new.needs need (subst (λ (ns : List Need). Contains ns need) it.needs there));
   }
     where
@@ -135,6 +138,10 @@ module _ (p q : Posing) (i : ℕ) (new : Added) (IsEdge : ℕ → ℕ → Type 0
       root_at k s e false other is =
           let before : get nat_cmp p.roots k ≡ Some s = sym is ∙ e in
           old_value Positive s (good.roots k s before) ∙ m.roots k s before
+
+      result_at : (k n : ℕ) → (get nat_cmp p.results k ≡ Some n) ⊎ ((k ≡ i) × (new.result ≡ Some n)) → value n ≡ type k
+      result_at k n (inl before) = old_value Negative n (good.results k n before).negative ∙ m.results k n before
+      result_at k n (inr (same, is)) = noted n is ∙ ap type (sym same)
 
       need_met : (need : Need) → Contains p.needs need ⊎ Contains new.needs need → Implies (binder need.binder) (head_value Negative value need.head)
       need_met need (inl old) =
@@ -233,6 +240,7 @@ module _ (p : Posing) (good : IsGood p) (type binder : ℕ → Predicate) (m : H
         subst (Implies (extended (size p) m.value (λ k. type i) n)) (sym (ap V at.0 ∙ root)) (subst (λ f. Implies f (type i)) (sym (extended_old (size p) m.value (λ k. type i) n at.1)) at.2))
         (λ g there. nothing_goal (λ g. Implies (V g.positive.0) (V g.negative.0)) g there) root
         (λ need there. nothing_need (λ need. Implies (binder need.binder) (head_value Negative V need.head)) need there)
+        (λ n e. absurd (none_noted n e))
       where
         V : ℕ → Predicate
         V = extended (size p) m.value (λ k. type i)
@@ -247,6 +255,57 @@ module _ (p : Posing) (good : IsGood p) (type binder : ℕ → Predicate) (m : H
         met (suc k) =
             subst (λ (x : State). IsInside x.polarity (head_value x.polarity (extended (size p) m.value (λ k. type i)) x.head) (extended (size p) m.value (λ k. type i) (size p + suc k))) (sym (new_state p q i (literal_added (size p) head) E it (suc k)))
             (past_met (extended (size p) m.value (λ k. type i)) (size p + suc k))
+
+    -- a goal from a state that was there
+    up_goal : (fresh : ℕ → Predicate) (r n : ℕ) (f g : Predicate) → r < size p → m.value r ≡ f → extended (size p) m.value fresh n ≡ g → Implies f g → Implies (extended (size p) m.value fresh r) (extended (size p) m.value fresh n)
+    up_goal fresh r n f g low is-r is-n below =
+        subst (λ h. Implies h (extended (size p) m.value fresh n)) (sym (extended_old (size p) m.value fresh r low ∙ is-r)) (subst (Implies f) (sym is-n) below)
+
+    one_up : (v : ℕ → Predicate) (r n : ℕ) → Implies (v r) (v n) → (g : Goal) → Contains (goal r n ∷ []) g → Implies (v g.positive.0) (v g.negative.0)
+    one_up v r n up g there = elim (Contains-cases (goal r n) [] g there) [
+      | inl same ↦ subst (λ (g : Goal). Implies (v g.positive.0) (v g.negative.0)) same up
+      | inr later ↦ let low : later.0 < 0 = later.1 in absurd (omega arith)
+    ]
+
+    -- the goals of a conditional
+    choice_up : (v : ℕ → Predicate) (c f s bit into : ℕ) → Implies (v c) (v bit) → Implies (v f) (v into) → Implies (v s) (v into) → (g : Goal) → Contains (choice_goals c f s bit into) g → Implies (v g.positive.0) (v g.negative.0)
+    choice_up v c f s bit into first second third g there = elim (Contains-cases (goal c bit) (goal f into ∷ goal s into ∷ []) g there) [
+      | inl same ↦ subst (λ (g : Goal). Implies (v g.positive.0) (v g.negative.0)) same first
+      | inr later ↦ elim (Contains-cases (goal f into) (goal s into ∷ []) g later) [
+        | inl same ↦ subst (λ (g : Goal). Implies (v g.positive.0) (v g.negative.0)) same second
+        | inr last ↦ one_up v s into third g last
+      ]
+    ]
+
+    -- a conditional that shares the states of another one, of the same type
+    joined_model : (c f s root into : ℕ) → Adds p q i (joined_choice_added (size p) c f s root into) NoEdge → c < size p → Implies (m.value c) bool → f < size p → Implies (m.value f) (type i) → s < size p → Implies (m.value s) (type i)
+        → root < size p → m.value root ≡ type i → into < size p → m.value into ≡ type i → HasModel q type binder
+    joined_model c f s root into it c_low c_up f_low f_up s_low s_up root_low root_is into_low into_is =
+        adds_model p q i (joined_choice_added (size p) c f s root into) NoEdge it good type binder m (λ k. bool) (λ k. bool_type) met (λ n s edge. absurd edge)
+        (choice_up J c f s (size p) into
+        (up_goal (λ k. bool) c (size p) (m.value c) bool c_low refl at_bit c_up)
+        (up_goal (λ k. bool) f into (m.value f) (type i) f_low refl at_into f_up)
+        (up_goal (λ k. bool) s into (m.value s) (type i) s_low refl at_into s_up))
+        (extended_old (size p) m.value (λ k. bool) root root_low ∙ root_is)
+        (λ need there. nothing_need (λ need. Implies (binder need.binder) (head_value Negative J need.head)) need there)
+        (λ n e. let same : into ≡ n = cc in ap J (sym same) ∙ at_into)
+      where
+        J : ℕ → Predicate
+        J = extended (size p) m.value (λ k. bool)
+
+        at_bit : extended (size p) m.value (λ k. bool) (size p) ≡ bool
+        at_bit = let at : size p ≡ size p + 0 = omega arith in ap (extended (size p) m.value (λ k. bool)) at ∙ extended_new (size p) m.value (λ k. bool) 0
+
+        at_into : extended (size p) m.value (λ k. bool) into ≡ type i
+        at_into = extended_old (size p) m.value (λ k. bool) into into_low ∙ into_is
+
+        met : (k : ℕ) → IsInside (state_at q.automaton (size p + k)).polarity (head_value (state_at q.automaton (size p + k)).polarity (extended (size p) m.value (λ k. bool)) (state_at q.automaton (size p + k)).head) (extended (size p) m.value (λ k. bool) (size p + k))
+        met zero =
+            subst (λ (x : State). IsInside x.polarity (head_value x.polarity (extended (size p) m.value (λ k. bool)) x.head) (extended (size p) m.value (λ k. bool) (size p + 0))) (sym (new_state p q i (joined_choice_added (size p) c f s root into) NoEdge it 0))
+            (Implies-same (extended (size p) m.value (λ k. bool) (size p + 0)) (head_value Negative (extended (size p) m.value (λ k. bool)) bool_head) (extended_new (size p) m.value (λ k. bool) 0 ∙ sym (bool_value Negative (extended (size p) m.value (λ k. bool)))))
+        met (suc k) =
+            subst (λ (x : State). IsInside x.polarity (head_value x.polarity (extended (size p) m.value (λ k. bool)) x.head) (extended (size p) m.value (λ k. bool) (size p + suc k))) (sym (new_state p q i (joined_choice_added (size p) c f s root into) NoEdge it (suc k)))
+            (past_met (extended (size p) m.value (λ k. bool)) (size p + suc k))
 
     -- a node of three states: into its root flows a state of its type, and the last has this head, which has this type
     module _ (head : Head) (goals : List Goal) (upper : Predicate) (upper_type : IsType upper) where
@@ -275,35 +334,17 @@ module _ (p : Posing) (good : IsGood p) (type binder : ℕ → Predicate) (m : H
       pub at_upper : V (suc (suc (size p))) ≡ upper
       at_upper = let at : suc (suc (size p)) ≡ size p + 2 = omega arith in ap V at ∙ at_fresh 2
 
-      -- a goal from a state that was there to one of the new ones
-      up_goal : (r n : ℕ) (f g : Predicate) → r < size p → m.value r ≡ f → V n ≡ g → Implies f g → Implies (V r) (V n)
-      up_goal r n f g low is-r is-n below =
-          subst (λ h. Implies h (V n)) (sym (extended_old (size p) m.value fresh r low ∙ is-r)) (subst (Implies f) (sym is-n) below)
-
-      one_up : (r n : ℕ) → Implies (V r) (V n) → (g : Goal) → Contains (goal r n ∷ []) g → Implies (V g.positive.0) (V g.negative.0)
-      one_up r n up g there = elim (Contains-cases (goal r n) [] g there) [
-        | inl same ↦ subst (λ (g : Goal). Implies (V g.positive.0) (V g.negative.0)) same up
-        | inr later ↦ let low : later.0 < 0 = later.1 in absurd (omega arith)
-      ]
-
-      three_up : (r n r' n' r'' n'' : ℕ) → Implies (V r) (V n) → Implies (V r') (V n') → Implies (V r'') (V n'') → (g : Goal) → Contains (goal r n ∷ goal r' n' ∷ goal r'' n'' ∷ []) g → Implies (V g.positive.0) (V g.negative.0)
-      three_up r n r' n' r'' n'' first second third g there = elim (Contains-cases (goal r n) (goal r' n' ∷ goal r'' n'' ∷ []) g there) [
-        | inl same ↦ subst (λ (g : Goal). Implies (V g.positive.0) (V g.negative.0)) same first
-        | inr later ↦ elim (Contains-cases (goal r' n') (goal r'' n'' ∷ []) g later) [
-          | inl same ↦ subst (λ (g : Goal). Implies (V g.positive.0) (V g.negative.0)) same second
-          | inr last ↦ one_up r'' n'' third g last
-        ]
-      ]
-
-      pub result_model : Adds p q i (record { states = positive empty_head ∷ negative empty_head ∷ negative head ∷ []; goals = goals; needs = no_needs; root = size p }) (OneEdge (suc (size p)) (size p))
-          → (((s : ℕ) → s < size p → V s ≡ m.value s) → Implies upper (head_value Negative V head)) → ((g : Goal) → Contains goals g → Implies (V g.positive.0) (V g.negative.0)) → HasModel q type binder
-      result_model it below up =
-          adds_model p q i (record { states = positive empty_head ∷ negative empty_head ∷ negative head ∷ []; goals = goals; needs = no_needs; root = size p }) (OneEdge (suc (size p)) (size p)) it good type binder m fresh fresh_types met
+      pub result_model : (result : Option ℕ) → Adds p q i (record { states = positive empty_head ∷ negative empty_head ∷ negative head ∷ []; goals = goals; needs = no_needs; root = size p; result = result }) (OneEdge (suc (size p)) (size p))
+          → (((s : ℕ) → s < size p → V s ≡ m.value s) → Implies upper (head_value Negative V head)) → ((g : Goal) → Contains goals g → Implies (V g.positive.0) (V g.negative.0))
+          → ((n : ℕ) → result ≡ Some n → n ≡ suc (size p)) → HasModel q type binder
+      result_model result it below up noted =
+          adds_model p q i (record { states = positive empty_head ∷ negative empty_head ∷ negative head ∷ []; goals = goals; needs = no_needs; root = size p; result = result }) (OneEdge (suc (size p)) (size p)) it good type binder m fresh fresh_types met
           (λ n s edge. subst (λ n. Implies (V n) (V s)) (sym edge.0) (subst (λ s. Implies (V (suc (size p))) (V s)) (sym edge.1) (Implies-same (V (suc (size p))) (V (size p)) (at_into ∙ sym at_root))))
           up at_root (λ need there. nothing_need (λ need. Implies (binder need.binder) (head_value Negative V need.head)) need there)
+          (λ n e. ap V (noted n e) ∙ at_into)
         where
           at : (k : ℕ) → state_at q.automaton (size p + k) ≡ get_or (positive empty_head ∷ negative empty_head ∷ negative head ∷ []) k (record { polarity = Positive; head = empty_head })
-          at k = new_state p q i (record { states = positive empty_head ∷ negative empty_head ∷ negative head ∷ []; goals = goals; needs = no_needs; root = size p }) (OneEdge (suc (size p)) (size p)) it k
+          at k = new_state p q i (record { states = positive empty_head ∷ negative empty_head ∷ negative head ∷ []; goals = goals; needs = no_needs; root = size p; result = result }) (OneEdge (suc (size p)) (size p)) it k
 
           met : (k : ℕ) → IsInside (state_at q.automaton (size p + k)).polarity (head_value (state_at q.automaton (size p + k)).polarity V (state_at q.automaton (size p + k)).head) (V (size p + k))
           met zero = subst (λ (x : State). IsInside x.polarity (head_value x.polarity V x.head) (V (size p + 0))) (sym (at 0)) (past_met V (size p + 0))
@@ -339,7 +380,7 @@ module _ (p : Posing) (good : IsGood p) (type binder : ℕ → Predicate) (m : H
       copy_model root it root_is =
           adds_model p q i (copy_added (size p) s root) (IsCopiedEdge (size p) (binder_in p) s s.env) it good type binder m (kept_types s value)
           (extended_types (length s.automaton.states) value (λ k. top) copied.types_are (λ k. top_type)) met up
-          (λ g there. nothing_goal (λ g. Implies (W g.positive.0) (W g.negative.0)) g there) root_is needed
+          (λ g there. nothing_goal (λ g. Implies (W g.positive.0) (W g.negative.0)) g there) root_is needed (λ n e. absurd (none_noted n e))
         where
           met_at : (k : ℕ) → (k < length s.automaton.states) ⊎ ((j : ℕ) × (k ≡ length s.automaton.states + j))
               → IsInside (get_or (map (renamed_state (λ j. size p + j)) s.automaton.states) k (record { polarity = Positive; head = empty_head })).polarity (head_value (get_or (map (renamed_state (λ j. size p + j)) s.automaton.states) k (record { polarity = Positive; head = empty_head })).polarity W (get_or (map (renamed_state (λ j. size p + j)) s.automaton.states) k (record { polarity = Positive; head = empty_head })).head) (W (size p + k))
@@ -381,7 +422,7 @@ module _ (p : Posing) (good : IsGood p) (type binder : ℕ → Predicate) (m : H
               let found = Contains-map_back (copied_need (size p) s) s.env need there in
               subst (λ (d : Need). Implies (binder d.binder) (head_value Negative W d.head)) found.2 (need_of found.0 found.1)
 
-    module _ (known : Known) (globals lets : BTreeMap ℕ Scheme) (are_over : AreOver known globals lets) where
+    module _ (nodes : List TermNode) (known : Known) (globals lets : BTreeMap ℕ Scheme) (are_over : AreOver known globals lets) where
       -- a name that has an instance of its type
       name_model : (s : Scheme) (b : book.Scheme) → IsKnownTo p s → IsScheme s × IsSchemeOf s b → HasInstance b binder (type i)
           → Adds p q i (copy_added (size p) s (size p + s.root.0)) (IsCopiedEdge (size p) (binder_in p) s s.env) → HasModel q type binder
@@ -390,8 +431,9 @@ module _ (p : Posing) (good : IsGood p) (type binder : ℕ → Predicate) (m : H
           copy_model s is (passes_by a.reading b.book b.root) made.0 made.1 (size p + s.root.0) it
           (copy_value s is (passes_by a.reading b.book b.root) made.0 made.1 s.root.0 is.root.in_range ∙ (made.1.root ∙ root_is))
 
-      pub node_model : (f : TermForm) → AddsNode (known_in globals) (known_in lets) p q i f → HasPartsIn HasRoot f → HasBinderOf p f → CanPose globals lets p f → IsNodeTyped known type binder i f → HasModel q type binder
-      node_model (form.Bound x) it parts has can typed =
+      pub node_model : (f : TermForm) → AddsNode (known_in globals) (known_in lets) p q i f → ((b n : ℕ) → get nat_cmp p.results b ≡ Some n → IsConditional nodes b)
+          → HasPartsIn HasRoot f → HasBinderOf p f → CanPose globals lets p f → IsNodeTyped nodes known type binder i f → HasModel q type binder
+      node_model (form.Bound x) it conditionals parts has can typed =
           let at = binder_low x has in
           literal_model empty_head (OneEdge (binder_in p x) (size p)) it (λ v same. subst (λ f. Implies f (type i)) (sym (empty_value Positive v)) (λ t e. absurd (cc)))
           (λ n s edge. (
@@ -399,29 +441,30 @@ module _ (p : Posing) (good : IsGood p) (type binder : ℕ → Predicate) (m : H
             subst (λ n. n < size p) (sym edge.0) at.0,
             subst (λ n. Implies (m.value n) (type i)) (sym edge.0) (subst (λ f. Implies f (type i)) (sym at.1) typed),
           ))
-      node_model (form.Inner k) (s, is, it) parts has can (b, at, instance) = name_model s b (known_from p s (known_in lets k) can is) (are_over.lets k s b is at) instance it
-      node_model (form.Global g) (s, is, it) parts has can (b, at, instance) = name_model s b (known_from p s (known_in globals g) can is) (are_over.globals g s b is at) instance it
-      node_model (form.Number number) it parts has can typed =
+      node_model (form.Inner k) (s, is, it) conditionals parts has can (b, at, instance) = name_model s b (known_from p s (known_in lets k) can is) (are_over.lets k s b is at) instance it
+      node_model (form.Global g) (s, is, it) conditionals parts has can (b, at, instance) = name_model s b (known_from p s (known_in globals g) can is) (are_over.globals g s b is at) instance it
+      node_model (form.Number number) it conditionals parts has can typed =
           literal_model int_head NoEdge it (λ v same. subst (λ f. Implies f (type i)) (sym (int_value Positive v)) typed) (λ n s edge. absurd edge)
-      node_model (form.Truth truth) it parts has can typed =
+      node_model (form.Truth truth) it conditionals parts has can typed =
           literal_model bool_head NoEdge it (λ v same. subst (λ f. Implies f (type i)) (sym (bool_value Positive v)) typed) (λ n s edge. absurd edge)
-      node_model (form.Fun x j) it parts has can typed =
+      node_model (form.Fun x j) it conditionals parts has can typed =
           let from = binder_low x has in
           let to = root_low j parts in
           literal_model (function_head (binder_in p x) (root_in p j)) NoEdge it
           (λ v same. subst (λ f. Implies f (type i)) (sym (function_is Positive v (binder_in p x) (root_in p j) ∙ (λ k. arrow ((same (binder_in p x) from.0 ∙ from.1) k) ((same (root_in p j) to.0 ∙ to.1) k)))) typed)
           (λ n s edge. absurd edge)
-      node_model (form.Apply j k) it parts has can typed =
+      node_model (form.Apply j k) it conditionals parts has can typed =
           let one = root_low j parts.0 in
           let two = root_low k parts.1 in
           let head : Head = function_head (root_in p k) (suc (size p)) in
           let goals : List Goal = goal (root_in p j) (suc (suc (size p))) ∷ [] in
           let upper : Predicate = arrow (type k) (type i) in
           let upper_type : IsType upper = arrow_type (type k) (type i) (types_are k) (types_are i) in
-          result_model head goals upper upper_type it
+          result_model head goals upper upper_type None it
           (λ same. Implies-same upper (head_value Negative (V head goals upper upper_type) head) (sym (function_is Negative (V head goals upper upper_type) (root_in p k) (suc (size p)) ∙ (λ l. arrow ((same (root_in p k) two.0 ∙ two.1) l) (at_into head goals upper upper_type l)))))
-          (one_up head goals upper upper_type (root_in p j) (suc (suc (size p))) (up_goal head goals upper upper_type (root_in p j) (suc (suc (size p))) (type j) upper one.0 one.1 (at_upper head goals upper upper_type) typed))
-      node_model (form.Make ps) (fields, are, it) roots has can typed = literal_model (record_head fields) NoEdge it (λ v same. below v same) (λ n s edge. absurd edge)
+          (one_up (V head goals upper upper_type) (root_in p j) (suc (suc (size p))) (up_goal (fresh head goals upper upper_type) (root_in p j) (suc (suc (size p))) (type j) upper one.0 one.1 (at_upper head goals upper upper_type) typed))
+          (λ n e. absurd (none_noted n e))
+      node_model (form.Make ps) (fields, are, it) conditionals roots has can typed = literal_model (record_head fields) NoEdge it (λ v same. below v same) (λ n s edge. absurd edge)
         where
           fieldwise : (v : ℕ → Predicate) → ((s : ℕ) → s < size p → v s ≡ m.value s) → (label : List ℕ) (g : Predicate) → part_types type ps label ≡ Some g
               → (f : Predicate) × (option_map (set_value Positive v) (set_at fields label) ≡ Some f) × Implies f g
@@ -439,35 +482,50 @@ module _ (p : Posing) (good : IsGood p) (type binder : ℕ → Predicate) (m : H
               subst (λ f. Implies f (type i)) (sym (record_head-value Positive v fields))
               (Implies-trans (record_value Positive v (set_at fields)) (rcd (part_types type ps)) (type i)
               (rcd-implies (λ label. option_map (set_value Positive v) (set_at fields label)) (part_types type ps) (λ label g e. fieldwise v same label g e)) typed)
-      node_model (form.Project j label) it parts has can typed =
+      node_model (form.Project j label) it conditionals parts has can typed =
           let one = root_low j parts in
           let head : Head = record_head (one_field label (suc (size p))) in
           let goals : List Goal = goal (root_in p j) (suc (suc (size p))) ∷ [] in
           let upper : Predicate = rcd (typed_field label (type i)) in
           let upper_type : IsType upper = field_type label (type i) (types_are i) in
-          result_model head goals upper upper_type it
+          result_model head goals upper upper_type None it
           (λ same. Implies-same upper (head_value Negative (V head goals upper upper_type) head)
           (sym (record_head-value Negative (V head goals upper upper_type) (one_field label (suc (size p))) ∙ (λ k. rcd (λ other. one_value (V head goals upper upper_type) label (suc (size p)) (type i) (at_into head goals upper upper_type) other k)))))
-          (one_up head goals upper upper_type (root_in p j) (suc (suc (size p))) (up_goal head goals upper upper_type (root_in p j) (suc (suc (size p))) (type j) upper one.0 one.1 (at_upper head goals upper upper_type) typed))
-      node_model (form.If j k l) it parts has can typed =
+          (one_up (V head goals upper upper_type) (root_in p j) (suc (suc (size p))) (up_goal (fresh head goals upper upper_type) (root_in p j) (suc (suc (size p))) (type j) upper one.0 one.1 (at_upper head goals upper upper_type) typed))
+          (λ n e. absurd (none_noted n e))
+      node_model (form.If j k l) (inl it) conditionals parts has can typed =
           let one = root_low j parts.0 in
           let two = root_low k parts.1 in
           let three = root_low l parts.2 in
-          let goals : List Goal = goal (root_in p j) (suc (suc (size p))) ∷ goal (root_in p k) (suc (size p)) ∷ goal (root_in p l) (suc (size p)) ∷ [] in
-          result_model bool_head goals bool bool_type it
+          let goals : List Goal = choice_goals (root_in p j) (root_in p k) (root_in p l) (suc (suc (size p))) (suc (size p)) in
+          result_model bool_head goals bool bool_type (Some (suc (size p))) it
           (λ same. Implies-same bool (head_value Negative (V bool_head goals bool bool_type) bool_head) (sym (bool_value Negative (V bool_head goals bool bool_type))))
-          (three_up bool_head goals bool bool_type (root_in p j) (suc (suc (size p))) (root_in p k) (suc (size p)) (root_in p l) (suc (size p))
-          (up_goal bool_head goals bool bool_type (root_in p j) (suc (suc (size p))) (type j) bool one.0 one.1 (at_upper bool_head goals bool bool_type) typed.0)
-          (up_goal bool_head goals bool bool_type (root_in p k) (suc (size p)) (type k) (type i) two.0 two.1 (at_into bool_head goals bool bool_type) typed.1)
-          (up_goal bool_head goals bool bool_type (root_in p l) (suc (size p)) (type l) (type i) three.0 three.1 (at_into bool_head goals bool bool_type) typed.2))
-      node_model (form.Let k j l) (s, is, it) parts has can (same, b, at, allows) =
+          (choice_up (V bool_head goals bool bool_type) (root_in p j) (root_in p k) (root_in p l) (suc (suc (size p))) (suc (size p))
+          (up_goal (fresh bool_head goals bool bool_type) (root_in p j) (suc (suc (size p))) (type j) bool one.0 one.1 (at_upper bool_head goals bool bool_type) typed.0)
+          (up_goal (fresh bool_head goals bool bool_type) (root_in p k) (suc (size p)) (type k) (type i) two.0 two.1 (at_into bool_head goals bool bool_type) typed.1)
+          (up_goal (fresh bool_head goals bool bool_type) (root_in p l) (suc (size p)) (type l) (type i) three.0 three.1 (at_into bool_head goals bool bool_type) typed.2))
+          (λ n e. let same : suc (size p) ≡ n = cc in sym same)
+      node_model (form.If j k l) (inr (branch, into, which, noted, it)) conditionals parts has can (condition, first, second, raised_first, raised_second) =
+          let one = root_low j parts.0 in
+          let two = root_low k parts.1 in
+          let three = root_low l parts.2 in
+          let at = good.results branch into noted in
+          let root = root_low branch at.rooted in
+          joined_model (root_in p j) (root_in p k) (root_in p l) (root_in p branch) into it
+          one.0 (subst (λ f. Implies f bool) (sym one.1) condition) two.0 (subst (λ f. Implies f (type i)) (sym two.1) first) three.0 (subst (λ f. Implies f (type i)) (sym three.1) second)
+          root.0 (root.1 ∙ same_type which) at.negative.in_range (m.results branch into noted ∙ same_type which)
+        where
+          same_type : IsBranch k l branch → type branch ≡ type i
+          same_type (inl is) = ap type is ∙ raised_first (subst (IsConditional nodes) is (conditionals branch into noted))
+          same_type (inr is) = ap type is ∙ raised_second (subst (IsConditional nodes) is (conditionals branch into noted))
+      node_model (form.Let k j l) (s, is, it) conditionals parts has can (same, b, at, allows) =
           let known_is = known_from p s (known_in lets k) can is in
           let over = are_over.lets k s b is at in
           let made = copied_model s b over.0 over.1 binder top allows in
           let second = root_low l parts in
           copy_model s known_is (passes_by allows.reading b.book b.root) made.0 made.1 (root_in p l) it
           (extended_old (size p) m.value (kept_types s made.0) (root_in p l) second.0 ∙ (second.1 ∙ sym same))
-      node_model (form.Rec x j) it parts has can typed =
+      node_model (form.Rec x j) it conditionals parts has can typed =
           let body = root_low j parts in
           let from = binder_low x has in
           let U : ℕ → Predicate = extended (size p) m.value (λ k. top) in
@@ -481,9 +539,10 @@ module _ (p : Posing) (good : IsGood p) (type binder : ℕ → Predicate) (m : H
             | inr later ↦ let low : later.0 < 0 = later.1 in absurd (omega arith)
           ])
           (root ∙ sym typed.0) (λ need there. nothing_need (λ need. Implies (binder need.binder) (head_value Negative U need.head)) need there)
+          (λ n e. absurd (none_noted n e))
 
       -- two uses of a name whose type has no edges have the same type
-      same_types : (j : ℕ) (f : TermForm) → HasNoEdges globals lets f → IsNodeTyped known type binder j f → IsNodeTyped known type binder i f → type j ≡ type i
+      same_types : (j : ℕ) (f : TermForm) → HasNoEdges globals lets f → IsNodeTyped nodes known type binder j f → IsNodeTyped nodes known type binder i f → type j ≡ type i
       same_types j (form.Bound x) none first second = absurd none
       same_types j (form.Inner k) none (b, at, one) (c, at', two) =
           let found = known_without (known_in lets k) none in
@@ -503,7 +562,7 @@ module _ (p : Posing) (good : IsGood p) (type binder : ℕ → Predicate) (m : H
       same_types j (form.Let k l n) none first second = absurd none
       same_types j (form.Rec x k) none first second = absurd none
 
-      pub shared_model : (j : ℕ) (f : TermForm) → HasRoot j → HasNoEdges globals lets f → IsNodeTyped known type binder j f → IsNodeTyped known type binder i f
+      pub shared_model : (j : ℕ) (f : TermForm) → HasRoot j → HasNoEdges globals lets f → IsNodeTyped nodes known type binder j f → IsNodeTyped nodes known type binder i f
           → Adds p q i (shared_added (root_in p j)) NoEdge → HasModel q type binder
       shared_model j f rooted none first second it =
           let at = root_low j rooted in
@@ -514,3 +573,4 @@ module _ (p : Posing) (good : IsGood p) (type binder : ℕ → Predicate) (m : H
           (λ g there. nothing_goal (λ g. Implies (U g.positive.0) (U g.negative.0)) g there)
           (extended_old (size p) m.value (λ k. top) (root_in p j) at.0 ∙ (at.1 ∙ same_types j f none first second))
           (λ need there. nothing_need (λ need. Implies (binder need.binder) (head_value Negative U need.head)) need there)
+          (λ n e. absurd (none_noted n e))

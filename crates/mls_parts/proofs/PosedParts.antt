@@ -26,14 +26,14 @@ use Rattle.mls_parts.specs.PosedCopies.{Extends, HasBinder, HasBinderOf, IsGood,
 use Rattle.mls_layout.specs.PosedNodes.{HasPartsIn, IsNodePosed}
 use Rattle.mls_parts.specs.PosedParts.{HasKnownType, HavePosed, IsBegun, IsPosable}
 use Rattle.mls_parts.specs.PosedModels.{AreOver, HasModel}
-use Rattle.mls_parts.specs.NodeTypes.{IsNodeTyped}
+use Rattle.mls_parts.specs.NodeTypes.{IsConditional, IsNodeTyped}
 use Rattle.mls_parts.specs.Posings.{Adds, AddsNode, CanPose, HasKnown, NoEdge, binder_in, known_in, or_zero, root_in}
 use Rattle.mls_parts.specs.declared.shared.Shared.{Shared}
 use Rattle.mls_parts.specs.steps.Sharing.{AreShared, HasNoEdges, PosesNext, first_use, shared_added}
 use Rattle.mls_parts.proofs.BegunPosings.{begun_good}
 use Rattle.mls_parts.proofs.GoodPosings.{node_good, shared_good}
 use Rattle.mls_parts.proofs.PartLists.{parts_more}
-use Rattle.mls_parts.proofs.PosedByNode.{adds_extends, node_extends, node_posed, node_root, root_is, used_again, named}
+use Rattle.mls_parts.proofs.PosedByNode.{IsChoiceForm, adds_extends, node_extends, node_noted, node_posed, node_root, root_is, used_again, named}
 use Rattle.mls_parts.proofs.PosedKept.{extends_all, extends_self, posed_kept}
 use Rattle.mls_parts.proofs.PosedKept.{kept_root as root_stays}
 use Rattle.mls_parts.proofs.PosedModels.{node_model, shared_model}
@@ -103,13 +103,14 @@ module _ (nodes : List TermNode) (globals lets : BTreeMap ℕ Scheme) (begun : P
     rooted = λ i there. let low : there.0 < 0 = there.1 in absurd (omega arith);
     only = λ i some. let none : get nat_cmp begun.roots i ≡ None = it.no_root i in absurd (cc);
     parts = λ i f there. let low : there.0 < 0 = there.1 in absurd (omega arith);
+    results = λ i n e. let none : get nat_cmp begun.results i ≡ None = it.no_result i in absurd (cc);
     posed = λ i f there. let low : there.0 < 0 = there.1 in absurd (omega arith);
     models = λ known over type binder types typed m. m;
   }
 
   -- one node more, however it was posed
   module _ (p q : Posing) (done : List ℕ) (i : ℕ) (f : TermForm) (it : HavePosed nodes globals lets begun p done) (form_is : form_at nodes i ≡ Some f) (behind : HasPartsIn (Contains done) f)
-      (more : Extends p q) (root : ℕ) (updated : Updates nat_cmp p.roots q.roots i (Some root)) (good : IsGood q)
+      (more : Extends p q) (root : ℕ) (updated : Updates nat_cmp p.roots q.roots i (Some root)) (noted : (k n : ℕ) → get nat_cmp q.results k ≡ Some n → (get nat_cmp p.results k ≡ Some n) ⊎ ((k ≡ i) × IsChoiceForm f)) (good : IsGood q)
       (own : IsNodePosed q.automaton (IsGoal q.goals) (root_in q) (binder_in q) (IsUsePosed (known_in globals) (known_in lets) q) i f) where
     abbrev Posed : Posing → ℕ → TermForm → Type 0
     Posed r j g = IsNodePosed r.automaton (IsGoal r.goals) (root_in r) (binder_in r) (IsUsePosed (known_in globals) (known_in lets) r) j g
@@ -143,8 +144,12 @@ module _ (nodes : List TermNode) (globals lets : BTreeMap ℕ Scheme) (begun : P
         (let same : f ≡ g = some_is (sym form_is ∙ (ap (form_at nodes) new ∙ e)) in
         subst (Posed q i) same own)
 
+    results_now : (k n : ℕ) → (get nat_cmp p.results k ≡ Some n) ⊎ ((k ≡ i) × IsChoiceForm f) → Contains (done ++ i ∷ []) k × IsConditional nodes k
+    results_now k n (inl before) = let at = it.results k n before in (Contains-append_left done (i ∷ []) k at.0, at.1)
+    results_now k n (inr (same, (j, l, m, is))) = (subst (Contains (done ++ i ∷ [])) (sym same) (Contains-push done i), subst (IsConditional nodes) (sym same) (j, l, m, form_is ∙ ap Some is))
+
     pub posed_more : ((known : Known) → AreOver known globals lets → (type binder : ℕ → Predicate) → ((k : ℕ) → IsType (type k))
-        → ((j : ℕ) (g : TermForm) → Contains (done ++ i ∷ []) j → form_at nodes j ≡ Some g → IsNodeTyped known type binder j g) → HasModel p type binder → HasModel q type binder)
+        → ((j : ℕ) (g : TermForm) → Contains (done ++ i ∷ []) j → form_at nodes j ≡ Some g → IsNodeTyped nodes known type binder j g) → HasModel p type binder → HasModel q type binder)
         → HavePosed nodes globals lets begun q (done ++ i ∷ [])
     posed_more goes_on = record {
       extends = extends_all begun p q it.extends more;
@@ -152,6 +157,7 @@ module _ (nodes : List TermNode) (globals lets : BTreeMap ℕ Scheme) (begun : P
       rooted = λ j there. rooted_now j (Contains-push_cases done i j there);
       only = λ j some. only_now j (is_eq (nat_cmp i j)) refl (updated.0 j) some;
       parts = λ j g there e. parts_now j g (Contains-push_cases done i j there) e;
+      results = λ k n e. results_now k n (noted k n e);
       posed = λ j g there e. posed_now j g (Contains-push_cases done i j there) e;
       models = λ known over type bind types typed m.
           goes_on known over type bind types typed
@@ -171,9 +177,10 @@ module _ (nodes : List TermNode) (globals lets : BTreeMap ℕ Scheme) (begun : P
     pose_next adds binder can =
         let updated = node_root (known_in globals) (known_in lets) p q i it.good is_new f adds in
         posed_more p q done i f it form_is behind (node_extends (known_in globals) (known_in lets) p q i it.good is_new f adds) updated.0 updated.1
-        (node_good p q i it.good globals lets f adds rooted_parts binder can)
+        (λ k n e. node_noted (known_in globals) (known_in lets) p q i k n e f adds)
+        (node_good p q i it.good is_new globals lets f adds rooted_parts binder can)
         (node_posed (known_in globals) (known_in lets) p q i it.good is_new f adds rooted_parts)
-        (λ known over type bind types typed m. node_model p it.good type bind m q i types known globals lets over f adds rooted_parts binder can (typed i f (Contains-push done i) form_is))
+        (λ known over type bind types typed m. node_model p it.good type bind m q i types nodes known globals lets over f adds (λ b n e. (it.results b n e).1) rooted_parts binder can (typed i f (Contains-push done i) form_is))
 
     -- with the copy of another use of its name
     pub pose_again : (j : ℕ) → Contains done j → form_at nodes j ≡ Some f → HasNoEdges globals lets f → Adds p q i (shared_added (root_in p j)) NoEdge → HavePosed nodes globals lets begun q (done ++ i ∷ [])
@@ -181,11 +188,12 @@ module _ (nodes : List TermNode) (globals lets : BTreeMap ℕ Scheme) (begun : P
         let more : Extends p q = adds_extends p q i (shared_added (root_in p j)) NoEdge adds is_new in
         let root : root_in q i ≡ root_in q j = root_is p q i (shared_added (root_in p j)) NoEdge adds ∙ sym (root_stays p q more j (it.rooted j there)) in
         posed_more p q done i f it form_is behind more (root_in p j) adds.roots
-        (shared_good p q i it.good j (it.rooted j there) adds)
+        (λ k n e. inl (ap (λ rs. get nat_cmp rs k) (sym adds.results) ∙ e))
+        (shared_good p q i it.good is_new j (it.rooted j there) adds)
         (used_again (known_in globals) (known_in lets) q i j root f (named globals lets f none)
         (posed_kept p q more it.good (known_in globals) (known_in lets) j (it.rooted j there) f (it.parts j f there same_form) (it.posed j f there same_form)))
         (λ known over type bind types typed m.
-        shared_model p it.good type bind m q i types known globals lets over j f (it.rooted j there) none
+        shared_model p it.good type bind m q i types nodes known globals lets over j f (it.rooted j there) none
         (typed j f (Contains-append_left done (i ∷ []) j there) same_form) (typed i f (Contains-push done i) form_is) adds)
 
     -- either way

@@ -2,7 +2,9 @@
 --     result_made         a positive state, and a negative one that flows into it
 --     result_added        a form that has such states
 --     bound_added         a use of a binder
-use Rattle.std.proofs.Common.{◌≡◌, ◌⊎◌, ◌↔◌, inl, inr, ℕ, suc, ◌+◌, List, [], ◌∷◌, ◌++◌, length, refl, sym, ap, ◌∙◌, subst, arith, Some, length-append, Contains, get_or, ◌<◌}
+--     three_goals         the goals of a conditional
+--     joined_choice       a conditional that shares the states of another one
+use Rattle.std.proofs.Common.{◌≡◌, ◌⊎◌, ◌↔◌, inl, inr, ℕ, suc, ◌+◌, List, [], ◌∷◌, ◌++◌, length, refl, sym, ap, ◌∙◌, subst, arith, Option, Some, length-append, Contains, get_or, ◌<◌}
 use Rattle.std.specs.BTreeMap.{Updates}
 use Rattle.std.specs.Ordering.{nat_cmp}
 use Rattle.std.proofs.Math.ListN.{get_or-append}
@@ -13,11 +15,11 @@ use Rattle.mls_automaton.specs.declared.automaton.Polarity.{Polarity}
 use Rattle.mls_automaton.specs.declared.automaton.Polarity.TheVariants.{Positive}
 use Rattle.mls_automaton.specs.declared.automaton.Head.{Head}
 use Rattle.mls_automaton.specs.declared.automaton.State.{State}
-use Rattle.mls_automaton.specs.Automata.{Automaton, empty_head, with_state, HasFlow, IsState}
+use Rattle.mls_automaton.specs.Automata.{Automaton, empty_head, flow, with_state, HasFlow, IsState}
 use Rattle.mls_biunify.specs.declared.goal.Goal.{Goal}
 use Rattle.mls_parts.specs.declared.pose.Need.{Need}
 use Rattle.mls_parts.specs.declared.pose.Posing.{Posing}
-use Rattle.mls_parts.specs.Posings.{Adds, OneEdge, literal_added, negative, number_at, positive, root_in, size}
+use Rattle.mls_parts.specs.Posings.{Adds, IsNoted, NoEdge, OneEdge, bool_head, choice_goals, goal, joined_choice_added, literal_added, negative, number_at, positive, root_in, size}
 use Rattle.mls_parts.specs.steps.Results.{AddsEdges, HasResult}
 
 abbrev pub no_needs : List Need
@@ -52,13 +54,14 @@ result_made p b d e h k root into is_h is_k is_b is_d is_root is_into same flows
       needs = refl;
       roots = refl;
       binders = refl;
+      results = refl;
     }
 
-pub result_added : (p m q : Posing) (i root : ℕ) (b : Automaton) (h k : Head) (goals : List Goal) → HasResult p m → root ≡ size p
+pub result_added : (p m q : Posing) (i root : ℕ) (b : Automaton) (h k : Head) (goals : List Goal) (result : Option ℕ) → HasResult p m → root ≡ size p
     → b ≡ with_state m.automaton (negative h) → h ≡ k → q.automaton ≡ b → q.goals ≡ m.goals ++ goals → q.needs ≡ m.needs
-    → Updates nat_cmp m.roots q.roots i (Some root) → q.binders ≡ m.binders
-    → Adds p q i (record { states = positive empty_head ∷ negative empty_head ∷ negative k ∷ []; goals = goals; needs = no_needs; root = size p }) (OneEdge (suc (size p)) (size p))
-result_added p m q i root b h k goals it is_root is_b is_h is_q goals_are needs_are updates binders_are =
+    → Updates nat_cmp m.roots q.roots i (Some root) → q.binders ≡ m.binders → IsNoted m.results q.results i result
+    → Adds p q i (record { states = positive empty_head ∷ negative empty_head ∷ negative k ∷ []; goals = goals; needs = no_needs; root = size p; result = result }) (OneEdge (suc (size p)) (size p))
+result_added p m q i root b h k goals result it is_root is_b is_h is_q goals_are needs_are updates binders_are noted =
     let q_is : q.automaton ≡ with_state m.automaton (negative k) = is_q ∙ (is_b ∙ ap (λ (x : Head). with_state m.automaton (negative x)) is_h) in
     record {
       states =
@@ -71,13 +74,14 @@ result_added p m q i root b h k goals it is_root is_b is_h is_q goals_are needs_
       needs = needs_are ∙ (it.needs ∙ sym (nil_behind p.needs));
       roots = subst (λ rs. Updates nat_cmp rs q.roots i (Some (size p))) it.roots (subst (λ r. Updates nat_cmp m.roots q.roots i (Some r)) is_root updates);
       binders = binders_are ∙ it.binders;
+      results = subst (λ rs. IsNoted rs q.results i result) it.results noted;
     }
 
 pub bound_added : (p q : Posing) (i state root : ℕ) (b : Automaton) (h : Head) → b ≡ with_state p.automaton (positive h) → h ≡ empty_head → root ≡ size p
     → q.automaton.states ≡ b.states → ((n s : ℕ) → HasFlow q.automaton n s ↔ (HasFlow b n s ⊎ ((n ≡ state) × (s ≡ root))))
-    → q.goals ≡ p.goals → q.needs ≡ p.needs → Updates nat_cmp p.roots q.roots i (Some root) → q.binders ≡ p.binders
+    → q.goals ≡ p.goals → q.needs ≡ p.needs → Updates nat_cmp p.roots q.roots i (Some root) → q.binders ≡ p.binders → q.results ≡ p.results
     → Adds p q i (literal_added (size p) empty_head) (OneEdge state (size p))
-bound_added p q i state root b h is_b is_h is_root same flows goals_are needs_are updates binders_are =
+bound_added p q i state root b h is_b is_h is_root same flows goals_are needs_are updates binders_are results_are =
     let states_b : b.states ≡ p.automaton.states ++ positive empty_head ∷ [] = ap (λ (a : Automaton). a.states) is_b ∙ ap (λ (x : Head). p.automaton.states ++ positive x ∷ []) is_h in
     let flows_b : b.flows ≡ p.automaton.flows = ap (λ (a : Automaton). a.flows) is_b in
     record {
@@ -89,6 +93,7 @@ bound_added p q i state root b h is_b is_h is_root same flows goals_are needs_ar
       needs = needs_are ∙ sym (nil_behind p.needs);
       roots = subst (λ r. Updates nat_cmp p.roots q.roots i (Some r)) is_root updates;
       binders = binders_are;
+      results = results_are;
     }
 
 -- behind such states stand as many as before, and two
@@ -101,6 +106,57 @@ result_size p m it =
 pub result_root : (p m : Posing) (i : ℕ) → HasResult p m → root_in m i ≡ root_in p i
 result_root p m i it = ap (λ rs. number_at rs i) it.roots
 
+-- the goals of a conditional, one after another
+pub three_goals : (p m n q : Posing) (condition first second bit into c f s : ℕ)
+    → c ≡ root_in p condition → m ≡ record p { goals = p.goals ++ goal c bit ∷ [] }
+    → f ≡ root_in m first → n ≡ record m { goals = m.goals ++ goal f into ∷ [] }
+    → s ≡ root_in n second → q ≡ record n { goals = n.goals ++ goal s into ∷ [] }
+    → q ≡ record p { goals = p.goals ++ choice_goals (root_in p condition) (root_in p first) (root_in p second) bit into }
+three_goals p m n q condition first second bit into c f s is_c is_m is_f is_n is_s is_q =
+    let roots_m = ap (λ (x : Posing). x.roots) is_m in
+    let roots_n = ap (λ (x : Posing). x.roots) is_n ∙ roots_m in
+    let at_f : f ≡ root_in p first = is_f ∙ ap (λ rs. number_at rs first) roots_m in
+    let at_s : s ≡ root_in p second = is_s ∙ ap (λ rs. number_at rs second) roots_n in
+    let goals_m : m.goals ≡ p.goals ++ goal (root_in p condition) bit ∷ [] = ap (λ (x : Posing). x.goals) is_m ∙ ap (λ r. p.goals ++ goal r bit ∷ []) is_c in
+    let goals_n : n.goals ≡ m.goals ++ goal (root_in p first) into ∷ [] = ap (λ (x : Posing). x.goals) is_n ∙ ap (λ r. m.goals ++ goal r into ∷ []) at_f in
+    let goals_q : n.goals ++ goal s into ∷ [] ≡ n.goals ++ goal (root_in p second) into ∷ [] = ap (λ r. n.goals ++ goal r into ∷ []) at_s in
+    let one : List Goal = goal (root_in p condition) bit ∷ [] in
+    let two : List Goal = goal (root_in p first) into ∷ [] in
+    let three : List Goal = goal (root_in p second) into ∷ [] in
+    let all : n.goals ++ goal s into ∷ [] ≡ p.goals ++ choice_goals (root_in p condition) (root_in p first) (root_in p second) bit into =
+    goals_q ∙ (ap (λ (gs : List Goal). gs ++ three) (goals_n ∙ ap (λ (gs : List Goal). gs ++ two) goals_m)
+    ∙ (ap (λ (gs : List Goal). gs ++ three) (append_assoc p.goals one two) ∙ append_assoc p.goals (one ++ two) three)) in
+    let same : record n { goals = n.goals ++ goal s into ∷ [] } ≡ record p { goals = n.goals ++ goal s into ∷ [] } =
+    ap (λ (x : Posing). record x { goals = n.goals ++ goal s into ∷ [] }) is_n ∙ ap (λ (x : Posing). record x { goals = n.goals ++ goal s into ∷ [] }) is_m in
+    is_q ∙ (same ∙ ap (λ (gs : List Goal). record p { goals = gs }) all)
+
+-- a conditional that shares the states of another one
+pub joined_choice : (p m q : Posing) (i condition first second bit root into : ℕ) (a : Automaton) (h : Head)
+    → a ≡ with_state p.automaton (negative h) → h ≡ bool_head → bit ≡ size p
+    → m ≡ record p { automaton = a; goals = p.goals ++ choice_goals (root_in p condition) (root_in p first) (root_in p second) bit into }
+    → q.automaton ≡ m.automaton → q.goals ≡ m.goals → q.needs ≡ m.needs → Updates nat_cmp m.roots q.roots i (Some root) → q.binders ≡ m.binders → Updates nat_cmp m.results q.results i (Some into)
+    → Adds p q i (joined_choice_added (size p) (root_in p condition) (root_in p first) (root_in p second) root into) NoEdge
+joined_choice p m q i condition first second bit root into a h is_a is_h is_bit is_m automaton goals needs roots binders results =
+    let a_is : q.automaton ≡ with_state p.automaton (negative bool_head) =
+    automaton ∙ (ap (λ (x : Posing). x.automaton) is_m ∙ (is_a ∙ ap (λ (x : Head). with_state p.automaton (negative x)) is_h)) in
+    record {
+      states = ap (λ (a : Automaton). a.states) a_is;
+      flows = λ n s. (
+        λ edge. inl (subst (λ (fs : List Flow). Contains fs (flow n s)) (ap (λ (a : Automaton). a.flows) a_is) edge),
+        λ edge. elim edge [
+          | inl old ↦ subst (λ (fs : List Flow). Contains fs (flow n s)) (sym (ap (λ (a : Automaton). a.flows) a_is)) old
+          | inr none ↦ absurd none
+        ],
+      );
+      goals =
+          goals ∙ (ap (λ (x : Posing). x.goals) is_m
+          ∙ ap (λ b. p.goals ++ choice_goals (root_in p condition) (root_in p first) (root_in p second) b into) is_bit);
+      needs = needs ∙ (ap (λ (x : Posing). x.needs) is_m ∙ sym (nil_behind p.needs));
+      roots = subst (λ rs. Updates nat_cmp rs q.roots i (Some root)) (ap (λ (x : Posing). x.roots) is_m) roots;
+      binders = binders ∙ ap (λ (x : Posing). x.binders) is_m;
+      results = subst (λ rs. Updates nat_cmp rs q.results i (Some into)) (ap (λ (x : Posing). x.results) is_m) results;
+    }
+
 -- edges that are added one after another
 pub no_edges : (p : Posing) (IsEdge : ℕ → ℕ → Type 0) → ((n s : ℕ) → IsEdge n s → ⊥) → AddsEdges p p IsEdge
 no_edges p IsEdge none = record {
@@ -110,6 +166,7 @@ no_edges p IsEdge none = record {
   needs = refl;
   roots = refl;
   binders = refl;
+  results = refl;
 }
 
 pub edge_more : (p m : Posing) (a : Automaton) (from to : ℕ) (IsEdge IsLater : ℕ → ℕ → Type 0) → AddsEdges p m IsEdge → a.states ≡ m.automaton.states
@@ -138,6 +195,7 @@ edge_more p m a from to IsEdge IsLater it same flows later = record {
   needs = it.needs;
   roots = it.roots;
   binders = it.binders;
+  results = it.results;
 }
 
 -- edges from one state to states of which there is one more

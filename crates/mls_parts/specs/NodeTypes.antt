@@ -28,10 +28,18 @@ part_types type parts label =
 abbrev pub HasInstance : Scheme → Types → Predicate → Type 0
 HasInstance s types f = (a : Allows s types f) × (passes_by a.reading s.book s.root ≡ f)
 
+-- node `i` is a conditional
+abbrev pub IsConditional : List TermNode → ℕ → Type 0
+IsConditional nodes i = (j k l : ℕ) × (form_at nodes i ≡ Some (form.If j k l))
+
 -- What a node of each form asks of the types of its node, of its parts and of its binder. A name has an instance of its
 -- scheme, and of each let the scheme of the first part has one at all. `known` has the schemes of all lets, also of
--- those that are not in scope.
-module _ (known : Known) (type : ℕ → Predicate) (binder : Types) where
+-- those that are not in scope. A branch that is a conditional has the type of the conditional around it.
+module _ (nodes : List TermNode) (known : Known) (type : ℕ → Predicate) (binder : Types) where
+  -- the type of a branch is raised to that of the conditional
+  abbrev pub IsRaised : (branch node : ℕ) → Type 0
+  IsRaised b i = IsConditional nodes b → type b ≡ type i
+
   abbrev pub IsNodeTyped : ℕ → TermForm → Type 0
   IsNodeTyped i (form.Bound x) = Implies (binder x) (type i)
   IsNodeTyped i (form.Inner k) = (s : Scheme) × (env.get known.lets k ≡ Some s) × HasInstance s binder (type i)
@@ -43,7 +51,8 @@ module _ (known : Known) (type : ℕ → Predicate) (binder : Types) where
   IsNodeTyped i (form.Apply j k) = Implies (type j) (arrow (type k) (type i))
   IsNodeTyped i (form.Make parts) = Implies (rcd (part_types type parts)) (type i)
   IsNodeTyped i (form.Project j label) = Implies (type j) (rcd (one_field label (type i)))
-  IsNodeTyped i (form.If j k l) = Implies (type j) bool × Implies (type k) (type i) × Implies (type l) (type i)
+  IsNodeTyped i (form.If j k l) =
+      Implies (type j) bool × Implies (type k) (type i) × Implies (type l) (type i) × IsRaised k i × IsRaised l i
   IsNodeTyped i (form.Let k j l) =
       (type i ≡ type l) × (s : Scheme) × (env.get known.lets k ≡ Some s) × Allows s binder top
   IsNodeTyped i (form.Rec x j) = (type i ≡ type j) × Implies (type j) (binder x)
@@ -52,7 +61,7 @@ module _ (known : Known) (type : ℕ → Predicate) (binder : Types) where
 module _ (nodes : List TermNode) (known : Known) (type : ℕ → Predicate) (binder : Types) where
   -- node i is of this form, and typed so
   abbrev pub IsTypedAt : ℕ → TermForm → Type 0
-  IsTypedAt i f = (form_at nodes i ≡ Some f) × IsNodeTyped known type binder i f
+  IsTypedAt i f = (form_at nodes i ≡ Some f) × IsNodeTyped nodes known type binder i f
 
   abbrev mutual
     pub AreTyped : ℕ → TermTree → Type 0
@@ -144,7 +153,7 @@ pub record HasNodeTypes (nodes : List TermNode) (known : Known) (types : Types) 
   pub binder : Types
   pub typed : AreTyped nodes known type binder (n + before t) t
   pub each : (i : ℕ) (f : TermForm) → IsNodeOf nodes (n + before t) i → form_at nodes i ≡ Some f
-      → IsNodeTyped known type binder i f
+      → IsNodeTyped nodes known type binder i f
   pub root : Implies (type (n + before t)) f
   pub around : (x : ℕ) → (Contains (binders_of t) x → ⊥) → binder x ≡ types x
   pub types_are : (i : ℕ) → IsType (type i)

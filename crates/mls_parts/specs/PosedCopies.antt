@@ -16,9 +16,15 @@ use Rattle.mls_parts.specs.declared.pose.Need.{Need}
 use Rattle.mls_parts.specs.declared.pose.Posing.{Posing}
 use Rattle.mls_parts.specs.Posings.{binder_in, copied_need, root_in, size}
 
+-- the branches of node `i`, which has a root, go into this negative state, which flows into the root
+pub record IsResult (p : Posing) (i n : ℕ) : Type 0 where
+  pub negative : IsState p.automaton Negative n
+  pub rooted : IsSome (get nat_cmp p.roots i)
+  pub flows : HasFlow p.automaton n (root_in p i)
+
 -- All that heads and edges name is there, with the polarity of its place; goals go from positive to negative states;
 -- roots are positive; binders have negative states without a head; and what is needed of them names states that are
--- there.
+-- there. What is noted of a conditional is the state that its branches go into.
 pub record IsGood (p : Posing) : Type 0 where
   pub closed : IsClosed p.automaton
   pub goals : (g : Goal) → Contains p.goals g → IsGoalOf p.automaton g
@@ -28,6 +34,7 @@ pub record IsGood (p : Posing) : Type 0 where
   pub needs : (need : Need) → Contains p.needs need → HasStatesIn (IsState p.automaton) Negative need.head
   pub labels : (need : Need) → Contains p.needs need → HasRisingLabels need.head.fields
   pub around : (need : Need) → Contains p.needs need → IsSome (get nat_cmp p.binders need.binder)
+  pub results : (i n : ℕ) → get nat_cmp p.results i ≡ Some n → IsResult p i n
 
 -- the node has no root yet
 abbrev pub IsNew : Posing → ℕ → Type 0

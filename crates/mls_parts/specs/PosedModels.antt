@@ -17,8 +17,8 @@ use Rattle.mls_parts.specs.declared.pose.Need.{Need}
 use Rattle.mls_parts.specs.declared.pose.Posing.{Posing}
 use Rattle.mls_parts.specs.Posings.{known_in}
 
--- A model of the constraint by types: the goals hold, each node's root and each binder has its type, and each binder's
--- type is below what is needed of it.
+-- A model of the constraint by types: the goals hold, each node's root and each binder has its type, and so has what the
+-- branches of a conditional go into; each binder's type is below what is needed of it.
 pub record HasModel (p : Posing) (type binder : ℕ → Predicate) : Type 0 where
   pub value : ℕ → Predicate
   pub types_are : (s : ℕ) → IsType (value s)
@@ -26,6 +26,7 @@ pub record HasModel (p : Posing) (type binder : ℕ → Predicate) : Type 0 wher
   pub goals : (g : Goal) → Contains p.goals g → Implies (value g.positive.0) (value g.negative.0)
   pub roots : (i s : ℕ) → get nat_cmp p.roots i ≡ Some s → value s ≡ type i
   pub binders : (x s : ℕ) → get nat_cmp p.binders x ≡ Some s → value s ≡ binder x
+  pub results : (i s : ℕ) → get nat_cmp p.results i ≡ Some s → value s ≡ type i
   pub needs : (need : Need) → Contains p.needs need
       → Implies (binder need.binder) (head_value Negative value need.head)
 

@@ -21,7 +21,7 @@ use Rattle.mls_book.specs.Predicates.{Predicate}
 use Rattle.mls_typing.specs.Typed.{IsType}
 use Rattle.mls_deriv.specs.Steps.{form_at}
 use Rattle.mls_parts.specs.declared.pose.Posing.{Posing}
-use Rattle.mls_parts.specs.NodeTypes.{IsNodeTyped}
+use Rattle.mls_parts.specs.NodeTypes.{IsConditional, IsNodeTyped}
 use Rattle.mls_parts.specs.MetCopies.{AreSeparate, IsUseMet}
 use Rattle.mls_parts.specs.PosedCopies.{Extends, IsGood, IsUsePosed}
 use Rattle.mls_parts.specs.PosedModels.{AreOver, HasModel}
@@ -35,6 +35,7 @@ pub record AddsBinder (p q : Posing) (x : ℕ) : Type 0 where
   pub goals : q.goals ≡ p.goals
   pub needs : q.needs ≡ p.needs
   pub roots : q.roots ≡ p.roots
+  pub results : q.results ≡ p.results
 
 -- A constraint with a negative state for each of these binders, and nothing else.
 pub record IsBegun (binders : List ℕ) (p : Posing) : Type 0 where
@@ -43,6 +44,7 @@ pub record IsBegun (binders : List ℕ) (p : Posing) : Type 0 where
   pub goals : p.goals ≡ []
   pub needs : p.needs ≡ []
   pub no_root : (i : ℕ) → get nat_cmp p.roots i ≡ None
+  pub no_result : (i : ℕ) → get nat_cmp p.results i ≡ None
   pub there : (x : ℕ) → Contains binders x → IsSome (get nat_cmp p.binders x)
   pub back : (x s : ℕ) → get nat_cmp p.binders x ≡ Some s
       → (s < length binders) × ((d : ℕ) → get_or binders s d ≡ x)
@@ -90,12 +92,13 @@ pub record HavePosed (nodes : List TermNode) (globals lets : BTreeMap ℕ Scheme
   pub only : (i : ℕ) → IsSome (get nat_cmp p.roots i) → Contains done i
   pub parts : (i : ℕ) (f : TermForm) → Contains done i → form_at nodes i ≡ Some f
       → HasPartsIn (λ j. IsSome (get nat_cmp p.roots j)) f
+  pub results : (i n : ℕ) → get nat_cmp p.results i ≡ Some n → Contains done i × IsConditional nodes i
   pub posed : (i : ℕ) (f : TermForm) → Contains done i → form_at nodes i ≡ Some f
       → IsNodePosed p.automaton (IsGoal p.goals) (root_in p) (binder_in p)
       (IsUsePosed (known_in globals) (known_in lets) p) i f
   pub models : (known : Known) → AreOver known globals lets → (type binder : ℕ → Predicate)
       → ((i : ℕ) → IsType (type i))
-      → ((i : ℕ) (f : TermForm) → Contains done i → form_at nodes i ≡ Some f → IsNodeTyped known type binder i f)
+      → ((i : ℕ) (f : TermForm) → Contains done i → form_at nodes i ≡ Some f → IsNodeTyped nodes known type binder i f)
       → HasModel begun type binder → HasModel p type binder
 
 -- each node of the part may be posed
@@ -119,5 +122,5 @@ pub record IsPartPosed (nodes : List TermNode) (globals lets : BTreeMap ℕ Sche
       (IsUseMet (known_in globals) (known_in lets) p.automaton (root_in p) (binder_in p)) i f
   pub models : (known : Known) → AreOver known globals lets → (type binder : ℕ → Predicate)
       → ((i : ℕ) → IsType (type i)) → ((x : ℕ) → Contains binders x → IsType (binder x))
-      → ((i : ℕ) (f : TermForm) → Contains part i → form_at nodes i ≡ Some f → IsNodeTyped known type binder i f)
+      → ((i : ℕ) (f : TermForm) → Contains part i → form_at nodes i ≡ Some f → IsNodeTyped nodes known type binder i f)
       → HasModel p type binder

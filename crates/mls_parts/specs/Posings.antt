@@ -66,12 +66,19 @@ int_head = record empty_head { integer = true }
 abbrev pub goal : (positive negative : ℕ) → Goal
 goal p n = record { positive = record { 0 = p }; negative = record { 0 = n } }
 
--- What a node adds: states behind those that are there, goals, heads that binders need, and its root.
+-- What a node adds: states behind those that are there, goals, heads that binders need, its root, and of a conditional
+-- the state that its branches go into.
 pub record Added : Type 0 where
   pub states : List State
   pub goals : List Goal
   pub needs : List Need
   pub root : ℕ
+  pub result : Option ℕ
+
+-- a state is noted for node `i`, or nothing is
+abbrev pub IsNoted : (before after : BTreeMap ℕ ℕ) → ℕ → Option ℕ → Type 0
+IsNoted before after i None = after ≡ before
+IsNoted before after i (Some n) = Updates nat_cmp before after i (Some n)
 
 -- The second constraint is the first with what node `i` adds, and with these edges.
 pub record Adds (p q : Posing) (i : ℕ) (new : Added) (IsEdge : ℕ → ℕ → Type 0) : Type 0 where
@@ -81,6 +88,7 @@ pub record Adds (p q : Posing) (i : ℕ) (new : Added) (IsEdge : ℕ → ℕ →
   pub needs : q.needs ≡ p.needs ++ new.needs
   pub roots : Updates nat_cmp p.roots q.roots i (Some new.root)
   pub binders : q.binders ≡ p.binders
+  pub results : IsNoted p.results q.results i new.result
 
 -- no edge, and one
 abbrev pub NoEdge : ℕ → ℕ → Type 0
@@ -92,7 +100,7 @@ OneEdge n s m r = (m ≡ n) × (r ≡ s)
 -- What each form adds, where there are `n` states so far: a number or a truth value, a use of a binder, a function, an
 -- application, a record, a projection, a conditional and a recursion.
 abbrev pub literal_added : ℕ → Head → Added
-literal_added n head = record { states = positive head ∷ []; goals = []; needs = []; root = n }
+literal_added n head = record { states = positive head ∷ []; goals = []; needs = []; root = n; result = None }
 
 abbrev pub fun_added : ℕ → (binder body : ℕ) → Added
 fun_added n binder body = literal_added n (function_head binder body)
@@ -103,6 +111,7 @@ apply_added n f a = record {
   goals = goal f (suc (suc n)) ∷ [];
   needs = [];
   root = n;
+  result = None;
 }
 
 abbrev pub project_added : ℕ → (body : ℕ) → List ℕ → Added
@@ -111,18 +120,35 @@ project_added n body label = record {
   goals = goal body (suc (suc n)) ∷ [];
   needs = [];
   root = n;
+  result = None;
 }
+
+-- the condition goes into one state, and both branches into another
+abbrev pub choice_goals : (condition first second bit into : ℕ) → List Goal
+choice_goals c f s bit into = goal c bit ∷ goal f into ∷ goal s into ∷ []
 
 abbrev pub choice_added : ℕ → (condition first second : ℕ) → Added
 choice_added n c f s = record {
   states = positive empty_head ∷ negative empty_head ∷ negative bool_head ∷ [];
-  goals = goal c (suc (suc n)) ∷ goal f (suc n) ∷ goal s (suc n) ∷ [];
+  goals = choice_goals c f s (suc (suc n)) (suc n);
   needs = [];
   root = n;
+  result = Some (suc n);
+}
+
+-- a conditional that shares the root and the other state of one of its branches
+abbrev pub joined_choice_added : ℕ → (condition first second root into : ℕ) → Added
+joined_choice_added n c f s root into = record {
+  states = negative bool_head ∷ [];
+  goals = choice_goals c f s n into;
+  needs = [];
+  root = root;
+  result = Some into;
 }
 
 abbrev pub fix_added : (body binder : ℕ) → Added
-fix_added body binder = record { states = []; goals = goal body binder ∷ []; needs = []; root = body }
+fix_added body binder =
+    record { states = []; goals = goal body binder ∷ []; needs = []; root = body; result = None }
 
 -- the fields of a record: each label of a part has the root of that part
 pub record AreFieldsOf (root : ℕ → ℕ) (parts : List Part) (fields : List FieldSet) : Type 0 where
@@ -144,6 +170,7 @@ copy_added n s root = record {
   goals = [];
   needs = map (copied_need n s) s.env;
   root = root;
+  result = None;
 }
 
 -- its edges, and those of the states of binders, which go from the binders around
@@ -178,6 +205,19 @@ pub record AddsCopy (p q : Posing) (n : ℕ) (known : Scheme) (env : List EnvEnt
   pub needs : q.needs ≡ p.needs ++ map (copied_need n known) env
   pub roots : q.roots ≡ p.roots
   pub binders : q.binders ≡ p.binders
+  pub results : q.results ≡ p.results
+
+-- one of the branches of a conditional
+abbrev pub IsBranch : (first second branch : ℕ) → Type 0
+IsBranch first second branch = (branch ≡ first) ⊎ (branch ≡ second)
+
+-- A conditional has a root of its own, or it shares the states of a branch that is a conditional.
+abbrev pub AddsChoice : (p q : Posing) → ℕ → (condition first second : ℕ) → Type 0
+AddsChoice p q i j k l =
+    Adds p q i (choice_added (size p) (root_in p j) (root_in p k) (root_in p l)) (OneEdge (suc (size p)) (size p))
+    ⊎ ((branch into : ℕ) × IsBranch k l branch × (get nat_cmp p.results branch ≡ Some into)
+    × Adds p q i
+    (joined_choice_added (size p) (root_in p j) (root_in p k) (root_in p l) (root_in p branch) into) NoEdge)
 
 -- What a node adds, by its form, where the names have these known types.
 module _ (known_global known_let : ℕ → Option Scheme) (p q : Posing) (i : ℕ) where
@@ -197,8 +237,7 @@ module _ (known_global known_let : ℕ → Option Scheme) (p q : Posing) (i : �
       × Adds p q i (literal_added (size p) (record_head fields)) NoEdge
   AddsNode (form.Project j label) =
       Adds p q i (project_added (size p) (root_in p j) label) (OneEdge (suc (size p)) (size p))
-  AddsNode (form.If j k l) =
-      Adds p q i (choice_added (size p) (root_in p j) (root_in p k) (root_in p l)) (OneEdge (suc (size p)) (size p))
+  AddsNode (form.If j k l) = AddsChoice p q i j k l
   AddsNode (form.Let k j l) = (s : Scheme) × (known_let k ≡ Some s)
       × Adds p q i (copy_added (size p) s (root_in p l)) (IsCopiedEdge (size p) (binder_in p) s s.env)
   AddsNode (form.Rec x j) = Adds p q i (fix_added (root_in p j) (binder_in p x)) NoEdge

@@ -14,15 +14,16 @@ ghost use Rattle.mls_term.specs.declared.term.Part.{Part};
 ghost use Rattle.mls_automaton.specs.Models.{IsClosed};
 ghost use Rattle.mls_parts.specs.MetNeeds.{AreNeeds, HasMet};
 ghost use Rattle.mls_parts.specs.PosedParts.{AddsBinder, ArePosable, HavePosed, IsBegun, IsPartList, IsPartPosed};
-ghost use Rattle.mls_parts.specs.Posings.{AddsNode, CanPose, known_in};
+ghost use Rattle.mls_parts.specs.Posings.{AddsChoice, AddsNode, CanPose, IsBranch, known_in};
 ghost use Rattle.mls_parts.specs.Posings.{Adds, NoEdge, OneEdge, AreFieldsOf, number_at, root_in, binder_in, size};
 ghost use Rattle.mls_parts.specs.Posings.{literal_added, fun_added, apply_added, project_added, choice_added, fix_added};
+ghost use Rattle.mls_parts.specs.Posings.{choice_goals, joined_choice_added};
 ghost use Rattle.mls_parts.specs.Posings.{bool_head, int_head, function_head, record_head, one_field, goal};
 ghost use Rattle.mls_parts.specs.Posings.{AddsCopy, IsCopiedEdge, IsKnownTo, copy_added};
 ghost use Rattle.mls_parts.specs.steps.Results.{AddsEdges, Binds, CanBind, HasResult};
 ghost use Rattle.mls_parts.specs.steps.Sharing.{PosesNext, shared_added};
 
-use crate::shared::Shared;
+use crate::shared::{Shared, number_of};
 use mls_automaton::automaton::{Arms, Automaton, FieldSet, FieldSets, Head, Polarity};
 use mls_automaton::combine::combine_heads;
 use mls_automaton::scheme::{EnvEntry, Scheme};
@@ -49,7 +50,8 @@ pub type Goals = List<Goal>;
 pub type Needs = List<Need>;
 
 /// A constraint that is being posed: its automaton and its goals, the root of each node that was posed, the state of
-/// each binder, what copies of known types ask of binders, and for each node with a copy the copy's first state.
+/// each binder, what copies of known types ask of binders, for each node with a copy the copy's first state, and for
+/// each conditional the state that its branches go into.
 #[derive(Drop)]
 pub struct Posing {
     pub automaton: Automaton,
@@ -58,6 +60,7 @@ pub struct Posing {
     pub binders: BTreeMap<usize, usize>,
     pub needs: Needs,
     pub copies: BTreeMap<usize, usize>,
+    pub results: BTreeMap<usize, usize>,
 }
 
 // The number at a key, and 0 where there is none.
@@ -76,6 +79,18 @@ fn raised(state: usize, up: usize) -> Result<usize, Memory>
 {
     let raised = up.checked_add(state).ok_or(Memory)?;
     Ok(raised)
+}
+
+// The branch that has more nodes, where each node stands behind its parts, and those of the first branch before those of
+// the second.
+fn larger_branch(condition: usize, first: usize, second: usize) -> usize
+    ensures { IsBranch first second result }
+{
+    if first.saturating_sub(condition) > second.saturating_sub(first) {
+        first
+    } else {
+        second
+    }
 }
 
 /// The same head once more.
@@ -169,6 +184,7 @@ impl Posing {
             binders: BTreeMap::new(alloc),
             needs: Needs::new(alloc),
             copies: BTreeMap::new(alloc),
+            results: BTreeMap::new(alloc),
         };
         for binder in binders {
             posing.push_binder_state(*binder)?;
@@ -328,8 +344,27 @@ impl Posing {
         Ok(())
     }
 
-    // A conditional.
-    fn pose_choice(
+    // Adds the goals of a conditional: the condition goes into one state, and both branches into another.
+    fn push_choice_goals(
+        &mut self,
+        condition: usize,
+        first: usize,
+        second: usize,
+        bit: usize,
+        into: usize,
+    ) -> Result<(), Memory>
+        ensures { OnOk result (self.new ≡ record self.old {
+          goals = self.old.goals ++ choice_goals
+              (root_in self.old condition) (root_in self.old first) (root_in self.old second) bit into;
+        }) }
+    {
+        self.push_goal(self.root(condition), bit)?;
+        self.push_goal(self.root(first), into)?;
+        self.push_goal(self.root(second), into)
+    }
+
+    // A conditional with a root of its own.
+    fn pose_own_choice(
         &mut self,
         node: usize,
         condition: usize,
@@ -341,12 +376,58 @@ impl Posing {
             (root_in self.old second)) (OneEdge (suc (size self.old)) (size self.old))) }
     {
         let (root, into) = self.push_result()?;
-        let upper = self.automaton.state(Polarity::Negative, bool_head())?;
-        self.push_goal(self.root(condition), upper.0)?;
-        self.push_goal(self.root(first), into.0)?;
-        self.push_goal(self.root(second), into.0)?;
+        let bit = self.automaton.state(Polarity::Negative, bool_head())?;
+        self.push_choice_goals(condition, first, second, bit.0, into.0)?;
         self.roots.insert(node, root.0)?;
+        self.results.insert(node, into.0)?;
         Ok(())
+    }
+
+    // A conditional whose root is that of one of its branches, a conditional whose own branches go into this state: so
+    // both branches go into it.
+    fn pose_joined_choice(
+        &mut self,
+        node: usize,
+        condition: usize,
+        first: usize,
+        second: usize,
+        root: usize,
+        into: usize,
+    ) -> Result<(), Memory>
+        ensures { OnOk result (Adds self.old self.new node
+            (joined_choice_added (size self.old) (root_in self.old condition) (root_in self.old first)
+            (root_in self.old second) root into) NoEdge) }
+    {
+        let bit = self.automaton.state(Polarity::Negative, bool_head())?;
+        self.push_choice_goals(condition, first, second, bit.0, into)?;
+        self.roots.insert(node, root)?;
+        self.results.insert(node, into)?;
+        Ok(())
+    }
+
+    // A conditional. It shares the states of the branch of more nodes, if that is a conditional: so what flows into the
+    // innermost of a chain is related to one state, and not to one for each that is around it.
+    fn pose_choice(
+        &mut self,
+        node: usize,
+        condition: usize,
+        first: usize,
+        second: usize,
+    ) -> Result<(), Memory>
+        ensures { OnOk result (AddsChoice self.old self.new node condition first second) }
+    {
+        let branch = larger_branch(condition, first, second);
+        match number_of(&self.results, branch) {
+            Some(into) => self.pose_joined_choice(
+                node,
+                condition,
+                first,
+                second,
+                self.root(branch),
+                into,
+            ),
+            None => self.pose_own_choice(node, condition, first, second),
+        }
     }
 
     // A recursion: the root is that of its body, which goes into its binder.

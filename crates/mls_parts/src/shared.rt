@@ -106,8 +106,8 @@ impl Shared {
     }
 }
 
-// The number at a key.
-fn number_of(numbers: &BTreeMap<usize, usize>, key: usize) -> Option<usize>
+/// The number at a key.
+pub(crate) fn number_of(numbers: &BTreeMap<usize, usize>, key: usize) -> Option<usize>
     ensures { result ≡ get nat_cmp numbers.now key }
 {
     match numbers.get(&key) {

@@ -37,6 +37,7 @@ fn one_binder(alloc: Global) -> Result<Posing, Memory> {
         binders,
         needs: Needs::new(alloc),
         copies: BTreeMap::new(alloc),
+        results: BTreeMap::new(alloc),
     })
 }
 
@@ -124,6 +125,46 @@ fn poses_a_conditional(rt: HostRuntime) -> Result<(), Fail> {
     ];
     let line = posed(&rt, rt.alloc(), &forms)?;
     assert_eq!(rt; line.as_str(), "- +b +i +i + - -b 5~4 1<6 2<5 3<5");
+    Ok(())
+}
+
+// `if true then 1 else if true then 2 else 3`: both conditionals have the states of the inner one.
+#[test]
+fn joins_a_second_branch(rt: HostRuntime) -> Result<(), Fail> {
+    let forms = [
+        TermForm::Truth(true),
+        TermForm::Number(1),
+        TermForm::Truth(true),
+        TermForm::Number(2),
+        TermForm::Number(3),
+        TermForm::If(2, 3, 4),
+        TermForm::If(0, 1, 5),
+    ];
+    let line = posed(&rt, rt.alloc(), &forms)?;
+    assert_eq!(rt;
+        line.as_str(),
+        "- +b +i +b +i +i + - -b -b 7~6 3<8 4<7 5<7 1<9 2<7 6<7"
+    );
+    Ok(())
+}
+
+// `if true then (if true then 1 else 2) else 3`.
+#[test]
+fn joins_a_first_branch(rt: HostRuntime) -> Result<(), Fail> {
+    let forms = [
+        TermForm::Truth(true),
+        TermForm::Truth(true),
+        TermForm::Number(1),
+        TermForm::Number(2),
+        TermForm::If(1, 2, 3),
+        TermForm::Number(3),
+        TermForm::If(0, 4, 5),
+    ];
+    let line = posed(&rt, rt.alloc(), &forms)?;
+    assert_eq!(rt;
+        line.as_str(),
+        "- +b +b +i +i + - -b +i -b 6~5 2<7 3<6 4<6 1<9 5<6 8<6"
+    );
     Ok(())
 }
 

@@ -45,7 +45,7 @@ MayNote globals lets before after node f = (g : TermForm) (j : ℕ) → first_us
 
 -- a use that shares the copy of another one adds its own root alone
 abbrev pub shared_added : (root : ℕ) → Added
-shared_added root = record { states = []; goals = []; needs = []; root = root }
+shared_added root = record { states = []; goals = []; needs = []; root = root; result = None }
 
 -- The node is posed: with the root of the first use of its name, or as its form says.
 pub record PosesNext (globals lets : BTreeMap ℕ Scheme) (before after : Shared) (p q : Posing) (i : ℕ) (f : TermForm) :

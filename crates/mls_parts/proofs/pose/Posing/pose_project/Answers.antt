@@ -1,4 +1,4 @@
-use Rattle.std.proofs.Common.{◌≡◌, suc, [], ◌∷◌, ◌++◌, ◌∙◌, ap, subst, Some}
+use Rattle.std.proofs.Common.{◌≡◌, suc, [], ◌∷◌, ◌++◌, ◌∙◌, ap, subst, Some, None}
 use Rattle.std.specs.BTreeMap.{Updates}
 use Rattle.std.specs.Ordering.{nat_cmp}
 use Rattle.mls_biunify.specs.declared.goal.Goal.{Goal}
@@ -19,8 +19,8 @@ returns c =
     let body_is : c.root.result ≡ root_in p c.args.body = c.root.ensures ∙ result_root p m c.args.body it in
     let goal_is : goal c.root.result c.in_ok-upper.upper.0 ≡ goal (root_in p c.args.body) (suc (suc (size p))) = λ i. goal (body_is i) (upper_is i) in
     let posed : c.push_goal.new.self ≡ record m { automaton = c.state.new.self; goals = m.goals ++ goal c.root.result c.in_ok-upper.upper.0 ∷ [] } = c.in_ok-push_goal.ensures in
-    result_added p m _ c.args.node c.in_ok-root.root.0 c.state.new.self c.in_ok-head.head (record_head (one_field c.args.label.now (suc (size p)))) (goal (root_in p c.args.body) (suc (suc (size p))) ∷ [])
+    result_added p m _ c.args.node c.in_ok-root.root.0 c.state.new.self c.in_ok-head.head (record_head (one_field c.args.label.now (suc (size p)))) (goal (root_in p c.args.body) (suc (suc (size p))) ∷ []) None
     it c.in_ok-root.ensures.states.0 c.in_ok-upper.ensures.ok head_is (ap (λ (q : Posing). q.automaton) posed)
     (ap (λ (q : Posing). q.goals) posed ∙ ap (λ (g : Goal). m.goals ++ g ∷ []) goal_is) (ap (λ (q : Posing). q.needs) posed)
     (subst (λ rs. Updates nat_cmp rs c.insert.new.self c.args.node (Some c.in_ok-root.root.0)) (ap (λ (q : Posing). q.roots) posed) c.in_ok-insert.ensures.updates)
-    (ap (λ (q : Posing). q.binders) posed)
+    (ap (λ (q : Posing). q.binders) posed) (ap (λ (q : Posing). q.results) posed)

@@ -22,7 +22,7 @@ pub loop-end-preserved : goal.loop-end-preserved
 loop-end-preserved c =
     let ends : List ℕ = c.args.ends.now in
     let i : ℕ = c.loop-end.end-index in
-    let more : Posing = record { automaton = c.add_flow.new.self; goals = c.loop-end.self.goals; roots = c.loop-end.self.roots; binders = c.loop-end.self.binders; needs = c.loop-end.self.needs; copies = c.loop-end.self.copies } in
+    let more : Posing = record { automaton = c.add_flow.new.self; goals = c.loop-end.self.goals; roots = c.loop-end.self.roots; binders = c.loop-end.self.binders; needs = c.loop-end.self.needs; copies = c.loop-end.self.copies; results = c.loop-end.self.results } in
     subst (λ (front : List ℕ). AddsEdges c.args.self.now more (λ m r. (m ≡ c.args.from) × (k : ℕ) × Contains front k × (r ≡ c.args.first + k))) (sym (take_more ends i 0 c.loop-end-test.true))
     (edge_more c.args.self.now c.loop-end.self c.add_flow.new.self c.args.from c.in_ok-to.to _ _ c.loop-end.invariant c.in_ok-add_flow.ensures.states c.in_ok-add_flow.ensures.flows
     (one_end_more c.args.from c.args.first c.in_ok-to.to (take i ends) (get_or ends i 0) c.in_ok-to.ensures))
