@@ -5,6 +5,7 @@ ghost use Rattle.mls_automaton.specs.Sets.{Rises};
 ghost use Rattle.mls_automaton.specs.steps.Merging.{GoesPast, IsLow, StandsAt};
 
 use mls_base::memory::Memory;
+use smallvec::SmallVec;
 use std::alloc::Global;
 use std::marker::Model;
 
@@ -15,7 +16,8 @@ pub struct StateId(pub usize);
 /// A set of states. Contracts see the list of their numbers, which rise.
 #[derive(Clone, Debug, Drop)]
 pub struct StateSet {
-    numbers: Vec<usize>,
+    // Nearly all sets are this short, and need no allocation.
+    numbers: SmallVec<usize, 2>,
 }
 
 impl Model for StateSet {
@@ -35,7 +37,7 @@ impl StateSet {
         ensures { result ≡ [] }
     {
         StateSet {
-            numbers: Vec::new(alloc),
+            numbers: SmallVec::new(alloc),
         }
     }
 
@@ -47,7 +49,8 @@ impl StateSet {
     pub fn one(alloc: Global, s: StateId) -> Result<StateSet, Memory>
         ensures { IfOk result (λ set. set ≡ s.0 ∷ []) }
     {
-        let numbers = vec![in alloc; s.0]?;
+        let mut numbers = SmallVec::new(alloc);
+        numbers.push_reserved(s.0);
         Ok(StateSet { numbers })
     }
 
