@@ -37,3 +37,4 @@ pub mod SectionsRead
 pub mod FrontLines
 pub mod WordValues
 pub mod Guessed
+pub mod KnownLines

@@ -1,15 +1,13 @@
 -- What the code finds of words.
-use Rattle.std.proofs.Common.{◌≡◌, ◌⊎◌, inl, inr, ℕ, ◌+◌, ◌-◌, ◌*◌, ◌/◌, ◌<◌, ◌≤◌, ◌^◌, List, [], ◌∷◌, ◌++◌, length, get_or, drop, Some, None, sym, ap, subst, ◌∙◌, refl, arith, append-nil, append_assoc, length-drop}
+use Rattle.std.proofs.Common.{◌≡◌, ℕ, ◌+◌, ◌-◌, ◌*◌, ◌/◌, ◌%◌, ◌<◌, ◌≤◌, ◌^◌, List, [], ◌∷◌, ◌++◌, length, get_or, take, drop, Some, None, sym, ap, subst, ◌∙◌, refl, arith, append-nil, append_assoc, length-drop}
 use Rattle.std.specs.Prelude.{decimal, Option}
-use Rattle.std.specs.Str.{IsAscii, IsUtf8}
-use Rattle.std.specs.Str.Parse.{AllDigits, ParsesUnsigned, digits_value}
-use Rattle.std.specs.declared.result.Result.{Result}
-use Rattle.std.specs.declared.result.Result.TheVariants.{Ok}
-use Rattle.std.proofs.lemmas.Bool.{cases_lt}
-use Rattle.std.proofs.lemmas.Fmt.{decimal_is_IsNumeral, decimal_nonempty, digits_decimal}
-use Rattle.std.proofs.lemmas.List.{get_or_past, drop_more}
-use Rattle.std.proofs.lemmas.Str.{IsUtf8-from_ascii}
-use Rattle.std.proofs.lemmas.Str.Parse.{digit_at, numerals_by_value, tells_digits, parse_gives}
+use Rattle.std.specs.Char.{digit_value}
+use Rattle.std.specs.Str.Parse.{AllDigits, digits_value}
+use Rattle.std.proofs.lemmas.Fmt.{decimal_is_IsNumeral, digits_decimal}
+use Rattle.std.proofs.lemmas.Int.Digits.{digits_value_more}
+use Rattle.std.proofs.lemmas.List.{take_all, drop_more}
+use Rattle.std.proofs.lemmas.Str.{digit_value_digit}
+use Rattle.std.proofs.lemmas.Str.Parse.{digit_at, digits_value-take-le, numerals_by_value, tells_digits}
 use Rattle.mls_book.specs.declared.book.Field.{Field}
 use Rattle.mls_deriv.specs.declared.derivation.BinderNode.{BinderNode}
 use Rattle.mls_deriv.specs.Forms.{IsWord}
@@ -17,28 +15,23 @@ use Rattle.mls_deriv.specs.inner.Clauses.{number_of}
 use Rattle.mls_deriv.specs.inner.Guesses.{or_zero, value_of, env_guess, fields_guess}
 use Rattle.mls_deriv.proofs.SpelledNumbers.{number_spelled, number_sound}
 
--- a number is text
-pub number_is_text : (n : ℕ) → IsWord n → IsUtf8 (decimal n)
-number_is_text n low = IsUtf8-from_ascii (decimal n) ascii
-  where
-    digits : AllDigits 10 (decimal n)
-    digits = digits_decimal (numerals_by_value (AllDigits 10) tells_digits) n low
-
-    go : (i : ℕ) → (i < length (decimal n)) ⊎ (length (decimal n) ≤ i) → get_or (decimal n) i 0 < 128
-    go i (inl within) = let range = digit_at (decimal n) i digits within in omega (arith, range)
-    go i (inr past) = let none : get_or (decimal n) i 0 ≡ 0 = get_or_past (decimal n) i 0 past in omega arith
-
-    ascii : IsAscii (decimal n)
-    ascii i = go i (cases_lt i (length (decimal n)))
-
--- and is parsed
-pub number_parsed : {E : Type 0} (word : List ℕ) (r : Result ℕ E) (n : ℕ) → IsWord n → word ≡ decimal n → ParsesUnsigned 64 10 word r → r ≡ Ok n
-number_parsed word r n low is parses =
+-- one digit more of a number: no product and no sum is too large
+pub digit_more : (word : List ℕ) (i v d n : ℕ) → IsWord n → word ≡ decimal n → i < length word → v ≡ digits_value 10 (take i word) → d ≡ get_or word i 0 - 48 → (v * 10 % 2 ^ 64 + d) % 2 ^ 64 ≡ digits_value 10 (take (i + 1) word)
+digit_more word i v d n low is within before digit =
     let digits : AllDigits 10 word = subst (AllDigits 10) (sym is) (digits_decimal (numerals_by_value (AllDigits 10) tells_digits) n low) in
-    let value : digits_value 10 word ≡ n = ap (digits_value 10) is ∙ (decimal_is_IsNumeral n low).1 in
-    let some : 0 < length word = subst (λ w. 0 < length w) (sym is) (decimal_nonempty n low) in
-    let fits : digits_value 10 word < 2 ^ 64 = subst (λ v. v < 2 ^ 64) (sym value) low in
-    parse_gives (numerals_by_value (AllDigits 10) tells_digits) 64 word r parses digits some fits ∙ ap Ok value
+    let whole : digits_value 10 word ≡ n = ap (digits_value 10) is ∙ (decimal_is_IsNumeral n low).1 in
+    let more : digits_value 10 (take (i + 1) word) ≡ digits_value 10 (take i word) * 10 + digit_value (get_or word i 0) = digits_value_more 10 word i within in
+    let value : digit_value (get_or word i 0) + 48 ≡ get_or word i 0 = digit_value_digit (get_or word i 0) (digit_at word i digits within) in
+    let front : digits_value 10 (take (i + 1) word) ≤ digits_value 10 word = digits_value-take-le 10 word (i + 1) (omega arith) in
+    let sum : v * 10 + d ≡ digits_value 10 (take (i + 1) word) = omega (arith, more, value, before, digit) in
+    let fits : v * 10 + d < 18446744073709551616 = omega (arith, sum, front, whole, low) in
+    let first : v * 10 % 18446744073709551616 ≡ v * 10 = omega (arith, fits) in
+    let both : (v * 10 % 18446744073709551616 + d) % 18446744073709551616 ≡ v * 10 + d = omega (arith, first, fits) in
+    both ∙ sum
+
+-- no digit is left
+pub digits_end : (word : List ℕ) (i v n : ℕ) → IsWord n → word ≡ decimal n → length word ≤ i → v ≡ digits_value 10 (take i word) → v ≡ n
+digits_end word i v n low is all before = before ∙ (ap (digits_value 10) (take_all i word all ∙ is) ∙ (decimal_is_IsNumeral n low).1)
 
 -- a word that the number spells has it as its value, and a word that its digits do not spell has none
 pub value_same : (word : List ℕ) (n : ℕ) → IsWord n → decimal n ≡ word → n ≡ value_of word

@@ -91,33 +91,30 @@ fn node_of(alloc: Global, words: &Words) -> Result<Node, Memory>
     match node_word(words.word(1)) {
         NodeWord::Bot => Ok(Node::Bot),
         NodeWord::Top => Ok(Node::Top),
-        NodeWord::Var => Ok(Node::Var(words.value(alloc, 2)?)),
+        NodeWord::Var => Ok(Node::Var(words.value(2))),
         NodeWord::Bool => Ok(Node::Bool),
         NodeWord::Int => Ok(Node::Int),
         NodeWord::Fn => {
-            let (j, k) = children_of(alloc, words)?;
+            let (j, k) = children_of(words);
             Ok(Node::Arrow(j, k))
         }
         NodeWord::Rcd => Ok(Node::Rcd(fields_of(alloc, words)?)),
         NodeWord::Join => {
-            let (j, k) = children_of(alloc, words)?;
+            let (j, k) = children_of(words);
             Ok(Node::Join(j, k))
         }
         NodeWord::Meet => {
-            let (j, k) = children_of(alloc, words)?;
+            let (j, k) = children_of(words);
             Ok(Node::Meet(j, k))
         }
     }
 }
 
 // Two children.
-fn children_of(alloc: Global, words: &Words) -> Result<(NodeId, NodeId), Memory>
-    ensures { IfOk result (λ both. (both.0.0 ≡ value_at words.now 2) × (both.1.0 ≡ value_at words.now 3)) }
+fn children_of(words: &Words) -> (NodeId, NodeId)
+    ensures { (result.0.0 ≡ value_at words.now 2) × (result.1.0 ≡ value_at words.now 3) }
 {
-    Ok((
-        NodeId(words.value(alloc, 2)?),
-        NodeId(words.value(alloc, 3)?),
-    ))
+    (NodeId(words.value(2)), NodeId(words.value(3)))
 }
 
 // The fields that the words behind the first two may spell, up to one that is no label.
@@ -131,7 +128,7 @@ fn fields_of(alloc: Global, words: &Words) -> Result<Fields, Memory>
             return Ok(fields);
         }
         let label = Name::new(alloc, word)?;
-        let node = NodeId(words.value(alloc, 2 * i + 1)?);
+        let node = NodeId(words.value(2 * i + 1));
         fields.push(Field { label, node })?;
     }
     Ok(fields)

@@ -1,5 +1,5 @@
 //! The texts of derivations.
-ghost use Rattle.std.specs.Prelude.{◌≡◌, ◌++◌, IfOk, OnOk};
+ghost use Rattle.std.specs.Prelude.{◌≡◌, ◌++◌, codes, IfOk, OnOk};
 ghost use Rattle.std.specs.List.{flat_map};
 ghost use Rattle.mls_deriv.specs.declared.derivation.SectionLine.TheVariants.{Step};
 ghost use Rattle.mls_deriv.specs.Spellings.{derivation_text, section_text, line_text, line_words, mode_word};
@@ -7,6 +7,7 @@ ghost use Rattle.mls_deriv.specs.Spellings.{rule_words};
 ghost use Rattle.mls_deriv.specs.Spellings.{node_line, node_words, field_words, entry_words, number_word, number_words};
 
 use crate::derivation::{BinderNode, Derivation, Mode, Section, SectionLine, StepLine, StepRule};
+use crate::last_env::LastEnv;
 use itoa::Buffer;
 use mls_base::memory::Memory;
 use mls_book::book::{Book, Field, Node, NodeId};
@@ -24,13 +25,13 @@ pub fn print_derivation(alloc: Global, derivation: &Derivation) -> Result<Vec<u8
     let mut text = Vec::new(alloc);
     text.extend_from_slice(b"derivation 1\n")?;
     for section in derivation.sections.as_slice() {
-        add_section(&mut text, section)?;
+        add_section(alloc, &mut text, section)?;
     }
     Ok(text)
 }
 
 // A section.
-fn add_section(text: &mut Vec<u8>, section: &Section) -> Result<(), Memory>
+fn add_section(alloc: Global, text: &mut Vec<u8>, section: &Section) -> Result<(), Memory>
     ensures { OnOk result (text.new.items ≡ text.old.items ++ section_text section.now) }
 {
     text.extend_from_slice(b"val ")?;
@@ -39,7 +40,7 @@ fn add_section(text: &mut Vec<u8>, section: &Section) -> Result<(), Memory>
     text.extend_from_slice(section.text.as_slice())?;
     text.extend_from_slice(b"\n")?;
     add_nodes(text, &section.nodes)?;
-    add_lines(text, section.lines.as_slice())?;
+    add_lines(alloc, text, section.lines.as_slice())?;
     text.extend_from_slice(b"end\n")?;
     Ok(())
 }
@@ -48,7 +49,7 @@ fn add_section(text: &mut Vec<u8>, section: &Section) -> Result<(), Memory>
 fn add_number(text: &mut Vec<u8>, number: usize) -> Result<(), Memory>
     ensures { OnOk result (text.new.items ≡ text.old.items ++ number_word number) }
 {
-    text.extend_from_slice(b" ")?;
+    text.push(b' ')?;
     text.extend_from_slice(Buffer::new().format(number).as_bytes())?;
     Ok(())
 }
@@ -127,7 +128,7 @@ fn add_pair(text: &mut Vec<u8>, word: &[u8], first: usize, second: usize) -> Res
 }
 
 // A word and a number.
-fn add_one(text: &mut Vec<u8>, word: &[u8], number: usize) -> Result<(), Memory>
+pub(crate) fn add_one(text: &mut Vec<u8>, word: &[u8], number: usize) -> Result<(), Memory>
     ensures { OnOk result (text.new.items ≡ text.old.items ++ (word.now ++ number_word number)) }
 {
     text.extend_from_slice(word)?;
@@ -156,22 +157,45 @@ fn add_field(text: &mut Vec<u8>, field: &Field) -> Result<(), Memory>
 
 // The lines behind the nodes.
 #[tactic(auto, using(crate::proofs::Written::more_written, crate::proofs::Written::all_written))]
-fn add_lines(text: &mut Vec<u8>, lines: &[SectionLine]) -> Result<(), Memory>
+fn add_lines(alloc: Global, text: &mut Vec<u8>, lines: &[SectionLine]) -> Result<(), Memory>
     ensures { OnOk result (text.new.items ≡ text.old.items ++ flat_map line_text lines.now) }
 {
+    let mut last = LastEnv::new(alloc);
     for line in lines {
-        add_line(text, line)?;
+        add_line(alloc, text, &mut last, line)?;
     }
     Ok(())
 }
 
 // One of them.
-fn add_line(text: &mut Vec<u8>, line: &SectionLine) -> Result<(), Memory>
+fn add_line<'a>(
+    alloc: Global,
+    text: &mut Vec<u8>,
+    last: &mut LastEnv<'a>,
+    line: &'a SectionLine,
+) -> Result<(), Memory>
     ensures { OnOk result (text.new.items ≡ text.old.items ++ line_text line.now) }
 {
-    add_words(text, line)?;
-    text.extend_from_slice(b"\n")?;
+    match line {
+        SectionLine::Step(step) => add_known(alloc, text, last, step)?,
+        _ => add_words(text, line)?,
+    }
+    text.push(b'\n')?;
     Ok(())
+}
+
+// The words of a step, whose environment may be the last one that was printed.
+fn add_known<'a>(
+    alloc: Global,
+    text: &mut Vec<u8>,
+    last: &mut LastEnv<'a>,
+    step: &'a StepLine,
+) -> Result<(), Memory>
+    ensures { OnOk result (text.new.items ≡ text.old.items ++ line_words (Step step.now)) }
+{
+    add_front(text, step)?;
+    last.add(alloc, text, step.env.as_slice())?;
+    add_one(text, b" type", step.root.0)
 }
 
 // The words of a line.
@@ -205,12 +229,21 @@ fn mode_word(mode: Mode) -> &'static [u8]
 fn add_step(text: &mut Vec<u8>, step: &StepLine) -> Result<(), Memory>
     ensures { OnOk result (text.new.items ≡ text.old.items ++ line_words (Step step.now)) }
 {
+    add_front(text, step)?;
+    add_env(text, step.env.as_slice())?;
+    add_one(text, b" type", step.root.0)
+}
+
+// The words of a step in front of its environment.
+fn add_front(text: &mut Vec<u8>, step: &StepLine) -> Result<(), Memory>
+    ensures { OnOk result (text.new.items ≡ text.old.items
+        ++ (codes "step" ++ number_word step.now.node ++ rule_words step.now.rule ++ codes " env")) }
+{
     text.extend_from_slice(b"step")?;
     add_number(text, step.node)?;
     add_rule(text, &step.rule)?;
     text.extend_from_slice(b" env")?;
-    add_env(text, step.env.as_slice())?;
-    add_one(text, b" type", step.root.0)
+    Ok(())
 }
 
 // The rule of a step.
@@ -242,7 +275,7 @@ fn add_rule(text: &mut Vec<u8>, rule: &StepRule) -> Result<(), Memory>
 
 // The binders of an environment with their nodes.
 #[tactic(auto, using(crate::proofs::Written::more_written, crate::proofs::Written::all_written))]
-fn add_env(text: &mut Vec<u8>, env: &[BinderNode]) -> Result<(), Memory>
+pub(crate) fn add_env(text: &mut Vec<u8>, env: &[BinderNode]) -> Result<(), Memory>
     ensures { OnOk result (text.new.items ≡ text.old.items ++ flat_map entry_words env.now) }
 {
     for entry in env {

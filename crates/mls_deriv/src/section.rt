@@ -7,8 +7,8 @@ ghost use Rattle.mls_deriv.specs.inner.Readings.{HasNodes, IsHeadFound, IsSectio
 use crate::derivation::{Section, SectionLines};
 use crate::fit::{book_of, first_unfit};
 use crate::front::{behind, front_of, word_of};
+use crate::line_reader::LineReader;
 use crate::node_line::read_node;
-use crate::section_line::read_line;
 use crate::stand::GivenLines;
 use crate::walk::is_memory;
 use mls_base::list::List;
@@ -178,8 +178,9 @@ fn read_lines(alloc: Global, nodes: usize, text: &[u8]) -> Result<Found<'_>, Mem
     let mut rest = text;
     let mut given = GivenLines::new(alloc);
     let mut lines = SectionLines::new(alloc);
+    let mut reader = LineReader::new(alloc);
     while let Some(front) = front_of(rest) {
-        match read_line(alloc, front.line)? {
+        match reader.read(alloc, front.line)? {
             None => return Ok(Found { lines, rest }),
             Some(line) => {
                 if !given.may_stand(nodes, &line) {

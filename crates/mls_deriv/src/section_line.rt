@@ -80,15 +80,12 @@ fn line_of(alloc: Global, words: &Words) -> Result<SectionLine, Memory>
     ensures { IfOk result (λ l. l ≡ line_guess words.now) }
 {
     match line_word(words.word(0)) {
-        LineWord::Let => Ok(SectionLine::Let(words.value(alloc, 1)?, words.value(alloc, 2)?)),
-        LineWord::Put => Ok(SectionLine::Put(
-            words.value(alloc, 1)?,
-            NodeId(words.value(alloc, 2)?),
-        )),
+        LineWord::Let => Ok(SectionLine::Let(words.value(1), words.value(2))),
+        LineWord::Put => Ok(SectionLine::Put(words.value(1), NodeId(words.value(2)))),
         LineWord::Pair => Ok(SectionLine::Pair(
             mode_of(words.word(1)),
-            NodeId(words.value(alloc, 2)?),
-            NodeId(words.value(alloc, 3)?),
+            NodeId(words.value(2)),
+            NodeId(words.value(3)),
         )),
         LineWord::Step => step_of(alloc, words),
     }
@@ -113,9 +110,9 @@ fn step_of(alloc: Global, words: &Words) -> Result<SectionLine, Memory>
     let numbers = words.values_until(alloc, 3, b"env")?;
     let count = numbers.len();
     let entries = words.values_until(alloc, sum(count, 4)?, b"type")?;
-    let root = words.value(alloc, sum(sum(count, entries.len())?, 5)?)?;
+    let root = words.value(sum(sum(count, entries.len())?, 5)?);
     Ok(SectionLine::Step(StepLine {
-        node: words.value(alloc, 1)?,
+        node: words.value(1),
         rule: rule_of(rule_word(words.word(2)), numbers),
         env: env_of(alloc, entries.as_slice())?,
         root: NodeId(root),

@@ -159,6 +159,33 @@ fn reads_spellings(rt: HostRuntime) -> Result<(), Fail> {
     Ok(())
 }
 
+// A step behind one with an environment that is long: what follows its rule, and which line is then bad.
+#[test]
+fn reads_long_environments(rt: HostRuntime) -> Result<(), Fail> {
+    let alloc = rt.alloc();
+    let long = "env 0 1 1 1 2 1 3 1 4 1 5 1 6 1 7 1";
+    for (behind_env, bad) in [
+        (" type 1", 0),
+        (" type 3", 0),
+        (" 8 1 type 1", 0),
+        ("0 type 1", 8),
+        (" 8 type 1", 8),
+        (" env type 1", 8),
+        (" type 01", 8),
+        (" type 1 ", 8),
+        (" type", 8),
+        ("type 1", 8),
+        ("", 8),
+    ] {
+        let others = format!(in alloc;
+            "step 0 var {long} type 1\nstep 0 fun 0 {long}{behind_env}\nstep 0 var env 0 1 type 1\nstep 0 var {long} type 1\nend\n"
+        )?;
+        let text = behind(alloc, 7, others.as_bytes())?;
+        assert_eq!(rt; bad_line(alloc, text.as_slice())?, bad, "{behind_env}");
+    }
+    Ok(())
+}
+
 // What lines behind a step ask of those before them.
 #[test]
 fn reads_what_was_given(rt: HostRuntime) -> Result<(), Fail> {

@@ -4,6 +4,7 @@ ghost use Rattle.mls_deriv.specs.Forms.{IsWord};
 ghost use Rattle.mls_deriv.specs.inner.Clauses.{line_parts};
 ghost use Rattle.mls_deriv.specs.inner.Guesses.{value_of, word_at, value_at, values_until};
 
+use itoa::Buffer;
 use mls_base::list::List;
 use mls_base::memory::Memory;
 use std::alloc::{AllocError, Global};
@@ -55,14 +56,10 @@ impl<'a> Words<'a> {
     }
 
     /// The number that the word of this number spells; it is 0 for a word that spells none.
-    ///
-    /// # Errors
-    ///
-    /// `Memory` where memory is wanting.
-    pub fn value(&self, alloc: Global, i: usize) -> Result<usize, Memory>
-        ensures { IfOk result (λ n. n ≡ value_at self.now i) }
+    pub fn value(&self, i: usize) -> usize
+        ensures { result ≡ value_at self.now i }
     {
-        value_of(alloc, self.word(i))
+        value_of(self.word(i))
     }
 
     /// The numbers that the words from this one on spell, up to the word `stop`.
@@ -84,7 +81,7 @@ impl<'a> Words<'a> {
             if word == stop {
                 return Ok(values);
             }
-            values.push(value_of(alloc, word)?)?;
+            values.push(value_of(word))?;
         }
         Ok(values)
     }
@@ -98,23 +95,25 @@ fn split_at_spaces(alloc: Global, line: &[u8]) -> Result<Vec<&[u8]>, AllocError>
 }
 
 // The number that the word spells; it is 0 for a word that spells none.
-fn value_of(alloc: Global, word: &[u8]) -> Result<usize, Memory>
-    ensures { IfOk result (λ n. n ≡ value_of word.now) }
+fn value_of(word: &[u8]) -> usize
+    ensures { result ≡ value_of word.now }
 {
     let value = digits_of(word);
-    if value.to_string(alloc)?.as_bytes() == word {
-        Ok(value)
+    if Buffer::new().format(value).as_bytes() == word {
+        value
     } else {
-        Ok(0)
+        0
     }
 }
 
-// The value of the digits of a word; it is 0 for a word that is no number.
+// The value of the digits of a word that is a number.
 fn digits_of(word: &[u8]) -> usize
     ensures { (n : ℕ) → IsWord n → word.now ≡ decimal n → result ≡ n }
 {
-    match str::from_utf8(word) {
-        Ok(text) => text.parse::<usize>().unwrap_or(0),
-        Err(_) => 0,
+    let mut value: usize = 0;
+    for byte in word {
+        let digit = usize::from(byte.saturating_sub(b'0'));
+        value = value.wrapping_mul(10).wrapping_add(digit);
     }
+    value
 }

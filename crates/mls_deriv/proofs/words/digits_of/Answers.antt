@@ -1,13 +1,11 @@
-use Rattle.std.proofs.Common.{arith, ◌≡◌, sym, subst, ◌∙◌}
-use Rattle.std.specs.Str.{IsUtf8}
-use Rattle.std.specs.declared.result.Result.TheVariants.{Ok}
-use Rattle.mls_deriv.proofs.WordValues.{number_is_text, number_parsed}
+use Rattle.std.proofs.Common.{◌≡◌, ◌-◌, get_or, rules}
+use Rattle.mls_deriv.proofs.WordValues.{digit_more, digits_end}
 use Rattle.mls_deriv.proofs.words.digits_of.Goals as goal
 
-pub returns-in-Ok : goal.returns-in-Ok
-returns-in-Ok c = λ n low is.
-    let parsed : c.parse.result ≡ Ok n = number_parsed c.in-Ok.text.now c.parse.result n low (c.in-Ok.ensures.cases.0 ∙ is) c.parse.ensures.value.0 in
-    grind (arith, parsed)
+pub loop-byte-preserved : goal.loop-byte-preserved
+loop-byte-preserved c = λ n low is.
+    let digit : c.from-digit.result ≡ get_or c.args.word.now c.loop-byte.byte-index 0 - 48 = search rules in
+    digit_more c.args.word.now c.loop-byte.byte-index c.loop-byte.value c.from-digit.result n low is c.loop-byte-test.true (c.loop-byte.invariant n low is) digit
 
-pub returns-in-Err : goal.returns-in-Err
-returns-in-Err c = λ n low is. absurd (c.in-Err.ensures.cases.0 (subst IsUtf8 (sym is) (number_is_text n low)))
+pub returns : goal.returns
+returns c = λ n low is. digits_end c.args.word.now c.loop-byte.byte-index c.loop-byte.value n low is c.loop-byte-test.false (c.loop-byte.invariant n low is)
