@@ -20,7 +20,7 @@ use Rattle.mls_deriv.specs.inner.Tables.{numbers_cmp}
 use Rattle.mls_deriv.proofs.ScopedNames.{first_or_later}
 use Rattle.mls_pairs.specs.declared.found.Found.{Found}
 use Rattle.mls_pairs.specs.PairLists.{pair_of}
-use Rattle.mls_pairs.specs.steps.Needs.{IsPlainNode, needs_of}
+use Rattle.mls_pairs.specs.steps.Needs.{IsPlainNode, needs_by}
 use Rattle.mls_pairs.specs.steps.Growth.{IsMarked, IsFound, Marks, Finds, FindsNeeds, IsGathered, IsClosedList, IsGrowing}
 
 both_equal : (o p : Ordering) → is_eq (ordering_then o p) ≡ true → (o ≡ Equal) × (p ≡ Equal)
@@ -173,10 +173,10 @@ split (suc k) (suc n) = go (split k n)
     go (inl h) = inl (omega arith)
     go (inr h) = inr (omega arith)
 
-module _ (book : List Node) (put : ℕ → Option ℕ) where
+module _ (alone : Bool) (book : List Node) (put : ℕ → Option ℕ) where
   -- one more pair of the list has what the rules name for it
-  gathered_next : (f g : Found) (n : ℕ) (pair : Pair) → n < length f.pairs → get_or f.pairs n pair ≡ pair → IsGathered book put n f.pairs
-      → FindsNeeds book put f g pair → IsGathered book put (n + 1) g.pairs
+  gathered_next : (f g : Found) (n : ℕ) (pair : Pair) → n < length f.pairs → get_or f.pairs n pair ≡ pair → IsGathered alone book put n f.pairs
+      → FindsNeeds alone book put f g pair → IsGathered alone book put (n + 1) g.pairs
   gathered_next f g n pair low is all it k one k_low k_in at apart other needed = go (split k n)
     where
       go : (k < n) ⊎ (n ≤ k) → Contains g.pairs other
@@ -187,7 +187,7 @@ module _ (book : List Node) (put : ℕ → Option ℕ) where
       go (inr more) =
           it.finds.has other
           (subst (λ ps. Contains ps other) (sym (it.are (subst (λ p. IsPlainNode p → ⊥) same apart)))
-          (subst (λ p. Contains (needs_of book put p) other) same needed))
+          (subst (λ p. Contains (needs_by alone book put p) other) same needed))
         where
           same : one ≡ pair
           same =
@@ -198,30 +198,30 @@ module _ (book : List Node) (put : ℕ → Option ℕ) where
               ∙ (ap (λ m. get_or f.pairs m one) is_n
               ∙ (get_or_default f.pairs n one pair low ∙ is))))
 
-  pub growing_first : (wanted : List Pair) (f g : Found) → Finds f g wanted → IsGrowing book put wanted 0 g
+  pub growing_first : (wanted : List Pair) (f g : Found) → Finds f g wanted → IsGrowing alone book put wanted 0 g
   growing_first wanted f g finds = record {
     is = finds.is;
     has_wanted = finds.has;
     gathered = λ k pair low. absurd (omega arith);
   }
 
-  pub growing_next : (wanted : List Pair) (f g : Found) (n : ℕ) (pair : Pair) → n < length f.pairs → get_or f.pairs n pair ≡ pair → IsGrowing book put wanted n f
-      → FindsNeeds book put f g pair → IsGrowing book put wanted (n + 1) g
+  pub growing_next : (wanted : List Pair) (f g : Found) (n : ℕ) (pair : Pair) → n < length f.pairs → get_or f.pairs n pair ≡ pair → IsGrowing alone book put wanted n f
+      → FindsNeeds alone book put f g pair → IsGrowing alone book put wanted (n + 1) g
   growing_next wanted f g n pair low is it more = record {
     is = more.finds.is;
     has_wanted = λ other there. subst (λ ps. Contains ps other) (sym more.finds.behind) (Contains-append_left f.pairs more.finds.more other (it.has_wanted other there));
     gathered = gathered_next f g n pair low is it.gathered more;
   }
 
-  pub growing_last : (wanted : List Pair) (f : Found) (n : ℕ) → length f.pairs ≤ n → IsGrowing book put wanted n f → IsClosedList book put wanted f.pairs
+  pub growing_last : (wanted : List Pair) (f : Found) (n : ℕ) → length f.pairs ≤ n → IsGrowing alone book put wanted n f → IsClosedList alone book put wanted f.pairs
   growing_last wanted f n all it = record {
     has_wanted = it.has_wanted;
     closed = λ pair other there apart needed. it.gathered there.0 pair (let low : there.0 < length f.pairs = there.1 in omega arith) there.1 there.2 apart other needed;
   }
 
   -- a pair that needs others, and one that needs none
-  pub needs_found : (f g : Found) (pair : Pair) → Finds f g (needs_of book put pair) → FindsNeeds book put f g pair
-  needs_found f g pair finds = record { needs = needs_of book put pair; finds = finds; are = λ apart. refl }
+  pub needs_found : (f g : Found) (pair : Pair) → Finds f g (needs_by alone book put pair) → FindsNeeds alone book put f g pair
+  needs_found f g pair finds = record { needs = needs_by alone book put pair; finds = finds; are = λ apart. refl }
 
-  pub none_needed : (f : Found) (pair : Pair) → IsFound f → IsPlainNode pair → FindsNeeds book put f f pair
+  pub none_needed : (f : Found) (pair : Pair) → IsFound f → IsPlainNode pair → FindsNeeds alone book put f f pair
   none_needed f pair is same = record { needs = []; finds = found_none f is; are = λ apart. absurd (apart same) }

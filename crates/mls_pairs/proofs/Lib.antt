@@ -1,5 +1,6 @@
 pub mod Refuted
 pub mod Needed
+pub mod Own
 pub mod Growing
 pub mod Rounding
 pub mod LinesRead

@@ -4,21 +4,35 @@
 --     those_length, those_all, those_smaller      how long it is, and where all is kept
 --     left_first, left_next       what is left
 --     left_last                   what is left when nothing is to be deleted
-use Rattle.std.proofs.Common.{◌≡◌, ◌↔◌, ◌⊎◌, inl, inr, Bool, true, false, ℕ, zero, suc, ◌<◌, ◌≤◌, List, [], ◌∷◌, ◌++◌, ◌+◌, take, length, refl, sym, ap, subst, arith}
-use Rattle.std.specs.Prelude.{All, Contains, get_or, IsTrue}
+use Rattle.std.proofs.Common.{◌≡◌, ◌↔◌, ◌⊎◌, inl, inr, Bool, true, false, ℕ, zero, suc, ◌<◌, ◌≤◌, List, [], ◌∷◌, ◌++◌, ◌+◌, take, length, refl, sym, ap, subst, arith, Option, Some, None, IsSome}
+use Rattle.std.specs.Prelude.{◌==◌, All, Contains, get_or, IsTrue}
+use Rattle.std.proofs.lemmas.Bool.Decides.{Decides-eqb}
 use Rattle.std.proofs.lemmas.List.{take_more}
 use Rattle.std.proofs.lemmas.List.Elements.{All-nil, All-cons, Contains-append_left, Contains-append_right, Contains-append_cases}
 use Rattle.mls_book.specs.declared.book.Node.{Node}
+use Rattle.mls_deriv.specs.declared.derivation.Mode.{Mode}
+use Rattle.mls_deriv.specs.declared.derivation.Mode.TheVariants.{Lr, Rl, Pp}
 use Rattle.mls_deriv.specs.declared.claim.Pair.{Pair}
 use Rattle.mls_deriv.specs.declared.claim.Put.{Put}
 use Rattle.mls_deriv.specs.Pairs.{put_at, Claims, IsJustified, same_node}
 use Rattle.mls_deriv.proofs.CheckedSubs.{justified_more}
 use Rattle.mls_deriv.proofs.ScopedNames.{first_or_later}
 use Rattle.mls_pairs.specs.PairLists.{pair_of, IsOutside, IsRefuted, refuted, IsPairList}
-use Rattle.mls_pairs.specs.steps.Growth.{IsClosedList}
-use Rattle.mls_pairs.specs.steps.Needs.{IsPlainNode, needs_of}
-use Rattle.mls_pairs.specs.steps.Rounds.{AreThose, none, kept, gone, AddsKept, IsJustifiedBy, IsLeft}
+use Rattle.mls_pairs.specs.steps.Needs.{IsPlainNode, needs_by, needs_of, or_else, own_needs}
+use Rattle.mls_pairs.specs.steps.Rounds.{AreThose, none, kept, gone, AddsKept, IsJustifiedBy, IsLeft, IsWhole}
+use Rattle.mls_pairs.proofs.Own.{own_justified, own_more}
 use Rattle.mls_pairs.proofs.Needed.{by_needs, Named}
+
+-- a mode in which both sides are read plainly
+abbrev is_plain : Mode → Bool
+is_plain Lr = false
+is_plain Rl = false
+is_plain Pp = true
+
+plain_is : (mode : Mode) → is_plain mode ≡ true → mode ≡ Pp
+plain_is Lr e = absurd (cc)
+plain_is Rl e = absurd (cc)
+plain_is Pp e = refl
 
 compared : (m n : ℕ) → m ≤ n → (m < n) ⊎ (m ≡ n)
 compared zero zero low = inr refl
@@ -132,15 +146,44 @@ module _ (IsOne : Pair → Type 0) where
   left_there pairs left (gone {pairs = ps} {left = ls} first one rest) pair there = later first pair ps (left_there ps ls rest pair there)
 
 module _ (book : List Node) (puts : List Put) (wanted : List Pair) where
-  pub left_first : (pairs : List Pair) → IsClosedList book (put_at puts) wanted pairs → IsLeft book puts wanted pairs
-  left_first pairs closed = record {
+  pub left_first : (pairs : List Pair) → IsWhole book puts wanted pairs → IsLeft book puts wanted pairs
+  left_first pairs whole = record {
     first = pairs;
-    closed = closed;
+    whole = whole;
+    own = λ alone pair there own. there;
     gone = [];
     within = λ pair there. there;
     refuted = λ pair there. absurd (let low : there.0 < 0 = there.1 in omega arith);
     either = λ pair there. inl there;
   }
+
+  -- a node read plainly, or not
+  plain_or : (pair : Pair) → IsPlainNode pair ⊎ (IsPlainNode pair → ⊥)
+  plain_or pair = go (is_plain pair.mode) refl (pair.left == pair.right) refl
+    where
+      go : (p : Bool) → is_plain pair.mode ≡ p → (e : Bool) → pair.left == pair.right ≡ e → IsPlainNode pair ⊎ (IsPlainNode pair → ⊥)
+      go true p true e = inl (plain_is pair.mode p, (Decides-eqb pair.left pair.right).0 e)
+      go true p false e = inr (λ h. let yes : pair.left == pair.right ≡ true = (Decides-eqb pair.left pair.right).1 h.1 in absurd (cc))
+      go false p e q = inr (λ h. let yes : is_plain pair.mode ≡ true = ap is_plain h.0 in absurd (cc))
+
+  -- what holds by itself is justified by what is left
+  own_stays : (pairs : List Pair) (it : IsLeft book puts wanted pairs) → it.whole.alone ≡ true → (pair : Pair) → Contains it.first pair → IsSome (own_needs book pair) → IsJustifiedBy book puts pairs pair
+  own_stays pairs it alone pair there some = go (plain_or pair)
+    where
+      go : IsPlainNode pair ⊎ (IsPlainNode pair → ⊥) → IsJustifiedBy book puts pairs pair
+      go (inl same) = same_node same.0 same.1
+      go (inr apart) = at (own_needs book pair) refl some
+        where
+          at : (o : Option (List Pair)) → own_needs book pair ≡ o → IsSome o → IsJustifiedBy book puts pairs pair
+          at None e wrong = absurd (cc)
+          at (Some own) e some =
+              subst (λ ps. IsJustified book ps (Claims pairs) pair.mode pair.left pair.right) (sym (it.whole.none alone))
+              (own_justified book (Claims pairs) pair own e
+              (λ other inside. it.own alone other
+              (it.whole.closed.closed pair other there apart
+              (subst (λ b. Contains (needs_by b book (put_at puts) pair) other) (sym alone)
+              (subst (λ (p : Option (List Pair)). Contains (or_else p (needs_of book (put_at puts) pair)) other) (sym e) inside)))
+              (own_more book pair own e other inside)))
 
   -- a pair of the list that the list does not justify is refuted
   now_refuted : (pairs : List Pair) (it : IsLeft book puts wanted pairs) (pair : Pair) → Contains pairs pair → (IsJustifiedBy book puts pairs pair → ⊥) → IsRefuted book puts pair
@@ -151,8 +194,15 @@ module _ (book : List Node) (puts : List Put) (wanted : List Pair) where
       apart same = not_so (same_node same.0 same.1)
 
       still : (other : Pair) → Contains (needs_of book (put_at puts) pair) other → (Contains it.gone other → ⊥) → Contains pairs other
-      still other needed outside = go (it.either other (it.closed.closed pair other (it.within pair there) apart needed))
+      still other needed outside = go (it.either other (it.whole.closed.closed pair other (it.within pair there) apart (named it.whole.alone refl (own_needs book pair) refl)))
         where
+          named : (b : Bool) → it.whole.alone ≡ b → (o : Option (List Pair)) → own_needs book pair ≡ o → Contains (needs_by it.whole.alone book (put_at puts) pair) other
+          named false e o is = subst (λ b. Contains (needs_by b book (put_at puts) pair) other) (sym e) needed
+          named true e None is =
+              subst (λ b. Contains (needs_by b book (put_at puts) pair) other) (sym e)
+              (subst (λ (p : Option (List Pair)). Contains (or_else p (needs_of book (put_at puts) pair)) other) (sym is) needed)
+          named true e (Some own) is = absurd (not_so (own_stays pairs it e pair (it.within pair there) (subst IsSome (sym is) refl)))
+
           go : Contains pairs other ⊎ Contains it.gone other → Contains pairs other
           go (inl h) = h
           go (inr h) = absurd (outside h)
@@ -167,7 +217,8 @@ module _ (book : List Node) (puts : List Put) (wanted : List Pair) where
   pub left_next : (pairs left : List Pair) → IsLeft book puts wanted pairs → AreThose (IsJustifiedBy book puts pairs) pairs left → IsLeft book puts wanted left
   left_next pairs left it those = record {
     first = it.first;
-    closed = it.closed;
+    whole = it.whole;
+    own = λ alone pair there own. own_left alone pair there own (left_or_gone (IsJustifiedBy book puts pairs) pairs left those pair (it.own alone pair there own));
     gone = it.gone ++ now;
     within = λ pair there. it.within pair (left_there (IsJustifiedBy book puts pairs) pairs left those pair there);
     refuted = λ pair there. all_refuted pair (Contains-append_cases it.gone now pair there);
@@ -176,6 +227,12 @@ module _ (book : List Node) (puts : List Put) (wanted : List Pair) where
     where
       now : List Pair
       now = those_gone (IsJustifiedBy book puts pairs) pairs left those
+
+      own_left : it.whole.alone ≡ true → (pair : Pair) → Contains it.first pair → IsSome (own_needs book pair) → Contains left pair ⊎ Contains now pair → Contains left pair
+      own_left alone pair there own (inl h) = h
+      own_left alone pair there own (inr h) =
+          let is = gone_is_not (IsJustifiedBy book puts pairs) pairs left those pair h in
+          absurd (is.0 (own_stays pairs it alone pair there own))
 
       all_refuted : (pair : Pair) → Contains it.gone pair ⊎ Contains now pair → IsRefuted book puts pair
       all_refuted pair (inl h) = it.refuted pair h
@@ -194,7 +251,7 @@ module _ (book : List Node) (puts : List Put) (wanted : List Pair) where
   pub left_last : (pairs left : List Pair) → IsLeft book puts wanted pairs → AreThose (IsJustifiedBy book puts pairs) pairs left → length left ≡ length pairs → IsPairList book puts wanted pairs
   left_last pairs left it those same = record {
     justified = those_all (IsJustifiedBy book puts pairs) pairs left those same;
-    has = λ pair there. go pair (it.either pair (it.closed.has_wanted pair there));
+    has = λ pair there. go pair (it.either pair (it.whole.closed.has_wanted pair there));
   }
     where
       go : (pair : Pair) → Contains pairs pair ⊎ Contains it.gone pair → Contains pairs pair ⊎ IsRefuted book puts pair

@@ -1,11 +1,12 @@
 //! The pairs that the rules name for wanted pairs, for those that they name, and so on.
 ghost use Rattle.std.specs.Prelude.{◌≡◌, ◌↔◌, ◌<◌, ◌∷◌, [], get_or, length, IfOk, OnOk, IsTrue};
 ghost use Rattle.mls_deriv.specs.inner.Tables.{put_in};
-ghost use Rattle.mls_deriv.specs.Pairs.{put_at};
-ghost use Rattle.mls_pairs.specs.steps.Growth.{Finds, FindsNeeds, IsClosedList, IsFound, IsMarked, Marks};
+ghost use Rattle.mls_pairs.specs.steps.Growth.{Finds, FindsNeeds, IsFound, IsMarked, Marks};
+ghost use Rattle.mls_pairs.specs.steps.Needs.{needs_by};
+ghost use Rattle.mls_pairs.specs.steps.Rounds.{IsWhole};
 
 use crate::lines::table_with;
-use crate::needs::needs_of;
+use crate::needs::{needs_of, own_needs};
 use crate::pairs::Pairs;
 use mls_base::memory::Memory;
 use mls_book::book::Book;
@@ -104,42 +105,62 @@ impl Found {
         self.pairs.as_slice()[place]
     }
 
-    // Adds what the rules name for a pair. One of a node with itself, read plainly, needs nothing.
+    // Adds what is gathered for a pair. One of a node with itself, read plainly, needs nothing.
     fn add_needs(
         &mut self,
         alloc: Global,
         book: &Book,
         table: &Table,
+        alone: bool,
         pair: Pair,
     ) -> Result<(), Memory>
         requires { IsFound self.old }
-        ensures { OnOk result (FindsNeeds book.now (put_in table.now) self.old self.new pair) }
+        ensures { OnOk result (FindsNeeds alone book.now (put_in table.now) self.old self.new pair) }
     {
         if pair.mode == Mode::Pp && pair.left == pair.right {
             return Ok(());
         }
-        let needs = needs_of(alloc, book, table, pair)?;
+        let needs = needs_by(alloc, book, table, alone, pair)?;
         self.add_all(needs.as_slice())?;
         Ok(())
     }
 }
 
-/// The wanted pairs and all that the rules name for pairs of the list.
+// What is gathered for a pair: what the rules name, or less where it holds by itself, as variables stand for themselves.
+fn needs_by(
+    alloc: Global,
+    book: &Book,
+    table: &Table,
+    alone: bool,
+    pair: Pair,
+) -> Result<Pairs, Memory>
+    ensures { IfOk result (λ needs. needs ≡ needs_by alone book.now (put_in table.now) pair) }
+{
+    if alone {
+        if let Some(own) = own_needs(alloc, book, pair)? {
+            return Ok(own);
+        }
+    }
+    needs_of(alloc, book, table, pair)
+}
+
+/// The wanted pairs and all that is gathered for pairs of the list.
 pub(crate) fn gathered(
     alloc: Global,
     book: &Book,
     puts: &[Put],
     wanted: &[Pair],
 ) -> Result<Pairs, Memory>
-    ensures { IfOk result (IsClosedList book.now (put_at puts.now) wanted.now) }
+    ensures { IfOk result (IsWhole book.now puts.now wanted.now) }
 {
+    let alone = puts.is_empty();
     let table = table_with(alloc, puts, &Pairs::new(alloc))?;
     let mut found = Found::new(alloc);
     found.add_all(wanted)?;
     let mut next = 0;
     while next < found.len() {
         let pair = found.at(next);
-        found.add_needs(alloc, book, &table, pair)?;
+        found.add_needs(alloc, book, &table, alone, pair)?;
         next += 1;
     }
     Ok(found.pairs)

@@ -1,6 +1,7 @@
 //! The pairs that the rules name for a pair of nodes.
-ghost use Rattle.std.specs.Prelude.{◌≡◌, ◌++◌, ◌∷◌, [], IfOk, OnOk};
+ghost use Rattle.std.specs.Prelude.{◌≡◌, ◌++◌, ◌∷◌, [], map, IfOk, OnOk};
 ghost use Rattle.std.specs.List.{flat_map};
+ghost use Rattle.mls_book.specs.declared.book.Field.{Field};
 ghost use Rattle.mls_book.specs.declared.book.Node.TheVariants.{Bot};
 ghost use Rattle.mls_book.specs.Books.{AreRising, node_at};
 ghost use Rattle.mls_deriv.specs.Pairs.{exchanged};
@@ -8,6 +9,7 @@ ghost use Rattle.mls_deriv.specs.inner.PairRules.{HasRisingLabels, left_node, ri
 ghost use Rattle.mls_deriv.specs.inner.Tables.{put_in};
 ghost use Rattle.mls_pairs.specs.PairLists.{pair_of};
 ghost use Rattle.mls_pairs.specs.steps.Needs.{both_needs, field_needs, left_needs, needs_of, node_needs, right_needs};
+ghost use Rattle.mls_pairs.specs.steps.Needs.{has_member, is_member, own_needs, own_needs_at, self_needs};
 
 use crate::pairs::Pairs;
 use mls_base::memory::Memory;
@@ -209,4 +211,96 @@ pub(crate) fn needs_of(
     let left = node_of(book, NodeId(pair.left), &bot);
     let right = node_of(book, NodeId(pair.right), &bot);
     node_needs(alloc, table, pair, left, right)
+}
+
+// Adds the pair of each field with itself.
+fn push_selves(needs: &mut Pairs, mode: Mode, fields: &Fields) -> Result<(), Memory>
+    ensures { OnOk result (needs.new ≡ needs.old ++ map (λ (field : Field). pair_of mode field.node.0 field.node.0) fields.now) }
+{
+    for field in fields.as_slice() {
+        push(needs, mode, field.node.0, field.node.0)?;
+    }
+    Ok(())
+}
+
+// What the pair of a node with itself needs, where variables stand for themselves.
+fn self_needs(alloc: Global, mode: Mode, i: usize, node: &Node) -> Result<Pairs, Memory>
+    ensures { IfOk result (λ needs. needs ≡ self_needs mode i node.now) }
+{
+    let mut needs = Pairs::new(alloc);
+    match node {
+        Node::Join(l, r) => push_lefts(&mut needs, mode, *l, *r, i)?,
+        Node::Meet(l, r) => push_rights(&mut needs, mode, i, *l, *r)?,
+        Node::Arrow(a, b) => {
+            push(&mut needs, exchanged(mode), a.0, a.0)?;
+            push(&mut needs, mode, b.0, b.0)?;
+        }
+        Node::Rcd(fields) => push_selves(&mut needs, mode, fields)?,
+        _ => {}
+    }
+    Ok(needs)
+}
+
+// Whether the node is a join of this node and another one.
+fn is_member(join: &Node, i: usize) -> bool
+    ensures { result ≡ is_member join.now i }
+{
+    match join {
+        Node::Join(l, r) => l.0 == i || r.0 == i,
+        _ => false,
+    }
+}
+
+// Whether the node is a meet of this node and another one.
+fn has_member(meet: &Node, j: usize) -> bool
+    ensures { result ≡ has_member meet.now j }
+{
+    match meet {
+        Node::Meet(l, r) => l.0 == j || r.0 == j,
+        _ => false,
+    }
+}
+
+// The pair of a node with itself.
+fn one_self(alloc: Global, mode: Mode, i: usize) -> Result<Pairs, Memory>
+    ensures { IfOk result (λ needs. needs ≡ pair_of mode i i ∷ []) }
+{
+    let mut needs = Pairs::new(alloc);
+    push(&mut needs, mode, i, i)?;
+    Ok(needs)
+}
+
+// What a pair of these nodes needs, if it holds by itself where variables stand for themselves.
+fn own_needs_at(
+    alloc: Global,
+    pair: Pair,
+    left: &Node,
+    right: &Node,
+) -> Result<Option<Pairs>, Memory>
+    ensures { IfOk result (λ needs. needs ≡ own_needs_at pair left.now right.now) }
+{
+    if pair.left == pair.right {
+        let needs = self_needs(alloc, pair.mode, pair.left, left)?;
+        return Ok(Some(needs));
+    }
+    if is_member(right, pair.left) {
+        let needs = one_self(alloc, pair.mode, pair.left)?;
+        return Ok(Some(needs));
+    }
+    if has_member(left, pair.right) {
+        let needs = one_self(alloc, pair.mode, pair.right)?;
+        return Ok(Some(needs));
+    }
+    Ok(None)
+}
+
+/// What this pair needs, if it holds by itself where variables stand for themselves: a node is below itself, a member of
+/// a join below the join, and a meet below its members.
+pub(crate) fn own_needs(alloc: Global, book: &Book, pair: Pair) -> Result<Option<Pairs>, Memory>
+    ensures { IfOk result (λ needs. needs ≡ own_needs book.now pair) }
+{
+    let bot = Node::Bot;
+    let left = node_of(book, NodeId(pair.left), &bot);
+    let right = node_of(book, NodeId(pair.right), &bot);
+    own_needs_at(alloc, pair, left, right)
 }

@@ -42,18 +42,11 @@ fn small_book(alloc: Global) -> Result<Book, Memory> {
     Ok(book)
 }
 
-// How many pairs the list for this pair has, and whether it is there, where the variable stands for `int`.
-fn listed(alloc: Global, mode: Mode, left: usize, right: usize) -> Result<(usize, bool), Memory> {
+// How many pairs the list for this pair has, and whether it is there.
+fn listed(alloc: Global, puts: &[Put], pair: Pair) -> Result<(usize, bool), Memory> {
     let book = small_book(alloc)?;
-    let puts = vec![in alloc;
-        Put {
-            variable: 0,
-            node: 1
-        },
-    ]?;
-    let pair = Pair { mode, left, right };
     let wanted = vec![in alloc; pair]?;
-    let pairs = pair_list(alloc, &book, puts.as_slice(), wanted.as_slice())?;
+    let pairs = pair_list(alloc, &book, puts, wanted.as_slice())?;
     let has = pairs.as_slice().iter().any(|other| *other == pair);
     Ok((pairs.len(), has))
 }
@@ -61,6 +54,13 @@ fn listed(alloc: Global, mode: Mode, left: usize, right: usize) -> Result<(usize
 #[test]
 fn lists_what_a_pair_needs(rt: HostRuntime) -> Result<(), Fail> {
     let alloc = rt.alloc();
+    // The variable stands for `int`.
+    let puts = vec![in alloc;
+        Put {
+            variable: 0,
+            node: 1
+        },
+    ]?;
     let rows = [
         (Mode::Pp, 3, 4, (3, true)),
         (Mode::Pp, 4, 3, (1, false)),
@@ -74,8 +74,31 @@ fn lists_what_a_pair_needs(rt: HostRuntime) -> Result<(), Fail> {
         (Mode::Pp, 8, 9, (2, true)),
     ];
     for (mode, left, right, found) in rows {
-        assert_eq!(rt; listed(alloc, mode, left, right)?, found);
+        let pair = Pair { mode, left, right };
+        assert_eq!(rt; listed(alloc, puts.as_slice(), pair)?, found);
     }
     justified_is_not_refuted();
+    Ok(())
+}
+
+#[test]
+fn lists_what_a_pair_needs_where_variables_stand_for_themselves(
+    rt: HostRuntime,
+) -> Result<(), Fail> {
+    let alloc = rt.alloc();
+    let rows = [
+        (Mode::Lr, 2, 2, (5, true)),
+        (Mode::Rl, 0, 2, (2, true)),
+        (Mode::Lr, 2, 0, (1, false)),
+        (Mode::Lr, 3, 3, (7, true)),
+        (Mode::Lr, 5, 5, (1, true)),
+        (Mode::Rl, 7, 7, (6, true)),
+        (Mode::Lr, 8, 8, (2, true)),
+        (Mode::Lr, 3, 4, (5, true)),
+    ];
+    for (mode, left, right, found) in rows {
+        let pair = Pair { mode, left, right };
+        assert_eq!(rt; listed(alloc, &[], pair)?, found);
+    }
     Ok(())
 }

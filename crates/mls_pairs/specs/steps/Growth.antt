@@ -1,5 +1,5 @@
 -- How the pairs are gathered that the rules name for wanted ones.
-use Rattle.std.specs.Prelude.{◌≡◌, ◌⊎◌, ℕ, ◌<◌, List, ◌++◌, length, get_or, IsTrue, Contains, Option}
+use Rattle.std.specs.Prelude.{◌≡◌, ◌⊎◌, ℕ, ◌<◌, Bool, List, ◌++◌, length, get_or, IsTrue, Contains, Option}
 use Rattle.std.specs.BTreeSet.{BTreeSet, contains}
 use Rattle.mls_book.specs.declared.book.Node.{Node}
 use Rattle.mls_deriv.specs.declared.derivation.Mode.{Mode}
@@ -9,7 +9,7 @@ use Rattle.mls_deriv.specs.Pairs.{Claims}
 use Rattle.mls_deriv.specs.inner.Tables.{numbers_cmp}
 use Rattle.mls_pairs.specs.declared.found.Found.{Found}
 use Rattle.mls_pairs.specs.PairLists.{pair_of}
-use Rattle.mls_pairs.specs.steps.Needs.{IsPlainNode, needs_of}
+use Rattle.mls_pairs.specs.steps.Needs.{IsPlainNode, needs_by}
 
 -- the marks of a mode
 abbrev pub marks_of : Mode → Found → BTreeSet (ℕ × ℕ)
@@ -38,26 +38,29 @@ pub record Finds (old new : Found) (pairs : List Pair) : Type 0 where
   pub only : (pair : Pair) → Contains more pair → Contains pairs pair
   pub has : (pair : Pair) → Contains pairs pair → Contains new.pairs pair
 
--- the list has what the rules name for the pair, if it needs any
-pub record FindsNeeds (book : List Node) (put : ℕ → Option ℕ) (old new : Found) (pair : Pair) : Type 0 where
+-- the list has what is gathered for the pair, if it needs any
+pub record FindsNeeds (alone : Bool) (book : List Node) (put : ℕ → Option ℕ) (old new : Found) (pair : Pair) :
+    Type 0 where
   pub needs : List Pair
   pub finds : Finds old new needs
-  pub are : (IsPlainNode pair → ⊥) → needs ≡ needs_of book put pair
+  pub are : (IsPlainNode pair → ⊥) → needs ≡ needs_by alone book put pair
 
--- the list has what the rules name for those of its first pairs, up to this number, that need any
-abbrev pub IsGathered : List Node → (ℕ → Option ℕ) → ℕ → List Pair → Type 0
-IsGathered book put n pairs =
+-- the list has what is gathered for those of its first pairs, up to this number, that need any
+abbrev pub IsGathered : (alone : Bool) → List Node → (ℕ → Option ℕ) → ℕ → List Pair → Type 0
+IsGathered alone book put n pairs =
     (k : ℕ) (pair : Pair) → k < n → k < length pairs → get_or pairs k pair ≡ pair → (IsPlainNode pair → ⊥)
-    → (other : Pair) → Contains (needs_of book put pair) other → Contains pairs other
+    → (other : Pair) → Contains (needs_by alone book put pair) other → Contains pairs other
 
--- the list has the wanted pairs, and all that the rules name for those of its own that need any
-pub record IsClosedList (book : List Node) (put : ℕ → Option ℕ) (wanted pairs : List Pair) : Type 0 where
+-- the list has the wanted pairs, and all that is gathered for those of its own that need any
+pub record IsClosedList (alone : Bool) (book : List Node) (put : ℕ → Option ℕ) (wanted pairs : List Pair) :
+    Type 0 where
   pub has_wanted : (pair : Pair) → Contains wanted pair → Contains pairs pair
   pub closed : (pair other : Pair) → Contains pairs pair → (IsPlainNode pair → ⊥)
-      → Contains (needs_of book put pair) other → Contains pairs other
+      → Contains (needs_by alone book put pair) other → Contains pairs other
 
--- the wanted pairs are found, and what the rules name for the first pairs of the list
-pub record IsGrowing (book : List Node) (put : ℕ → Option ℕ) (wanted : List Pair) (n : ℕ) (f : Found) : Type 0 where
+-- the wanted pairs are found, and what is gathered for the first pairs of the list
+pub record IsGrowing (alone : Bool) (book : List Node) (put : ℕ → Option ℕ) (wanted : List Pair) (n : ℕ) (f : Found) :
+    Type 0 where
   pub is : IsFound f
   pub has_wanted : (pair : Pair) → Contains wanted pair → Contains f.pairs pair
-  pub gathered : IsGathered book put n f.pairs
+  pub gathered : IsGathered alone book put n f.pairs

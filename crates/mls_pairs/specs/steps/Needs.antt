@@ -1,5 +1,5 @@
 -- The pairs that the rules name for a pair of nodes.
-use Rattle.std.specs.Prelude.{◌≡◌, ℕ, List, [], ◌∷◌, ◌++◌, Option, Some, None}
+use Rattle.std.specs.Prelude.{◌≡◌, ◌==◌, ◌||◌, ℕ, Bool, true, false, cond, map, List, [], ◌∷◌, ◌++◌, Option, Some, None}
 use Rattle.std.specs.List.{flat_map}
 use Rattle.mls_book.specs.declared.book.Field.{Field}
 use Rattle.mls_book.specs.declared.book.NodeId.{NodeId}
@@ -59,3 +59,44 @@ IsPlainNode pair = (pair.mode ≡ Pp) × (pair.left ≡ pair.right)
 -- for the pair
 abbrev pub needs_of : List Node → (put : ℕ → Option ℕ) → Pair → List Pair
 needs_of book put pair = node_needs put pair (node_at book pair.left) (node_at book pair.right)
+
+-- What a pair needs that holds by itself, where variables stand for themselves: that of a node with itself needs those
+-- of its parts,
+abbrev pub self_needs : Mode → ℕ → Node → List Pair
+self_needs mode i (node.Join l r) = pair_of mode l.0 i ∷ pair_of mode r.0 i ∷ []
+self_needs mode i (node.Meet l r) = pair_of mode i l.0 ∷ pair_of mode i r.0 ∷ []
+self_needs mode i (node.Arrow a b) = pair_of (exchanged mode) a.0 a.0 ∷ pair_of mode b.0 b.0 ∷ []
+self_needs mode i (node.Rcd fields) = map (λ (field : Field). pair_of mode field.node.0 field.node.0) fields
+self_needs mode i _ = []
+
+-- and that of a member of a join with the join, or of a meet with a member, needs that of the member with itself.
+abbrev pub is_member : Node → ℕ → Bool
+is_member (node.Join l r) i = (l.0 == i) || (r.0 == i)
+is_member _ i = false
+
+abbrev pub has_member : Node → ℕ → Bool
+has_member (node.Meet l r) j = (l.0 == j) || (r.0 == j)
+has_member _ j = false
+
+abbrev pub member_needs : Mode → (i j : ℕ) → (left right : Node) → Option (List Pair)
+member_needs mode i j left right =
+    cond (is_member right i) (Some (pair_of mode i i ∷ []))
+    (cond (has_member left j) (Some (pair_of mode j j ∷ [])) None)
+
+-- such a pair of these nodes
+abbrev pub own_needs_at : Pair → (left right : Node) → Option (List Pair)
+own_needs_at pair left right =
+    cond (pair.left == pair.right) (Some (self_needs pair.mode pair.left left))
+    (member_needs pair.mode pair.left pair.right left right)
+
+abbrev pub own_needs : List Node → Pair → Option (List Pair)
+own_needs book pair = own_needs_at pair (node_at book pair.left) (node_at book pair.right)
+
+abbrev pub or_else : Option (List Pair) → List Pair → List Pair
+or_else None others = others
+or_else (Some own) others = own
+
+-- what is gathered for the pair, where variables stand for themselves alone, or not
+abbrev pub needs_by : (alone : Bool) → List Node → (put : ℕ → Option ℕ) → Pair → List Pair
+needs_by true book put pair = or_else (own_needs book pair) (needs_of book put pair)
+needs_by false book put pair = needs_of book put pair
