@@ -18,8 +18,6 @@ mod reach;
 mod relation;
 mod rename;
 pub mod room;
-#[cfg(test)]
-mod samples;
 pub mod saturate;
 pub mod search;
 pub mod settle;

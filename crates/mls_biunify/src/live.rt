@@ -340,6 +340,3 @@ fn are_goals_of(table: &Table, goals: &[Goal]) -> bool
             && table.is_state(goal.negative, Polarity::Negative)
     })
 }
-
-#[cfg(test)]
-mod tests;

@@ -290,6 +290,3 @@ pub(crate) fn add_flows_to(
     }
     Ok(())
 }
-
-#[cfg(test)]
-mod tests;

@@ -214,6 +214,3 @@ fn add_set(room: &mut Room, positive: usize, negatives: &[usize])
         room.add(positive, *n);
     }
 }
-
-#[cfg(test)]
-mod tests;

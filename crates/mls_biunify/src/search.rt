@@ -307,6 +307,3 @@ fn add_set(found: &mut Pairs, positive: usize, negatives: &[usize]) -> Result<()
     }
     Ok(())
 }
-
-#[cfg(test)]
-mod tests;

@@ -265,6 +265,3 @@ fn make(a: &mut Automaton, change: &Change) -> Result<(), Memory>
     add_flows_to(a, change.state, change.ends.as_slice())?;
     Ok(())
 }
-
-#[cfg(test)]
-mod tests;

@@ -7,5 +7,3 @@ mod pairs;
 pub mod redundant;
 mod standing;
 pub mod table;
-#[cfg(test)]
-mod tests;

@@ -2,12 +2,6 @@
 #![tactic(auto)]
 
 pub mod layout;
-#[cfg(test)]
-mod tests;
-#[cfg(test)]
-mod tests_of_layout;
-#[cfg(test)]
-mod tests_of_types;
 pub mod tree;
 pub mod type_layout;
 pub mod walk;

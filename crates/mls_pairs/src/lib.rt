@@ -9,6 +9,4 @@ pub mod laws;
 pub mod lines;
 mod needs;
 pub mod pairs;
-#[cfg(test)]
-mod tests;
 mod thin;

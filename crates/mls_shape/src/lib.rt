@@ -6,8 +6,6 @@ mod classed;
 mod classes;
 pub mod determinise;
 pub mod drop;
-#[cfg(test)]
-mod edge_tests;
 mod edges;
 mod environment;
 mod graph;
@@ -19,6 +17,4 @@ mod partition;
 mod register;
 pub mod simplify;
 mod states;
-#[cfg(test)]
-mod tests;
 mod upwards;

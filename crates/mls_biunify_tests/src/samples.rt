@@ -2,11 +2,11 @@
 ghost use Rattle.std.specs.Prelude.{IfOk};
 ghost use Rattle.mls_automaton.specs.Models.{IsClosed};
 
-use crate::goal::Goal;
 use mls_automaton::automaton::Automaton;
 use mls_automaton::sample::automaton_of;
 use mls_automaton::state_set::StateId;
 use mls_base::memory::Memory;
+use mls_biunify::goal::Goal;
 use std::alloc::Global;
 use std::process::Abort;
 

@@ -1,9 +1,9 @@
-use super::settle;
-use crate::goal::are_goals;
 use crate::samples::{goals_of, sample};
-use crate::search::{first_clash_of, search};
 use mls_automaton::sample::show_automaton;
 use mls_base::memory::Memory;
+use mls_biunify::goal::are_goals;
+use mls_biunify::search::{first_clash_of, search};
+use mls_biunify::settle::settle;
 use std::alloc::Global;
 use std::process::Abort;
 use std::test::Fail;

@@ -1,11 +1,12 @@
 ghost use Rattle.std.specs.Prelude.{IsSome};
 
-use super::{Live, insert, sample};
-use crate::goal::{Goal, Refusal};
 use crate::samples::{goals_of, sample as automaton};
+use crate::tests_of_live::{insert, sample};
 use mls_automaton::automaton::Polarity;
 use mls_automaton::state_set::{StateId, StateSet};
 use mls_base::memory::Memory;
+use mls_biunify::goal::{Goal, Refusal};
+use mls_biunify::live::Live;
 use std::alloc::Global;
 use std::process::Abort;
 use std::test::Fail;

@@ -1,12 +1,12 @@
 //! Lists of pairs over one small book.
-use crate::laws::justified_is_not_refuted;
-use crate::pairs::pair_list;
 use mls_base::memory::Memory;
 use mls_base::spelling::is_name;
 use mls_book::book::{Book, Field, Fields, Node, NodeId};
 use mls_book::name::Name;
 use mls_deriv::claim::{Pair, Put};
 use mls_deriv::derivation::Mode;
+use mls_pairs::laws::justified_is_not_refuted;
+use mls_pairs::pairs::pair_list;
 use std::alloc::Global;
 use std::test::Fail;
 

@@ -2,15 +2,15 @@
 ghost use Rattle.std.specs.Prelude.{IfOk};
 ghost use Rattle.mls_automaton.specs.Schemes.{IsScheme};
 
-use crate::layout::lay_out;
 use crate::tests_of_layout::{places_of, sample, show_laid};
-use crate::type_layout::lay_out_type;
-use crate::walk::walk_of;
 use mls_automaton::sample::scheme_of;
 use mls_automaton::scheme::Scheme;
 use mls_base::memory::Memory;
 use mls_biunify::search::search;
 use mls_book::book::Book;
+use mls_layout::layout::lay_out;
+use mls_layout::type_layout::lay_out_type;
+use mls_layout::walk::walk_of;
 use std::alloc::Global;
 use std::process::Abort;
 use std::test::Fail;

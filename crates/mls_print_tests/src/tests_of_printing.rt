@@ -1,7 +1,7 @@
 //! The texts of small schemes.
-use crate::print::print_scheme;
 use mls_automaton::sample::scheme_of;
 use mls_base::memory::Memory;
+use mls_print::print::print_scheme;
 use mls_typetext::from_text::read_type;
 use std::alloc::Global;
 use std::process::Abort;

@@ -1,10 +1,10 @@
-use super::{first_clash_of, search};
-use crate::goal::are_goals;
-use crate::room::Room;
 use crate::samples::{goals_of, sample};
-use crate::saturate::saturate;
-use crate::settle::settle;
 use mls_base::memory::Memory;
+use mls_biunify::goal::are_goals;
+use mls_biunify::room::Room;
+use mls_biunify::saturate::saturate;
+use mls_biunify::search::{first_clash_of, search};
+use mls_biunify::settle::settle;
 use std::alloc::Global;
 use std::process::Abort;
 use std::test::Fail;

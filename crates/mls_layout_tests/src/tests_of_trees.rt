@@ -1,8 +1,8 @@
 //! Joins and meets of nodes of a small book.
-use crate::tree::push_tree;
 use mls_automaton::automaton::Polarity;
 use mls_base::memory::Memory;
 use mls_book::book::{Book, Node, NodeId};
+use mls_layout::tree::push_tree;
 use std::alloc::Global;
 use std::test::Fail;
 

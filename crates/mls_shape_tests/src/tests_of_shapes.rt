@@ -3,11 +3,11 @@ ghost use Rattle.std.specs.Prelude.{IfOk};
 ghost use Rattle.mls_automaton.specs.Models.{IsDeterministic};
 ghost use Rattle.mls_automaton.specs.Schemes.{IsScheme};
 
-use crate::determinise::determinise;
-use crate::minimise::minimise;
 use mls_automaton::sample::{scheme_of, show_scheme};
 use mls_automaton::scheme::Scheme;
 use mls_base::memory::Memory;
+use mls_shape::determinise::determinise;
+use mls_shape::minimise::minimise;
 use std::alloc::Global;
 use std::process::Abort;
 use std::test::Fail;

@@ -1,8 +1,8 @@
 //! Small schemes without their redundant edges, and simplified ones.
-use crate::drop::drop_redundant_flows;
-use crate::simplify::simplify;
-use crate::tests::{sample, single};
+use crate::tests_of_shapes::{sample, single};
 use mls_automaton::sample::show_scheme;
+use mls_shape::drop::drop_redundant_flows;
+use mls_shape::simplify::simplify;
 use std::test::Fail;
 
 #[test]

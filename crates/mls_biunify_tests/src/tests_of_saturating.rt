@@ -1,9 +1,9 @@
-use super::saturate;
-use crate::goal::{Clash, are_goals};
-use crate::room::Room;
 use crate::samples::{goals_of, sample};
 use mls_automaton::state_set::StateId;
 use mls_base::memory::Memory;
+use mls_biunify::goal::{Clash, are_goals};
+use mls_biunify::room::Room;
+use mls_biunify::saturate::saturate;
 use std::alloc::Global;
 use std::process::Abort;
 use std::test::Fail;

@@ -1,12 +1,12 @@
 //! Small automata, and which of their states are below which.
-use crate::redundant::irredundant_flows;
-use crate::table::{admissible, admissible_among};
 use mls_automaton::automaton::Polarity::{Negative, Positive};
 use mls_automaton::automaton::{Arms, Automaton, FieldSet, FieldSets, Flow, Head, Polarity};
 use mls_automaton::state_set::{StateId, StateSet};
 use mls_base::memory::Memory;
 use mls_base::spelling::is_name;
 use mls_book::name::Name;
+use mls_flow::redundant::irredundant_flows;
+use mls_flow::table::{admissible, admissible_among};
 use std::alloc::Global;
 use std::process::Abort;
 use std::test::Fail;

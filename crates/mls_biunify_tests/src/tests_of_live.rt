@@ -1,17 +1,17 @@
 ghost use Rattle.std.specs.Prelude.{IsSome};
 
-use super::Live;
-use crate::goal::{ClashKind, Goal, HeadKind, Refusal};
 use mls_automaton::automaton::{Head, Polarity};
 use mls_automaton::sample::show_scheme;
 use mls_automaton::state_set::StateId;
 use mls_base::memory::Memory;
+use mls_biunify::goal::{ClashKind, Goal, HeadKind, Refusal};
+use mls_biunify::live::Live;
 use std::alloc::Global;
 use std::process::Abort;
 use std::test::Fail;
 
 // Adds a state whose head has these two parts.
-fn insert(
+pub(crate) fn insert(
     live: &mut Live,
     polarity: Polarity,
     boolean: bool,
@@ -31,7 +31,7 @@ fn link(rt: &impl Abort, live: &mut Live, n: usize, p: usize) -> Result<(), Memo
 }
 
 // The states `+i - + -` and an edge from the second to the third.
-fn sample(rt: &impl Abort, alloc: Global) -> Result<Live, Memory> {
+pub(crate) fn sample(rt: &impl Abort, alloc: Global) -> Result<Live, Memory> {
     let mut live = Live::new(alloc);
     insert(&mut live, Polarity::Positive, false, true)?;
     insert(&mut live, Polarity::Negative, false, false)?;
@@ -127,5 +127,3 @@ fn tells_the_first_clash(rt: HostRuntime) -> Result<(), Fail> {
     }
     Ok(())
 }
-
-mod copies;

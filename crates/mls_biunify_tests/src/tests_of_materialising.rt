@@ -1,10 +1,10 @@
-use super::materialise;
-use crate::goal::are_goals;
-use crate::room::Room;
 use crate::samples::{goals_of, sample};
-use crate::saturate::saturate;
 use mls_automaton::sample::show_automaton;
 use mls_base::memory::Memory;
+use mls_biunify::goal::are_goals;
+use mls_biunify::materialise::materialise;
+use mls_biunify::room::Room;
+use mls_biunify::saturate::saturate;
 use std::alloc::Global;
 use std::process::Abort;
 use std::test::Fail;

@@ -4,8 +4,6 @@
 ghost use Rattle.std.specs.Prelude.{IfOk};
 ghost use Rattle.mls_automaton.specs.Models.{IsClosed};
 
-use crate::layout::{Places, lay_out};
-use crate::tree::NodeIds;
 use mls_automaton::automaton::Automaton;
 use mls_automaton::sample::automaton_of;
 use mls_automaton::state_set::StateId;
@@ -13,6 +11,8 @@ use mls_base::memory::Memory;
 use mls_biunify::goal::{Goal, are_goals};
 use mls_biunify::search::search;
 use mls_book::book::{Book, Fields, Node, NodeId};
+use mls_layout::layout::{Places, lay_out};
+use mls_layout::tree::NodeIds;
 use mls_subsume::verdict::StatePair;
 use std::alloc::Global;
 use std::process::Abort;

@@ -1,0 +1,5 @@
+//! Tests of reading modules, over public calls alone.
+#![tactic(auto)]
+
+#[cfg(test)]
+mod tests_of_parsing;
