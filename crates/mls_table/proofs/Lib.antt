@@ -1,0 +1,5 @@
+pub mod MetParts
+pub mod RegionSteps
+pub mod Regions
+pub mod StandingParts
+pub mod TableSolutions
