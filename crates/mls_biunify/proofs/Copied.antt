@@ -1,20 +1,16 @@
 -- A table as an automaton with the same numbers.
-use Rattle.std.proofs.Common.{◌≡◌, ◌↔◌, inl, inr, ℕ, ◌+◌, ◌<◌, ◌≤◌, ◌∙◌, true, false, List, [], ◌∷◌, take, All, Contains, get_or, length, length-append, Some, refl, sym, ap, subst, arith}
+use Rattle.std.proofs.Common.{◌≡◌, ◌↔◌, inl, inr, ℕ, ◌+◌, ◌<◌, ◌≤◌, ◌∙◌, List, [], ◌∷◌, All, Contains, get_or, length, length-append, Some, refl, sym, ap, subst, arith}
 use Rattle.std.proofs.lemmas.Bool.{cases_lt}
-use Rattle.std.proofs.lemmas.List.{get_or_past, get_or_push, get_or-take, length-take-le}
-use Rattle.std.proofs.lemmas.List.Elements.{All-from_get_or, All-contains}
+use Rattle.std.proofs.lemmas.List.{get_or_past, get_or_push}
+use Rattle.std.proofs.lemmas.List.Elements.{All-contains}
 use Rattle.mls_automaton.specs.declared.automaton.Polarity.{Polarity}
 use Rattle.mls_automaton.specs.declared.automaton.Polarity.TheVariants.{Positive, Negative}
 use Rattle.mls_automaton.specs.declared.automaton.Flow.{Flow}
-use Rattle.mls_automaton.specs.declared.automaton.Head.{Head}
 use Rattle.mls_automaton.specs.declared.automaton.State.{State}
 use Rattle.mls_automaton.specs.declared.scheme.EnvEntry.{EnvEntry}
-use Rattle.mls_automaton.specs.declared.scheme.Scheme.{Scheme}
 use Rattle.mls_automaton.specs.Automata.{Automaton, HasFlow, IsState, empty_head, flow, head_at, polarity_at, state_at, with_state}
 use Rattle.mls_automaton.specs.Models.{IsClosed, HasRisingLabels, HasStatesIn}
-use Rattle.mls_automaton.specs.Environments.{BindersRise}
-use Rattle.mls_automaton.proofs.Reaching.{found-entry, named-in}
-use Rattle.mls_automaton.specs.Reached.{HeadNames, IsReached, KeepsReached, root, binder, named}
+use Rattle.mls_automaton.proofs.Reaching.{found-entry}
 use Rattle.mls_automaton.specs.Schemes.{IsScheme, state_of}
 use Rattle.mls_automaton.proofs.IndexedFlows.{state_at-more}
 use Rattle.mls_automaton.proofs.Passing.{states_more}
@@ -81,8 +77,7 @@ copied-is t is mid a it e flows = record {
   size = ap (λ (xs : List State). length xs) e ∙ it.size;
 }
 
--- the scheme over the copy, and over the table
-module _ (t : Numbered) (is : IsNumbered t) (a : Automaton) (copy : IsCopy t a) (r : ℕ) (env : List EnvEntry) (is_root : IsStateIn t.automaton t.there Positive r) (is_env : All (λ (entry : EnvEntry). IsStateIn t.automaton t.there Negative entry.state.0) env) where
+module _ (t : Numbered) (is : IsNumbered t) (a : Automaton) (copy : IsCopy t a) where
   same_head : (s : ℕ) → head_at a s ≡ head_at t.automaton s
   same_head s = ap (λ (x : State). x.head) (copy.states s)
 
@@ -92,10 +87,7 @@ module _ (t : Numbered) (is : IsNumbered t) (a : Automaton) (copy : IsCopy t a) 
   in_copy : (p : Polarity) (s : ℕ) → IsStateIn t.automaton t.there p s → IsState a p s
   in_copy p s it = record { in_range = subst (λ n. s < n) (sym copy.size) (is.low s it.there); polarity = same_sign s ∙ it.polarity }
 
-  in_table : (p : Polarity) (s : ℕ) → IsStateIn t.automaton t.there p s → IsState t.automaton p s
-  in_table p s it = record { in_range = is.is.in_range s it.there; polarity = it.polarity }
-
-  copy_closed : IsClosed a
+  pub copy_closed : IsClosed a
   copy_closed = record {
     heads = λ s.
         subst (λ (x : State). HasStatesIn (IsState a) x.polarity x.head) (sym (copy.states s))
@@ -105,53 +97,18 @@ module _ (t : Numbered) (is : IsNumbered t) (a : Automaton) (copy : IsCopy t a) 
     positive = λ f it. in_copy Positive f.positive.0 (is.is.positive f.negative.0 f.positive.0 ((copy.flows f.negative.0 f.positive.0).0 it));
   }
 
+-- the scheme over a table
+module _ (t : Numbered) (is : IsNumbered t) (r : ℕ) (env : List EnvEntry) (is_root : IsStateIn t.automaton t.there Positive r) (is_env : All (λ (entry : EnvEntry). IsStateIn t.automaton t.there Negative entry.state.0) env) where
+  in_table : (p : Polarity) (s : ℕ) → IsStateIn t.automaton t.there p s → IsState t.automaton p s
+  in_table p s it = record { in_range = is.is.in_range s it.there; polarity = it.polarity }
+
   binder_there : (x n : ℕ) → state_of env x ≡ Some n → IsStateIn t.automaton t.there Negative n
   binder_there x n e =
       let found = found-entry env x n e in
       subst (IsStateIn t.automaton t.there Negative) found.3 (All-contains (λ (entry : EnvEntry). IsStateIn t.automaton t.there Negative entry.state.0) env found.0 is_env found.1)
 
-  pub copy_scheme : IsScheme (scheme_over a r env)
-  copy_scheme = record { automaton = copy_closed; root = in_copy Positive r is_root; env = λ x n e. in_copy Negative n (binder_there x n e) }
-
   pub table_scheme : IsScheme (scheme_over t.automaton r env)
   table_scheme = record { automaton = table-closed t.automaton t.there is.is; root = in_table Positive r is_root; env = λ x n e. in_table Negative n (binder_there x n e) }
-
-  to_table : (j : ℕ) → IsReached (scheme_over a r env) j → IsReached (scheme_over t.automaton r env) j
-  to_table j (root e) = root e
-  to_table j (binder x e) = binder x e
-  to_table j (named {i = i} it names) = named (to_table i it) (subst (λ (h : Head). HeadNames h j) (same_head i) names)
-
-  from_table : (j : ℕ) → IsReached (scheme_over t.automaton r env) j → IsReached (scheme_over a r env) j
-  from_table j (root e) = root e
-  from_table j (binder x e) = binder x e
-  from_table j (named {i = i} it names) = named (from_table i it) (subst (λ (h : Head). HeadNames h j) (sym (same_head i)) names)
-
-  -- what is reached is there
-  reached_there : (j : ℕ) → IsReached (scheme_over t.automaton r env) j → get_or t.there j false ≡ true
-  reached_there j (root e) = subst (λ k. get_or t.there k false ≡ true) e is_root.there
-  reached_there j (binder x e) = (binder_there x j e).there
-  reached_there j (named {i = i} it names) =
-      named-in (λ k. get_or t.there k false ≡ true) (polarity_at t.automaton i) (head_at t.automaton i)
-      (states_more (IsStateIn t.automaton t.there) (λ p k. get_or t.there k false ≡ true) (λ p k state. state.there) (polarity_at t.automaton i) (head_at t.automaton i) (is.is.heads i)) j names
-
-  pub keeps_table : (kept : Scheme) → KeepsReached kept (scheme_over a r env) → KeepsReached kept (scheme_over t.automaton r env)
-  keeps_table kept it = record {
-    place = it.place;
-    embedded = record {
-      automaton = record {
-        in_range = λ s low. is.is.in_range (it.place s) (reached_there (it.place s) (to_table (it.place s) ((it.all (it.place s)).1 (s, low, refl))));
-        distinct = it.embedded.automaton.distinct;
-        polarity = λ s low. sym (same_sign (it.place s)) ∙ it.embedded.automaton.polarity s low;
-        head = λ s low. sym (same_head (it.place s)) ∙ it.embedded.automaton.head s low;
-        flows = λ f edge. (copy.flows (it.place f.negative.0) (it.place f.positive.0)).0 (it.embedded.automaton.flows f edge);
-        no_more_flows = λ n p low also edge. it.embedded.automaton.no_more_flows n p low also ((copy.flows (it.place n) (it.place p)).1 edge);
-      };
-      root = it.embedded.root;
-      env = it.embedded.env;
-    };
-    rising = it.rising;
-    all = λ j. (λ reached. (it.all j).0 (from_table j reached), λ place. to_table j ((it.all j).1 place));
-  }
 
 -- the edges from one number after another
 pub flows-more : (t : Numbered) (n : ℕ) (old new : Automaton) → ((x : ℕ × ℕ) → HasFlow old x.0 x.1 ↔ ((x.0 < n) × HasFlow t.automaton x.0 x.1)) → CopiesFlows t n old new → (x : ℕ × ℕ) → HasFlow new x.0 x.1 ↔ ((x.0 < n + 1) × HasFlow t.automaton x.0 x.1)
@@ -195,16 +152,6 @@ flows-none t is n a not_negative = record {
     λ both. elim both [ inl before ↦ before | inr here ↦ absurd (not_negative (is.is.negative n x.1 here.1)) ],
   );
 }
-
--- the binder of the next entry is above those before
-pub next_binder : (env : List EnvEntry) (i : ℕ) (d : EnvEntry) → BindersRise env → i < length env → (copy : List EnvEntry) → copy ≡ take i env → All (λ (other : EnvEntry). other.binder < (get_or env i d).binder) copy
-next_binder env i d rise low copy e =
-    subst (All (λ (other : EnvEntry). other.binder < (get_or env i d).binder)) (sym e)
-    (All-from_get_or (λ (other : EnvEntry). other.binder < (get_or env i d).binder) (take i env) d
-    (λ k less.
-    let few : length (take i env) ≡ i = length-take-le i env (omega arith) in
-    let below : k < i = omega arith in
-    subst (λ (x : EnvEntry). x.binder < (get_or env i d).binder) (sym (get_or-take i env k d below)) (rise k i d below low)))
 
 pub copied-to : (t : Numbered) (count : ℕ) (a : Automaton) → AreCopiedStates t count a → count ≡ t.limit → AreCopiedStates t t.limit a
 copied-to t count a it e = subst (λ n. AreCopiedStates t n a) e it

@@ -1,73 +1,62 @@
 -- States that nothing reaches are taken out.
-use Rattle.std.proofs.Common.{◌≡◌, ◌↔◌, ◌⊎◌, inl, inr, ℕ, ◌+◌, ◌<◌, ◌≤◌, Bool, true, false, List, [], ◌∷◌, ◌++◌, take, All, Contains, get_or, length, refl, sym, ap, ◌∙◌, subst, arith}
+use Rattle.std.proofs.Common.{◌≡◌, ◌↔◌, ◌⊎◌, inl, inr, ℕ, ◌+◌, ◌<◌, true, false, List, [], ◌∷◌, ◌++◌, take, All, Contains, get_or, length, refl, sym, ap, ◌∙◌, subst, arith}
 use Rattle.std.proofs.lemmas.Bool.{cases_eq}
-use Rattle.std.proofs.lemmas.List.Elements.{Contains-append_cases, Contains-append_left, Contains-append_right}
+use Rattle.std.proofs.lemmas.List.Elements.{All-contains, Contains-append_cases, Contains-append_left, Contains-append_right}
 use Rattle.mls_automaton.specs.declared.automaton.Flow.{Flow}
 use Rattle.mls_automaton.specs.declared.automaton.State.{State}
 use Rattle.mls_automaton.specs.declared.state_set.StateId.{StateId}
 use Rattle.mls_automaton.specs.Automata.{HasFlow, empty_head, flow, head_at, state_at}
-use Rattle.mls_automaton.specs.Reached.{HeadNames}
-use Rattle.mls_automaton.proofs.Lists.{All-contained, Contains-here, Contains-cases}
+use Rattle.mls_automaton.specs.Reached.{HeadNames, Names}
+use Rattle.mls_automaton.proofs.Lists.{All-contained, Contains-cases, Contains-here}
 use Rattle.mls_biunify.specs.Live.{IsReachedFrom, named as by-name}
-use Rattle.mls_biunify.specs.steps.Absorbing.{AreDistinct, AreLoose, RemovesStates}
-use Rattle.mls_biunify.specs.steps.Keeping.{AreReached, EmptiesHeads, IsEdgeAtOne, IsUnmarked, KeepsReached}
+use Rattle.mls_biunify.specs.steps.Absorbing.{AreLoose, RemovesStates}
+use Rattle.mls_biunify.specs.steps.Keeping.{EmptiesHeads, IsEdgeAtOne, IsUnfound, KeepsStates, StaysAmong}
+use Rattle.mls_biunify.specs.steps.Numbers.{ByOne}
 use Rattle.mls_biunify.specs.steps.Settlement.{GivenBy, Unlinks}
 use Rattle.mls_biunify.specs.steps.Tables.{IsNumbered, Numbered, SetsHead}
-use Rattle.mls_biunify.proofs.Claiming.{distinct-more}
+use Rattle.mls_biunify.proofs.Claiming.{names-there}
 use Rattle.mls_biunify.proofs.Collected.{Collected}
 use Rattle.mls_biunify.proofs.Filling.{same-states}
+use Rattle.mls_biunify.proofs.FoundStates.{among-or_not}
 use Rattle.mls_biunify.proofs.Relating.{taken-before, taken-last, taken-cases}
-use Rattle.mls_biunify.proofs.Removals.{empty-names_none}
+use Rattle.mls_biunify.proofs.Removals.{empty-names_none, free-names_none}
 use Rattle.mls_biunify.proofs.TableSteps.{there-or_not}
 use Rattle.mls_biunify.proofs.Walking.{AreThere, reached-there}
 
--- the states without a mark below a number
-pub record AreGathered (t : Numbered) (marks : List Bool) (count : ℕ) (gone : List ℕ) : Type 0 where
-  pub members : (s : ℕ) → Contains gone s ↔ ((s < count) × IsUnmarked t marks s)
-  pub distinct : AreDistinct gone
-
-pub gathered-none : (t : Numbered) (marks : List Bool) (gone : List ℕ) → gone ≡ [] → AreGathered t marks 0 gone
-gathered-none t marks gone e = subst (AreGathered t marks 0) (sym e) (record {
-  members = λ s. (λ it. let low : it.0 < 0 = it.1 in absurd (omega arith), λ it. let low : s < 0 = it.0 in absurd (omega arith));
-  distinct = λ i j less low. absurd (omega arith);
-})
-
-module _ (t : Numbered) (marks : List Bool) (s : ℕ) (gone : List ℕ) (so_far : AreGathered t marks s gone) where
-  pub gathered-more : (more : List ℕ) → more ≡ gone ++ s ∷ [] → IsUnmarked t marks s → AreGathered t marks (s + 1) more
-  gathered-more more e here = subst (AreGathered t marks (s + 1)) (sym e) (record {
-    members = λ j. (
-      λ it. elim (Contains-append_cases gone (s ∷ []) j it) [
-        | inl before ↦ let less : j < s = ((so_far.members j).0 before).0 in (omega arith, ((so_far.members j).0 before).1)
-        | inr last ↦ elim (Contains-cases s [] j last) [
-          | inl same ↦ ((let e : s ≡ j = same in omega arith), subst (IsUnmarked t marks) same here)
-          | inr none ↦ let low : none.0 < 0 = none.1 in absurd (omega arith)
-        ]
-      ],
-      λ it. elim (cases_eq j s) [
-        | inl same ↦ Contains-append_right gone (s ∷ []) j (subst (Contains (s ∷ [])) (sym same) (Contains-here s []))
-        | inr other ↦ Contains-append_left gone (s ∷ []) j ((so_far.members j).1 ((let less : j < s + 1 = it.0 in omega arith), it.1))
-      ],
-    );
-    distinct = distinct-more gone s so_far.distinct (λ it. let less : s < s = ((so_far.members s).0 it).0 in omega arith);
-  })
-
-  pub gathered-same : (IsUnmarked t marks s → ⊥) → AreGathered t marks (s + 1) gone
-  gathered-same none = record {
-    members = λ j. (
-      λ it. let less : j < s = ((so_far.members j).0 it).0 in (omega arith, ((so_far.members j).0 it).1),
-      λ it. elim (cases_eq j s) [
-        | inl same ↦ absurd (none (subst (IsUnmarked t marks) same it.1))
-        | inr other ↦ (so_far.members j).1 ((let less : j < s + 1 = it.0 in omega arith), it.1)
-      ],
-    );
-    distinct = so_far.distinct;
-  }
-
-pub gathered-all : (t : Numbered) → IsNumbered t → (marks : List Bool) (count : ℕ) (gone : List ℕ) → t.limit ≤ count → AreGathered t marks count gone → (s : ℕ) → Contains gone s ↔ IsUnmarked t marks s
-gathered-all t is marks count gone high it s = (
-  λ one. ((it.members s).0 one).1,
-  λ one. (it.members s).1 ((let low : s < t.limit = is.low s one.0 in omega arith), one),
+-- one more number in a list
+pub pushed-one : (old new : List ℕ) (s : ℕ) → new ≡ old ++ s ∷ [] → (j : ℕ) → Contains new j ↔ (j ≡ s) ⊎ Contains old j
+pushed-one old new s is j = (
+  λ it. elim (Contains-append_cases old (s ∷ []) j (subst (λ (xs : List ℕ). Contains xs j) is it)) [
+    | inl before ↦ inr before
+    | inr last ↦ inl (only j last)
+  ],
+  λ it. subst (λ (xs : List ℕ). Contains xs j) (sym is) (elim it [
+    | inl same ↦ subst (Contains (old ++ s ∷ [])) (sym same) (Contains-append_right old (s ∷ []) s (Contains-here s []))
+    | inr before ↦ Contains-append_left old (s ∷ []) j before
+  ]),
 )
+  where
+    only : (j : ℕ) → Contains (s ∷ []) j → j ≡ s
+    only j last = elim (Contains-cases s [] j last) [ inl same ↦ sym same | inr later ↦ absurd (let low : later.0 < 0 = later.1 in omega arith) ]
+
+-- a number that was found, and one that was not
+pub unfound-none : (old found : List ℕ) (s : ℕ) → Contains found s → (j : ℕ) → Contains old j ↔ (Contains old j ⊎ ((j ≡ s) × (Contains found j → ⊥)))
+unfound-none old found s was j = (λ it. inl it, λ it. elim it [ inl before ↦ before | inr one ↦ absurd (one.1 (subst (Contains found) (sym one.0) was)) ])
+
+pub unfound-more : (old new found : List ℕ) (s : ℕ) → (Contains found s → ⊥) → ((j : ℕ) → Contains new j ↔ (j ≡ s) ⊎ Contains old j) → (j : ℕ) → Contains new j ↔ (Contains old j ⊎ ((j ≡ s) × (Contains found j → ⊥)))
+unfound-more old new found s none more j = (
+  λ it. elim ((more j).0 it) [ inl same ↦ inr (same, λ was. none (subst (Contains found) same was)) | inr before ↦ inl before ],
+  λ it. (more j).1 (elim it [ inl before ↦ inr before | inr one ↦ inl one.0 ]),
+)
+
+pub unfound-all : (states found gone list : List ℕ) → list ≡ gone → ((j : ℕ) → Contains gone j ↔ Contains [] j ⊎ ByOne states (λ s k. (k ≡ s) × (Contains found k → ⊥)) j) → (j : ℕ) → Contains list j ↔ IsUnfound states found j
+unfound-all states found gone list same it = rw same (λ j. (
+  λ there. elim ((it j).0 there) [
+    | inl none ↦ let low : none.0 < 0 = none.1 in absurd (omega arith)
+    | inr by ↦ (subst (Contains states) (sym by.2.0) by.1, by.2.1)
+  ],
+  λ one. (it j).1 (inr (j, one.0, (refl, one.1))),
+))
 
 -- the heads of the first of these states are gone
 pub emptied-none : (t : Numbered) (states : List ℕ) → EmptiesHeads t (take 0 states) t
@@ -135,28 +124,12 @@ at-all t states edges it x = (
   λ one. (it x).1 (inr (elim one.1 [ inl begins ↦ (x.0, begins, (one.0, inl refl)) | inr ends ↦ (x.1, ends, (one.0, inr refl)) ])),
 )
 
--- the walk, and what is done behind it
-module _ (t : Numbered) (is : IsNumbered t) (roots : List StateId) (there : AreThere t roots) (marks : List Bool) (reached : AreReached t roots marks) (gone : List ℕ) (gathered : (s : ℕ) → Contains gone s ↔ IsUnmarked t marks s) where
-  not-reached : (s : ℕ) → Contains gone s → IsReachedFrom t.automaton roots s → ⊥
-  not-reached s it found =
-      let mark : get_or marks s false ≡ true = (reached s).1 found in
-      let none : get_or marks s false ≡ false = ((gathered s).0 it).1 in
-      let wrong : true ≡ false = sym mark ∙ none in
-      cc
+-- the edges at states that are there, and what is done with them
+module _ (t : Numbered) (is : IsNumbered t) (gone : List ℕ) (edges : List (ℕ × ℕ)) (just : (x : ℕ × ℕ) → Contains edges x ↔ IsEdgeAtOne t gone x) where
+  pub edges-there : (n p : ℕ) → Contains edges (n, p) → (get_or t.there n false ≡ true) × (get_or t.there p false ≡ true)
+  edges-there n p it = let edge = ((just (n, p)).0 it).0 in ((is.is.negative n p edge).there, (is.is.positive n p edge).there)
 
-  reached-or_gone : (s : ℕ) → get_or t.there s false ≡ true → IsReachedFrom t.automaton roots s ⊎ Contains gone s
-  reached-or_gone s here = elim (there-or_not marks s) [
-    | inl mark ↦ inl ((reached s).0 mark)
-    | inr none ↦ inr ((gathered s).1 (here, none))
-  ]
-
-  pub gone-there : All (λ s. get_or t.there s false ≡ true) gone
-  gone-there = All-contained (λ s. get_or t.there s false ≡ true) gone (λ s it. ((gathered s).0 it).0)
-
-  pub edges-there : (edges : List (ℕ × ℕ)) → ((x : ℕ × ℕ) → Contains edges x ↔ IsEdgeAtOne t gone x) → (n p : ℕ) → Contains edges (n, p) → (get_or t.there n false ≡ true) × (get_or t.there p false ≡ true)
-  edges-there edges just n p it = let edge = ((just (n, p)).0 it).0 in ((is.is.negative n p edge).there, (is.is.positive n p edge).there)
-
-  module _ (edges : List (ℕ × ℕ)) (just : (x : ℕ × ℕ) → Contains edges x ↔ IsEdgeAtOne t gone x) (unlinked emptied : Numbered) (unlinks : Unlinks t edges unlinked) (empties : EmptiesHeads unlinked gone emptied) where
+  module _ (here : (s : ℕ) → Contains gone s → get_or t.there s false ≡ true) (closed : (j s : ℕ) → Names t.automaton j s → Contains gone s → Contains gone j) (unlinked emptied : Numbered) (unlinks : Unlinks t edges unlinked) (empties : EmptiesHeads unlinked gone emptied) where
     same-there : emptied.there ≡ t.there
     same-there = empties.there ∙ unlinks.there
 
@@ -169,14 +142,11 @@ module _ (t : Numbered) (is : IsNumbered t) (roots : List StateId) (there : AreT
     -- no head names a state that goes, and no edge ends at one
     pub gone-loose : AreLoose emptied gone
     gone-loose = record {
-      there = λ s it. ap (λ bits. get_or bits s false) same-there ∙ ((gathered s).0 it).0;
-      unnamed = λ j s here it names.
-          let was : get_or t.there j false ≡ true = sym (ap (λ bits. get_or bits j false) same-there) ∙ here in
-          elim (reached-or_gone j was) [
-            | inl found ↦
-                not-reached s it
-                (by-name found (subst (λ (state : State). HeadNames state.head s) (same-state j (λ goes. not-reached j goes found)) names))
-            | inr goes ↦ empty-names_none (head_at emptied.automaton j) s (empties.empty j goes) names
+      there = λ s it. ap (λ bits. get_or bits s false) same-there ∙ here s it;
+      unnamed = λ j s _ it names.
+          elim (among-or_not gone j) [
+            | inl goes ↦ empty-names_none (head_at emptied.automaton j) s (empties.empty j goes) names
+            | inr stays ↦ stays (closed j s (subst (λ (state : State). HeadNames state.head s) (same-state j stays) names) it)
           ];
       unlinked = λ n p edge.
           let left = left-edge n p edge in (
@@ -185,29 +155,70 @@ module _ (t : Numbered) (is : IsNumbered t) (roots : List StateId) (there : AreT
           );
     }
 
-    pub keeps-reached : (new : Numbered) → RemovesStates emptied gone new → KeepsReached t roots new
-    keeps-reached new removes = record {
+    -- just what is there and does not go stays
+    pub keeps-rest : (new : Numbered) → RemovesStates emptied gone new → (IsKept : ℕ → Type 0) → ((s : ℕ) → IsKept s ↔ (get_or t.there s false ≡ true) × (Contains gone s → ⊥)) → KeepsStates t IsKept new
+    keeps-rest new removes IsKept kept = record {
       there = λ s. (
-        λ here.
-            let both = (removes.there s).0 here in
-            let was : get_or t.there s false ≡ true = sym (ap (λ bits. get_or bits s false) same-there) ∙ both.0 in
-            elim (reached-or_gone s was) [ inl found ↦ found | inr goes ↦ absurd (both.1 goes) ],
-        λ found. (removes.there s).1 (ap (λ bits. get_or bits s false) same-there ∙ reached-there t is roots there s found, λ goes. not-reached s goes found),
+        λ it. let both = (removes.there s).0 it in (kept s).1 (sym (ap (λ bits. get_or bits s false) same-there) ∙ both.0, both.1),
+        λ it. let both = (kept s).0 it in (removes.there s).1 (ap (λ bits. get_or bits s false) same-there ∙ both.0, both.1),
       );
-      states = λ s found. let stays = λ (goes : Contains gone s). not-reached s goes found in removes.others s stays ∙ same-state s stays;
+      states = λ s it. let stays = ((kept s).0 it).1 in removes.others s stays ∙ same-state s stays;
       flows = λ n p. (
         λ edge.
             let left = left-edge n p (subst (λ (flows : List Flow). Contains flows (flow n p)) removes.flows edge) in (
               left.0,
-              end-reached n (is.is.negative n p left.0).there (λ it. left.1 ((just (n, p)).1 (left.0, inl it))),
-              end-reached p (is.is.positive n p left.0).there (λ it. left.1 ((just (n, p)).1 (left.0, inr it))),
+              (kept n).1 ((is.is.negative n p left.0).there, λ it. left.1 ((just (n, p)).1 (left.0, inl it))),
+              (kept p).1 ((is.is.positive n p left.0).there, λ it. left.1 ((just (n, p)).1 (left.0, inr it))),
             ),
         λ it.
             subst (λ (flows : List Flow). Contains flows (flow n p)) (sym removes.flows)
             (subst (λ (flows : List Flow). Contains flows (flow n p)) (sym empties.flows)
-            ((unlinks.flows n p).1 (it.0, λ one. elim ((just (n, p)).0 one).1 [ inl begins ↦ not-reached n begins it.1 | inr ends ↦ not-reached p ends it.2 ]))),
+            ((unlinks.flows n p).1 (it.0, λ one. elim ((just (n, p)).0 one).1 [ inl begins ↦ ((kept n).0 it.1).1 begins | inr ends ↦ ((kept p).0 it.2).1 ends ]))),
       );
     }
-      where
-        end-reached : (s : ℕ) → get_or t.there s false ≡ true → (Contains gone s → ⊥) → IsReachedFrom t.automaton roots s
-        end-reached s here stays = elim (reached-or_gone s here) [ inl found ↦ found | inr goes ↦ absurd (stays goes) ]
+
+-- those of some states that were not found
+module _ (t : Numbered) (states : List ℕ) (all : All (λ s. get_or t.there s false ≡ true) states) (roots : List StateId) (heads : (s j : ℕ) → Names t.automaton s j → Contains states s ↔ Contains states j) (found : List ℕ) (reached : (s : ℕ) → Contains found s ↔ IsReachedFrom t.automaton roots s) (gone : List ℕ) (unfound : (s : ℕ) → Contains gone s ↔ IsUnfound states found s) where
+  pub unfound-here : (s : ℕ) → Contains gone s → get_or t.there s false ≡ true
+  unfound-here s it = All-contains (λ s. get_or t.there s false ≡ true) states s all ((unfound s).0 it).0
+
+  pub unfound-there : All (λ s. get_or t.there s false ≡ true) gone
+  unfound-there = All-contained (λ s. get_or t.there s false ≡ true) gone unfound-here
+
+  pub unfound-closed : (j s : ℕ) → Names t.automaton j s → Contains gone s → Contains gone j
+  unfound-closed j s names it =
+      let one = (unfound s).0 it in
+      (unfound j).1 ((heads j s names).1 one.0, λ was. one.1 ((reached s).1 (by-name ((reached j).0 was) names)))
+
+  pub unfound-stays : (s : ℕ) → StaysAmong t states roots s ↔ (get_or t.there s false ≡ true) × (Contains gone s → ⊥)
+  unfound-stays s = (
+    λ it. (it.0, λ goes. let one = (unfound s).0 goes in elim it.1 [ inl was ↦ one.1 ((reached s).1 was) | inr other ↦ other one.0 ]),
+    λ it. (it.0, elim (among-or_not found s) [ inl was ↦ inl ((reached s).0 was) | inr none ↦ inr (λ among. it.1 ((unfound s).1 (among, none))) ]),
+  )
+
+-- where the states are all that are there
+module _ (t : Numbered) (is : IsNumbered t) (all list : List ℕ) (same : list ≡ all) (members : (s : ℕ) → Contains all s ↔ (get_or t.there s false ≡ true)) where
+  pub all-there : All (λ s. get_or t.there s false ≡ true) list
+  all-there = rw same (All-contained (λ s. get_or t.there s false ≡ true) all (λ s. (members s).0))
+
+  pub all-heads : (s j : ℕ) → Names t.automaton s j → Contains list s ↔ Contains list j
+  all-heads = rw same (λ s j names. (
+    λ _. (members j).1 (names-there t is s j names),
+    λ _. (members s).1 (elim (there-or_not t.there s) [ inl there ↦ there | inr free ↦ absurd (free-names_none t is s j free names) ]),
+  ))
+
+  pub all-kept : (roots : List StateId) → AreThere t roots → (new : Numbered) → KeepsStates t (StaysAmong t list roots) new → KeepsStates t (IsReachedFrom t.automaton roots) new
+  all-kept roots there new it = record {
+    there = λ s. (λ here. to s ((it.there s).0 here), λ reached. (it.there s).1 (from s reached));
+    states = λ s reached. it.states s (from s reached);
+    flows = λ n p. (
+      λ edge. let both = (it.flows n p).0 edge in (both.0, to n both.1, to p both.2),
+      λ both. (it.flows n p).1 (both.0, from n both.1, from p both.2),
+    );
+  }
+    where
+      to : (s : ℕ) → StaysAmong t list roots s → IsReachedFrom t.automaton roots s
+      to s stays = elim stays.1 [ inl reached ↦ reached | inr other ↦ absurd (other (subst (λ (xs : List ℕ). Contains xs s) (sym same) ((members s).1 stays.0))) ]
+
+      from : (s : ℕ) → IsReachedFrom t.automaton roots s → StaysAmong t list roots s
+      from s reached = (reached-there t is roots there s reached, inl reached)

@@ -52,6 +52,9 @@ pub mod Polarities
 pub mod Removals
 pub mod Claiming
 pub mod Filling
+pub mod Regions
+pub mod PlacedStates
+pub mod FoundStates
 pub mod Walking
 pub mod KeptTables
 pub mod LiveStates

@@ -4,7 +4,6 @@ use Rattle.std.proofs.lemmas.List.Elements.{All-weaker}
 use Rattle.mls_automaton.specs.declared.automaton.Polarity.{Polarity}
 use Rattle.mls_automaton.specs.declared.automaton.Polarity.TheVariants.{Positive, Negative}
 use Rattle.mls_automaton.specs.declared.automaton.State.{State}
-use Rattle.mls_automaton.specs.declared.state_set.StateId.{StateId}
 use Rattle.mls_automaton.specs.Automata.{Automaton, HasFlow, IsState, flow}
 use Rattle.mls_automaton.specs.Sets.{Rises}
 use Rattle.mls_biunify.specs.declared.goal.Goal.{Goal}
@@ -13,14 +12,14 @@ use Rattle.mls_biunify.specs.declared.goal.Refusal.{Refusal}
 use Rattle.mls_biunify.specs.declared.goal.Refusal.TheVariants.{Clashing}
 use Rattle.mls_automaton.specs.Models.{IsClosed}
 use Rattle.mls_automaton.proofs.Lists.{All-contained}
-use Rattle.mls_biunify.specs.Live.{AddsStates, AreRelated, free_state, number_of, pairs_of, room_of_pairs, HasRelation, Inserts, IsCopyAt, IsReachedFrom, IsRefusalOf, IsSameLive, IsSolvedFor, IsStateIn, IsTable, KeepsThere, Live}
+use Rattle.mls_biunify.specs.Live.{AddsStates, AreRelated, free_state, number_of, pairs_of, room_of_pairs, HasRelation, Inserts, IsCopyAt, IsRefusalOf, IsSameLive, IsSolvedFor, IsStateIn, IsTable, KeepsThere, Live}
 use Rattle.mls_biunify.specs.Relations.{IsGoal, IsGoalOf, IsRelated}
 use Rattle.mls_biunify.specs.Clashes.{HasNoClash, IsFirstClash}
 use Rattle.mls_biunify.specs.Rooms.{Room, Holds, HoldsJust}
 use Rattle.mls_biunify.specs.Solutions.{HasInstancesUnder}
 use Rattle.mls_biunify.specs.Solved.{IsSolved}
 use Rattle.mls_biunify.specs.steps.Absorbing.{AddsCopy, IsSameTable}
-use Rattle.mls_biunify.specs.steps.Keeping.{KeepsReached}
+use Rattle.mls_biunify.specs.steps.Keeping.{KeepsStates}
 use Rattle.mls_biunify.specs.steps.Settlement.{AddsEdges, AreNewEdges, IsTouched}
 use Rattle.mls_biunify.specs.steps.LiveParts.{live_of}
 use Rattle.mls_biunify.specs.steps.Tables.{HoldsThere, InsertsState, IsNumbered, Numbered}
@@ -198,9 +197,9 @@ same-table-live old new room solved ready it = record {
   ready = refl;
 }
 
--- only what is reached stays
-pub kept-live : (old new : Numbered) (roots : List StateId) (room : Room) (solved ready : Bool) → KeepsReached old roots new → KeepsThere (live_of (record { table = old; relation = room; is_solved = solved; is_ready = ready })) (live_of (record { table = new; relation = room; is_solved = false; is_ready = false })) (IsReachedFrom old.automaton roots)
-kept-live old new roots room solved ready it = record {
+-- only states of a kind stay
+pub kept-live : (old new : Numbered) (IsKept : ℕ → Type 0) (room : Room) (solved ready : Bool) → KeepsStates old IsKept new → KeepsThere (live_of (record { table = old; relation = room; is_solved = solved; is_ready = ready })) (live_of (record { table = new; relation = room; is_solved = false; is_ready = false })) IsKept
+kept-live old new IsKept room solved ready it = record {
   there = it.there;
   states = it.states;
   flows = it.flows;

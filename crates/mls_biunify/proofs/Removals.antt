@@ -1,5 +1,5 @@
 -- States that go one after another.
-use Rattle.std.proofs.Common.{◌≡◌, ◌≢◌, inl, inr, ℕ, suc, ◌+◌, ◌<◌, true, false, List, [], ◌∷◌, ◌++◌, Contains, get_or, length, length-append, append_assoc, append-nil, refl, sym, ap, ◌∙◌, subst, arith}
+use Rattle.std.proofs.Common.{◌≡◌, ◌≢◌, inl, inr, ℕ, ◌+◌, ◌<◌, false, List, [], ◌∷◌, ◌++◌, Contains, get_or, length, length-append, append_assoc, append-nil, refl, sym, ap, ◌∙◌, subst, arith}
 use Rattle.std.proofs.lemmas.List.Elements.{Contains-append_right}
 use Rattle.mls_automaton.specs.declared.automaton.State.{State}
 use Rattle.mls_automaton.specs.declared.automaton.Head.{Head}
@@ -7,8 +7,7 @@ use Rattle.mls_automaton.specs.declared.automaton.Flow.{Flow}
 use Rattle.mls_automaton.specs.Automata.{HasFlow, empty_head, flow, head_at}
 use Rattle.mls_automaton.specs.Reached.{HeadNames, Names}
 use Rattle.mls_automaton.proofs.Lists.{Contains-here, Contains-later, Contains-cases}
-use Rattle.mls_automaton.proofs.RisingSets.{contains-place}
-use Rattle.mls_biunify.specs.steps.Absorbing.{AreDistinct, AreLoose, RemovesStates}
+use Rattle.mls_biunify.specs.steps.Absorbing.{AreLoose, RemovesStates}
 use Rattle.mls_biunify.specs.steps.Tables.{IsNumbered, Numbered, RemovesState}
 use Rattle.mls_biunify.proofs.TableSteps.{there-or_not}
 
@@ -48,26 +47,12 @@ removing-done old states left now none it =
     let all : states ≡ it.done = it.split ∙ ap (λ (xs : List ℕ). xs ++ it.done) none in
     subst (λ xs. RemovesStates old xs now) (sym all) it.removed
 
--- a number that stands in the middle stands nowhere behind
-pub once : (xs : List ℕ) (s : ℕ) (ys : List ℕ) → AreDistinct (xs ++ s ∷ ys) → Contains ys s → ⊥
-once [] s ys apart it =
-    let at = contains-place ys s it in
-    let low : at.0 < length ys = at.1 in
-    apart 0 (suc at.0) (omega arith) (omega arith) (sym at.2)
-once (x ∷ xs) s ys apart it = once xs s ys (λ i j less low. apart (suc i) (suc j) (omega arith) (omega arith)) it
-
-module _ (old : Numbered) (states left rest : List ℕ) (now : Numbered) (s : ℕ) (loose : AreLoose old states) (apart : AreDistinct states) (it : AreRemoving old states left now) (e : left ≡ rest ++ s ∷ []) where
+module _ (old : Numbered) (states left rest : List ℕ) (now : Numbered) (s : ℕ) (loose : AreLoose old states) (it : AreRemoving old states left now) (e : left ≡ rest ++ s ∷ []) where
   place : states ≡ rest ++ s ∷ it.done
   place = it.split ∙ (ap (λ (xs : List ℕ). xs ++ it.done) e ∙ append_assoc rest (s ∷ []) it.done)
 
   this : Contains states s
   this = subst (λ xs. Contains xs s) (sym place) (Contains-append_right rest (s ∷ it.done) s (Contains-here s it.done))
-
-  not-done : Contains it.done s → ⊥
-  not-done = once rest s it.done (subst AreDistinct place apart)
-
-  pub removing-there : get_or now.there s false ≡ true
-  removing-there = (it.removed.there s).1 (loose.there s this, not-done)
 
   pub removing-unnamed : (j : ℕ) → Names now.automaton j s → ⊥
   removing-unnamed j names =
@@ -99,6 +84,29 @@ module _ (old : Numbered) (states left rest : List ℕ) (now : Numbered) (s : �
       flows = gone.flows ∙ it.removed.flows;
     };
     is = is;
+  }
+
+  -- a state that is gone already
+  pub removing-skip : get_or now.there s false ≡ false → AreRemoving old states rest now
+  removing-skip none = record {
+    done = s ∷ it.done;
+    split = place;
+    removed = record {
+      there = λ j. (
+        λ here.
+            let first = (it.removed.there j).0 here in (
+              first.0,
+              λ one. elim (Contains-cases s it.done j one) [
+                | inl same ↦ let gone : get_or now.there j false ≡ false = subst (λ k. get_or now.there k false ≡ false) same none in absurd (cc)
+                | inr later ↦ first.1 later
+              ],
+            ),
+        λ both. (it.removed.there j).1 (both.0, λ later. both.1 (Contains-later s it.done j later)),
+      );
+      others = λ j apart. it.removed.others j (λ later. apart (Contains-later s it.done j later));
+      flows = it.removed.flows;
+    };
+    is = it.is;
   }
 
 pub popped-shorter : (old rest : List ℕ) (x : ℕ) → old ≡ rest ++ x ∷ [] → length rest < length old

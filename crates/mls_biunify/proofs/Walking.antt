@@ -1,7 +1,5 @@
 -- The walk over a table finds just the states that are reached.
-use Rattle.std.proofs.Common.{◌≡◌, ◌↔◌, ◌⊎◌, inl, inr, Some, ℕ, zero, suc, ◌<◌, ◌+◌, true, false, List, [], ◌∷◌, ◌++◌, take, All, Contains, get_or, length, refl, sym, ap, ◌∙◌, subst, arith}
-use Rattle.std.specs.Prelude.{replicate}
-use Rattle.std.proofs.lemmas.List.{length-replicate}
+use Rattle.std.proofs.Common.{◌≡◌, ◌↔◌, ◌⊎◌, inl, inr, Some, ℕ, ◌<◌, true, false, List, [], ◌∷◌, ◌++◌, All, Contains, get_or, length, sym, ap, ◌∙◌, subst, arith}
 use Rattle.std.proofs.lemmas.List.Elements.{Contains-append_cases, Contains-append_left, Contains-append_right, All-contains}
 use Rattle.mls_automaton.specs.declared.automaton.Head.{Head}
 use Rattle.mls_automaton.specs.declared.scheme.EnvEntry.{EnvEntry}
@@ -9,22 +7,16 @@ use Rattle.mls_automaton.specs.declared.state_set.StateId.{StateId}
 use Rattle.mls_automaton.specs.Automata.{Automaton, head_at}
 use Rattle.mls_automaton.specs.Environments.{BindersRise}
 use Rattle.mls_automaton.specs.Reached.{HeadNames, IsReached, Names, root as of-root, binder as of-binder, named as of-name}
-use Rattle.mls_automaton.specs.steps.Searching.{Found, Grows, InEntries, IsMarked}
+use Rattle.mls_automaton.specs.steps.Searching.{Found, Grows, InEntries, IsBelow, IsMarked}
 use Rattle.mls_automaton.proofs.Lists.{Contains-here, Contains-cases}
 use Rattle.mls_automaton.proofs.Reaching.{entry-found, found-entry}
-use Rattle.mls_automaton.proofs.Searches.{grows-both, next-cases, next-last, next-more}
 use Rattle.mls_biunify.specs.Live.{IsReachedFrom, root as at-root, named as by-name}
 use Rattle.mls_biunify.specs.Solutions.{scheme_over}
-use Rattle.mls_biunify.specs.steps.Keeping.{AreReached, InRoots, IsSearch}
+use Rattle.mls_biunify.specs.steps.Keeping.{Finds, found_of, InRoots, IsSearch, marks_below}
 use Rattle.mls_biunify.specs.steps.Tables.{IsNumbered, Numbered}
+use Rattle.mls_biunify.specs.declared.reach.Search.{Search}
 use Rattle.mls_biunify.proofs.Claiming.{names-there}
-
-pub roots-next : (a b c : Found) (xs : List StateId) (i : ℕ) (d : StateId) → i < length xs → Grows a b (InRoots (take i xs)) → Grows b c (λ j. j ≡ (get_or xs i d).0) → Grows a c (InRoots (take (i + 1) xs))
-roots-next a b c xs i d low first second =
-    grows-both a b c (InRoots (take i xs)) (λ j. j ≡ (get_or xs i d).0) (InRoots (take (i + 1) xs)) first second
-    (λ j it. (it.0, next-more xs i d low it.0 it.1, it.2))
-    (λ j e. (get_or xs i d, next-last xs i d low, sym e))
-    (λ j it. elim (next-cases xs i d low it.0 it.1) [ inl before ↦ inl (it.0, before, it.2) | inr e ↦ inr (sym it.2 ∙ ap (λ (x : StateId). x.0) (sym e)) ])
+use Rattle.mls_biunify.proofs.FoundStates.{finds-below, is-marked, marked-is, marks-length}
 
 abbrev pub AreThere : Numbered → List StateId → Type 0
 AreThere t roots = All (λ (r : StateId). get_or t.there r.0 false ≡ true) roots
@@ -37,15 +29,10 @@ pub reached-there : (t : Numbered) → IsNumbered t → (roots : List StateId) �
 reached-there t is roots there j (at-root r it e) = subst (λ k. get_or t.there k false ≡ true) e (All-contains (λ (r : StateId). get_or t.there r.0 false ≡ true) roots r there it)
 reached-there t is roots there j (by-name {i} before names) = names-there t is i j names
 
-none-marked : (n j : ℕ) → get_or (replicate n false) j false ≡ false
-none-marked zero j = refl
-none-marked (suc n) zero = refl
-none-marked (suc n) (suc j) = none-marked n j
-
 -- the walk begins with the roots
-pub begun : (t : Numbered) (roots : List StateId) (a b : Found) → a.marks ≡ replicate t.limit false → a.work ≡ [] → Grows a b (InRoots roots) → IsSearch t roots b
-begun t roots a b marks work grows = record {
-  same_length = grows.same_length ∙ (ap length marks ∙ length-replicate t.limit false);
+pub begun : (t : Numbered) (roots : List StateId) (a b : Found) → length a.marks ≡ t.limit → ((j : ℕ) → IsMarked a j → ⊥) → a.work ≡ [] → Grows a b (InRoots roots) → IsSearch t roots b
+begun t roots a b size not-before work grows = record {
+  same_length = grows.same_length ∙ size;
   sound = λ j it. elim (grows.found j it) [
     | inl before ↦ absurd (not-before j before)
     | inr new ↦ at-root new.0.0 new.0.1 new.0.2
@@ -61,11 +48,6 @@ begun t roots a b marks work grows = record {
   ];
 }
   where
-    not-before : (j : ℕ) → IsMarked a j → ⊥
-    not-before j is =
-        let e : get_or a.marks j false ≡ false = ap (λ ms. get_or ms j false) marks ∙ none-marked t.limit j in
-        absurd (cc)
-
     none : (j : ℕ) → Contains a.work j → ⊥
     none j it = let there : Contains [] j = subst (λ xs. Contains xs j) work it in let low : there.0 < 0 = there.1 in absurd (omega arith)
 
@@ -91,12 +73,6 @@ module _ (t : Numbered) (roots : List StateId) (before rest : Found) (k : ℕ) (
   -- the state that is taken up is there
   pub last-there : IsNumbered t → AreThere t roots → get_or t.there k false ≡ true
   last-there numbered there = reached-there t numbered roots there k (is.sound k (is.work k last))
-
-  -- and so is all that its head names
-  pub named-below : IsNumbered t → (h : Head) → h ≡ head_at t.automaton k → (j : ℕ) → HeadNames h j → j < length rest.marks
-  named-below numbered h e j it =
-      subst (λ n. j < n) (sym (ap length marks ∙ is.same_length))
-      (numbered.low j (names-there t numbered k j (subst (λ (g : Head). HeadNames g j) e it)))
 
   -- one more state is looked at
   pub looked : (after : Found) → Grows rest after (Names t.automaton k) → IsSearch t roots after
@@ -124,7 +100,7 @@ module _ (t : Numbered) (roots : List StateId) (before rest : Found) (k : ℕ) (
   }
 
 -- where nothing is left to be looked at
-pub walked : (t : Numbered) (roots : List StateId) (f : Found) → IsSearch t roots f → f.work ≡ [] → AreReached t roots f.marks
+pub walked : (t : Numbered) (roots : List StateId) (f : Found) → IsSearch t roots f → f.work ≡ [] → (j : ℕ) → IsMarked f j ↔ IsReachedFrom t.automaton roots j
 walked t roots f is work j = (is.sound j, complete j)
   where
     complete : (j : ℕ) → IsReachedFrom t.automaton roots j → IsMarked f j
@@ -133,6 +109,42 @@ walked t roots f is work j = (is.sound j, complete j)
       | inl in_work ↦ let there : Contains [] i = subst (λ xs. Contains xs i) work in_work in let low : there.0 < 0 = there.1 in absurd (omega arith)
       | inr all ↦ all j named
     ]
+
+-- what is found in a table is below its limit
+pub record IsSearchIn (t : Numbered) (roots : List StateId) (s : Search) : Type 0 where
+  pub below : IsBelow (Contains s.found.keys) t.limit
+  pub is : IsSearch t roots (found_of t.limit s)
+
+pub begun-in : (t : Numbered) → IsNumbered t → (roots : List StateId) → AreThere t roots → (a b : Search) → a.found.keys ≡ [] → a.work.items ≡ [] → Finds a b (InRoots roots) → IsSearchIn t roots b
+begun-in t numbered roots there a b empty work finds = record {
+  below = finds-below a b (InRoots roots) t.limit finds low (λ j it. absurd (none j it));
+  is = begun t roots (found_of t.limit a) (found_of t.limit b) (marks-length t.limit a.found.keys) (λ j it. none j (marked-is t.limit a.found.keys j it).1) work (finds t.limit low);
+}
+  where
+    low : IsBelow (InRoots roots) t.limit
+    low = root-low t numbered roots there
+
+    none : (j : ℕ) → Contains a.found.keys j → ⊥
+    none j it = let there : Contains [] j = subst (λ xs. Contains xs j) empty it in let low : there.0 < 0 = there.1 in absurd (omega arith)
+
+-- what the head of a state names is below the limit
+pub head-below : (t : Numbered) → IsNumbered t → (k : ℕ) (h : Head) → h ≡ head_at t.automaton k → IsBelow (HeadNames h) t.limit
+head-below t numbered k h e j it = numbered.low j (names-there t numbered k j (subst (λ (g : Head). HeadNames g j) e it))
+
+pub looked-in : (t : Numbered) → IsNumbered t → (roots : List StateId) (before rest after : Search) (k : ℕ) → IsSearchIn t roots before → rest.found.keys ≡ before.found.keys → before.work.items ≡ rest.work.items ++ k ∷ [] → Finds rest after (Names t.automaton k) → IsSearchIn t roots after
+looked-in t numbered roots before rest after k it keys work finds = record {
+  below = finds-below rest after (Names t.automaton k) t.limit finds low (λ j found. it.below j (subst (λ (xs : List ℕ). Contains xs j) keys found));
+  is = looked t roots (found_of t.limit before) (found_of t.limit rest) k it.is (ap (marks_below t.limit) keys) work (found_of t.limit after) (finds t.limit low);
+}
+  where
+    low : IsBelow (Names t.automaton k) t.limit
+    low j named = numbered.low j (names-there t numbered k j named)
+
+pub walked-in : (t : Numbered) (roots : List StateId) (s : Search) → IsSearchIn t roots s → s.work.items ≡ [] → (j : ℕ) → Contains s.found.keys j ↔ IsReachedFrom t.automaton roots j
+walked-in t roots s it none j = (
+  λ found. (walked t roots (found_of t.limit s) it.is none j).0 (is-marked t.limit s.found.keys j (it.below j found) found),
+  λ reached. (marked-is t.limit s.found.keys j ((walked t roots (found_of t.limit s) it.is none j).1 reached)).1,
+)
 
 -- what the heads of a scheme reach from its root and its binders is what they reach from these states as roots
 module _ (a : Automaton) (r : ℕ) (env : List EnvEntry) (rise : BindersRise env) (roots : List StateId) (same : (j : ℕ) → InRoots roots j ↔ (r ≡ j) ⊎ InEntries env j) where

@@ -1,6 +1,6 @@
 -- Tables of states that are updated in place.
-use Rattle.std.specs.Prelude.{All, ◌≡◌, ◌↔◌, ◌⊎◌, ℕ, ◌<◌, Bool, true, false, List, [], length, get_or, Contains, Option}
-use Rattle.std.specs.Prelude.{Some, None, IsSome}
+use Rattle.std.specs.Prelude.{All, ◌≡◌, ◌↔◌, ◌⊎◌, ℕ, ◌<◌, Bool, true, false, List, [], map, length, get_or, Contains}
+use Rattle.std.specs.Prelude.{Option, Some, None, IsSome}
 use Rattle.mls_automaton.specs.declared.automaton.Polarity.{Polarity}
 use Rattle.mls_automaton.specs.declared.automaton.Polarity.TheVariants.{Positive, Negative}
 use Rattle.mls_automaton.specs.declared.automaton.State.{State}
@@ -130,6 +130,19 @@ IsCopiedFlow a numbers n p = (i j : ℕ) × HasFlow a i j × (number_of numbers 
 pub data IsReachedFrom (a : Automaton) (roots : List StateId) : ℕ → Type 0 where
   root : {j : ℕ} (r : StateId) → Contains roots r → r.0 ≡ j → IsReachedFrom a roots j
   named : {i j : ℕ} → IsReachedFrom a roots i → Names a i j → IsReachedFrom a roots j
+
+-- no head and no edge leads from one of these states to another one, or back
+pub record IsRegion (a : Automaton) (states : List ℕ) : Type 0 where
+  pub heads : (s t : ℕ) → Names a s t → Contains states s ↔ Contains states t
+  pub flows : (n p : ℕ) → HasFlow a n p → Contains states n ↔ Contains states p
+
+-- the numbers of these states
+abbrev pub numbers_in : List StateId → List ℕ
+numbers_in states = map (λ (s : StateId). s.0) states
+
+-- the state is there, and heads reach it from the roots, or it is none of some states
+abbrev pub StaysBeside : Live → List ℕ → List StateId → ℕ → Type 0
+StaysBeside live states roots s = IsThere live s × (IsReachedFrom live.table roots s ⊎ (Contains states s → ⊥))
 
 -- just the states of this kind stay, as they were, with the edges between them
 pub record KeepsThere (old new : Live) (IsKept : ℕ → Type 0) : Type 0 where

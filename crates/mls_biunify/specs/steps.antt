@@ -23,3 +23,5 @@ pub mod Settlement
 pub mod Copying
 pub mod Absorbing
 pub mod Keeping
+pub mod Renaming
+pub mod Placing

@@ -1,5 +1,7 @@
 //! Copies of automata in tables.
 ghost use Rattle.std.specs.Prelude.{◌≡◌, ◌++◌, ◌∷◌, ℕ, [], length, map, IfOk, OnErr, OnOk};
+ghost use Rattle.std.specs.List.Sorted.{IsPermutation, IsSorted};
+ghost use Rattle.std.specs.Ordering.{nat_cmp};
 ghost use Rattle.mls_automaton.specs.Models.{IsClosed};
 ghost use Rattle.mls_automaton.specs.Sets.{Rises};
 ghost use Rattle.mls_biunify.specs.Live.{free_state};
@@ -8,7 +10,7 @@ ghost use Rattle.mls_biunify.specs.steps.Absorbing.{AreSigned, AreUnfilled, Clai
 ghost use Rattle.mls_biunify.specs.steps.Tables.{InsertsState, IsNumbered};
 
 use crate::keep::remove_all;
-use crate::rename::rename_head;
+use crate::rename::{Numbers, rename_head};
 use crate::settlement::{link_all, store_heads};
 use crate::table::Table;
 use mls_automaton::automaton::{Automaton, Head, Polarity};
@@ -26,8 +28,8 @@ pub fn absorb(table: &mut Table, alloc: Global, a: &Automaton) -> Result<StateSe
     ensures is { IsNumbered table.new }
 {
     let _limit = table.limit();
-    let mut numbers = claim_all(table, alloc, a.len())?;
-    numbers.sort_unstable();
+    let claimed = claim_all(table, alloc, a.len())?;
+    let numbers = in_order(claimed);
     match fill(table, alloc, a, numbers.as_slice()) {
         Ok(set) => {
             let _filled = table.limit();
@@ -38,6 +40,19 @@ pub fn absorb(table: &mut Table, alloc: Global, a: &Automaton) -> Result<StateSe
             Err(e)
         }
     }
+}
+
+// The same numbers in order. Numbers that were freed in the opposite order come in order by themselves.
+fn in_order(numbers: Vec<usize>) -> Vec<usize>
+    ensures permutation { IsPermutation numbers.items result.items }
+    ensures count { length result.items ≡ length numbers.items }
+    ensures sorted { IsSorted nat_cmp result.items }
+{
+    let mut ordered = numbers;
+    if !ordered.as_slice().is_sorted() {
+        ordered.sort_unstable();
+    }
+    ordered
 }
 
 // Adds so many positive states with nothing, and answers their numbers. After an error the table is as before.
@@ -125,7 +140,7 @@ fn renamed_heads(
 {
     let mut heads = Vec::new(alloc);
     for i in 0..a.len() {
-        let head = rename_head(alloc, a.head(StateId(i)), numbers)?;
+        let head = rename_head(alloc, a.head(StateId(i)), &Numbers::At(numbers))?;
         heads.push((numbers[i], head))?;
     }
     Ok(heads)

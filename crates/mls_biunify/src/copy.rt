@@ -2,14 +2,12 @@
 ghost use Rattle.std.specs.Prelude.{◌≡◌, ◌↔◌, ◌⊎◌, ℕ, ◌<◌, true, false, [], get_or, length, IfOk, OnOk};
 ghost use Rattle.mls_automaton.specs.declared.automaton.Polarity.TheVariants.{Negative};
 ghost use Rattle.mls_automaton.specs.Automata.{HasFlow, IsState, state_at, with_state};
-ghost use Rattle.mls_automaton.specs.Environments.{BindersRise};
 ghost use Rattle.mls_biunify.specs.Live.{IsStateIn};
 ghost use Rattle.mls_biunify.specs.steps.Copying.{AreCopiedStates, CopiesFlows, HasStatesOf, IsCopy};
 
 use crate::materialise::copied_head;
 use crate::table::Table;
 use mls_automaton::automaton::{Automaton, Head, Polarity};
-use mls_automaton::scheme::{Env, EnvEntry};
 use mls_automaton::state_set::StateId;
 use mls_base::memory::Memory;
 use std::alloc::Global;
@@ -92,16 +90,4 @@ fn copy_flows_from(copy: &mut Automaton, table: &Table, n: StateId) -> Result<()
         copy.add_flow(n, StateId(*p))?;
     }
     Ok(())
-}
-
-// The binders.
-pub fn copied_env(alloc: Global, env: &[EnvEntry]) -> Result<Env, Memory>
-    requires { BindersRise env.now }
-    ensures { IfOk result (λ copy. copy ≡ env.now) }
-{
-    let mut copy = Env::new(alloc);
-    for entry in env {
-        copy.push(*entry)?;
-    }
-    Ok(copy)
 }

@@ -1,9 +1,11 @@
 //! Tables of which the states alone stay that heads reach from some.
-ghost use Rattle.std.specs.Prelude.{◌≡◌, ◌⊎◌, ◌↔◌, ℕ, ◌<◌, true, false, length, get_or, All, Contains, IfOk};
-ghost use Rattle.std.specs.Prelude.{IsTrue, OnErr, OnOk};
+ghost use Rattle.std.specs.Prelude.{◌≡◌, ◌⊎◌, ◌↔◌, ℕ, true, false, get_or, All, Contains, IfOk};
+ghost use Rattle.std.specs.Prelude.{OnErr, OnOk};
 ghost use Rattle.mls_automaton.specs.declared.state_set.StateId.{StateId};
-ghost use Rattle.mls_biunify.specs.steps.Absorbing.{AreDistinct, AreLoose, RemovesStates};
-ghost use Rattle.mls_biunify.specs.steps.Keeping.{EmptiesHeads, IsEdgeAtOne, IsUnmarked, KeepsReached};
+ghost use Rattle.mls_automaton.specs.Reached.{Names};
+ghost use Rattle.mls_biunify.specs.Live.{IsReachedFrom, numbers_in};
+ghost use Rattle.mls_biunify.specs.steps.Absorbing.{AreLoose, RemovesStates};
+ghost use Rattle.mls_biunify.specs.steps.Keeping.{EmptiesHeads, IsEdgeAtOne, IsUnfound, KeepsStates, StaysAmong};
 ghost use Rattle.mls_biunify.specs.steps.Settlement.{GivenBy};
 ghost use Rattle.mls_biunify.specs.steps.Tables.{IsNumbered};
 
@@ -14,45 +16,79 @@ use mls_automaton::automaton::Head;
 use mls_automaton::state_set::StateId;
 use mls_base::memory::Memory;
 use std::alloc::Global;
+use std::collections::BTreeSet;
 
 // Takes out the states that heads do not reach from the roots.
 pub fn keep_reached(table: &mut Table, alloc: Global, roots: &[StateId]) -> Result<(), Memory>
     requires { All (λ (root : StateId). get_or table.old.there root.0 false ≡ true) roots.now }
-    ensures ok { OnOk result (KeepsReached table.old roots.now table.new) }
+    ensures ok { OnOk result (KeepsStates table.old (IsReachedFrom table.old.automaton roots.now) table.new) }
     ensures err { OnErr result (table.new ≡ table.old) }
 {
     let _limit = table.limit();
-    let marks = reached(alloc, table, roots)?;
-    let gone = unmarked(alloc, table, marks.as_slice())?;
+    let all = table.numbers(alloc)?;
+    keep_among(table, alloc, all.as_slice(), roots)?;
+    Ok(())
+}
+
+// Takes out those of these states that heads do not reach from the roots, and answers all that are reached. It goes
+// over these states alone, and over those that are reached.
+pub fn keep_among(
+    table: &mut Table,
+    alloc: Global,
+    states: &[usize],
+    roots: &[StateId],
+) -> Result<Vec<StateId>, Memory>
+    requires states { All (λ s. get_or table.old.there s false ≡ true) states.now }
+    requires roots { All (λ (root : StateId). get_or table.old.there root.0 false ≡ true) roots.now }
+    requires heads { (s t : ℕ) → Names table.old.automaton s t → Contains states.now s ↔ Contains states.now t }
+    ensures ok { OnOk result (KeepsStates table.old (StaysAmong table.old states.now roots.now) table.new) }
+    ensures kept { IfOk result (λ kept. (s : ℕ) → Contains (numbers_in kept.items) s
+        ↔ IsReachedFrom table.old.automaton roots.now s) }
+    ensures err { OnErr result (table.new ≡ table.old) }
+{
+    let _limit = table.limit();
+    let found = reached(alloc, table, roots)?;
+    let kept = states_of(alloc, &found)?;
+    let gone = unfound(alloc, states, &found)?;
     let edges = edges_at_all(alloc, table, gone.as_slice())?;
     unlink_all(table, edges.as_slice());
     empty_heads(table, gone.as_slice());
     remove_all(table, gone);
-    Ok(())
+    Ok(kept)
 }
 
-// The states without a mark.
-fn unmarked(alloc: Global, table: &Table, marks: &[bool]) -> Result<Vec<usize>, Memory>
-    requires { length marks.now ≡ table.now.limit }
-    ensures members { IfOk result (λ gone. (s : ℕ) → Contains gone.items s ↔ IsUnmarked table.now marks.now s) }
-    ensures distinct { IfOk result (λ gone. AreDistinct gone.items) }
+// The states of these numbers.
+fn states_of(alloc: Global, numbers: &BTreeSet<usize>) -> Result<Vec<StateId>, Memory>
+    ensures { IfOk result (λ states. numbers_in states.items ≡ numbers.now.keys) }
 {
-    let _limit = table.limit();
+    let mut states = Vec::new(alloc);
+    for s in numbers {
+        states.push(StateId(*s))?;
+    }
+    Ok(states)
+}
+
+// Those of these states that were not found.
+fn unfound(alloc: Global, states: &[usize], found: &BTreeSet<usize>) -> Result<Vec<usize>, Memory>
+    ensures { IfOk result (λ gone. (s : ℕ) → Contains gone.items s ↔ IsUnfound states.now found.now.keys s) }
+{
     let mut gone = Vec::new(alloc);
-    for s in 0..marks.len() {
-        if is_unmarked(table, marks, s) {
-            gone.push(s)?;
-        }
+    for s in states {
+        push_unfound(&mut gone, found, *s)?;
     }
     Ok(gone)
 }
 
-// Whether the number is that of a state without a mark.
-fn is_unmarked(table: &Table, marks: &[bool], s: usize) -> bool
-    requires { s < length marks.now }
-    ensures { IsTrue result ↔ IsUnmarked table.now marks.now s }
+// Puts a number behind others, if it was not found.
+fn push_unfound(gone: &mut Vec<usize>, found: &BTreeSet<usize>, s: usize) -> Result<(), Memory>
+    ensures { OnOk result ((j : ℕ) → Contains gone.new.items j
+        ↔ Contains gone.old.items j ⊎ ((j ≡ s) × (Contains found.now.keys j → ⊥))) }
 {
-    table.contains(s) && !marks[s]
+    if found.contains(&s) {
+        return Ok(());
+    }
+    gone.push(s)?;
+    Ok(())
 }
 
 // The edges that begin or end at one of these states.
@@ -93,17 +129,18 @@ fn empty_heads(table: &mut Table, states: &[usize])
     }
 }
 
-// Takes states out, which no head names and which have no edge.
+// Takes states out, which no head names and which have no edge. A state may be listed more than once.
 pub fn remove_all(table: &mut Table, states: Vec<usize>)
-    requires distinct { AreDistinct states.items }
-    requires loose { AreLoose table.old states.items }
+    requires { AreLoose table.old states.items }
     ensures removes { RemovesStates table.old states.items table.new }
     ensures is { IsNumbered table.new }
 {
     let _limit = table.limit();
     let mut states = states;
     while let Some(s) = states.pop() {
-        table.remove(StateId(s));
+        if table.contains(s) {
+            table.remove(StateId(s));
+        }
     }
     let _left = table.limit();
 }

@@ -7,6 +7,7 @@ mod clash;
 mod copy;
 mod edges;
 pub mod found;
+mod frozen;
 pub mod goal;
 mod keep;
 pub mod laws;

@@ -1,10 +1,11 @@
 //! Tables of states that are updated in place.
-ghost use Rattle.std.specs.Prelude.{◌≡◌, ◌↔◌, ◌⊎◌, ℕ, List, true, All, Contains, Err, IfErr, IfOk, IsOk, IsSome};
+ghost use Rattle.std.specs.Prelude.{◌≡◌, ◌↔◌, ◌⊎◌, ◌<◌, ℕ, List, true, length, All, Contains, Err, IfErr};
+ghost use Rattle.std.specs.Prelude.{IfOk, IsOk, IsSome};
 ghost use Rattle.std.specs.Prelude.{IsTrue, None, OnErr, OnOk};
 ghost use Rattle.mls_automaton.specs.declared.automaton.Polarity.TheVariants.{Positive, Negative};
 ghost use Rattle.mls_automaton.specs.declared.scheme.EnvEntry.{EnvEntry};
 ghost use Rattle.mls_automaton.specs.declared.state_set.StateId.{StateId};
-ghost use Rattle.mls_automaton.specs.Automata.{HasFlow, polarity_at, head_at};
+ghost use Rattle.mls_automaton.specs.Automata.{HasFlow, polarity_at, head_at, state_at};
 ghost use Rattle.mls_automaton.specs.Environments.{BindersRise};
 ghost use Rattle.mls_automaton.specs.Reached.{KeepsReached};
 ghost use Rattle.mls_automaton.specs.Schemes.{AreEquivalentSchemes, IsScheme};
@@ -17,13 +18,14 @@ ghost use Rattle.mls_biunify.specs.Solutions.{HasInstancesUnder, scheme_over};
 ghost use Rattle.mls_biunify.specs.Solved.{IsSolved};
 ghost use Rattle.mls_biunify.specs.Live.{AddsStates, AreRelated, HasRelation, Inserts, IsCopiedFlow, IsCopyAt, IsLive};
 ghost use Rattle.mls_biunify.specs.Live.{IsLiveGoal, IsLiveState, IsReachedFrom, IsRefusalOf, IsSameLive, IsSolvedFor};
-ghost use Rattle.mls_biunify.specs.Live.{IsStateIn, IsThere, IsUnsolved, KeepsThere};
+ghost use Rattle.mls_biunify.specs.Live.{IsRegion, IsStateIn, IsThere, IsUnsolved, KeepsThere, StaysBeside, numbers_in};
 
 use crate::absorb::absorb;
 use crate::clash::first_clash_of;
-use crate::copy::{copied_env, copied_table};
+use crate::copy::copied_table;
+use crate::frozen::frozen;
 use crate::goal::{Clash, Goal, Refusal};
-use crate::keep::keep_reached;
+use crate::keep::{keep_among, keep_reached};
 use crate::relation::Relation;
 use crate::settlement::{link_all, new_edges, new_heads, store_heads, touched};
 use crate::table::Table;
@@ -122,6 +124,15 @@ impl Live {
         self.table.has_flow(negative, positive)
     }
 
+    /// The states to which a negative state has an edge.
+    pub fn after(&self, n: StateId) -> &StateSet
+        requires { IsThere self.now n.0 }
+        ensures partners { (p : ℕ) → Contains result.now p ↔ HasFlow self.now.table n.0 p }
+        ensures live { IsLive self.now }
+    {
+        self.table.after(n)
+    }
+
     /// Whether the two states are related.
     pub fn holds(&self, positive: StateId, negative: StateId) -> bool
         requires solved { IsSome self.now.related }
@@ -197,7 +208,7 @@ impl Live {
     }
 
     /// Takes out each state that heads do not reach from the roots, with its edges. Edges are not followed. It goes
-    /// over the whole table once.
+    /// over the whole table.
     ///
     /// # Errors
     ///
@@ -213,6 +224,36 @@ impl Live {
         self.is_solved = false;
         self.is_ready = false;
         Ok(())
+    }
+
+    /// Takes out those of some states that heads do not reach from the roots, with their edges, and answers those that
+    /// stay, in the order of their numbers. Edges are not followed. It goes over these states alone.
+    ///
+    /// # Errors
+    ///
+    /// `Memory` where memory is wanting; the table is then as before.
+    pub fn keep_among(
+        &mut self,
+        states: Vec<StateId>,
+        roots: &[StateId],
+    ) -> Result<Vec<StateId>, Memory>
+        requires states { All (λ (s : StateId). IsThere self.old s.0) states.items }
+        requires roots { All (λ (root : StateId). Contains (numbers_in states.items) root.0) roots.now }
+        requires region { IsRegion self.old.table (numbers_in states.items) }
+        ensures kept { OnOk result (KeepsThere self.old self.new
+            (StaysBeside self.old (numbers_in states.items) roots.now)) }
+        ensures answer { IfOk result (λ kept. (s : ℕ) → Contains (numbers_in kept.items) s
+            ↔ IsReachedFrom self.old.table roots.now s) }
+        ensures unsolved { OnOk result (IsUnsolved self.new) }
+        ensures err { OnErr result (self.new ≡ self.old) }
+    {
+        let alloc = self.relation.allocator();
+        let _limit = self.table.limit();
+        let numbers = numbers_of(alloc, states.as_slice())?;
+        let kept = keep_among(&mut self.table, alloc, numbers.as_slice(), roots)?;
+        self.is_solved = false;
+        self.is_ready = false;
+        Ok(kept)
     }
 
     /// Makes the table ready for `solve`: each state has its place in the relation. The pairs themselves take memory as
@@ -293,8 +334,25 @@ impl Live {
         Ok(())
     }
 
+    /// A copy of the whole table as an automaton with the same numbers, in which a number that is free is a positive
+    /// state with nothing.
+    ///
+    /// # Errors
+    ///
+    /// `Memory` where memory is wanting.
+    pub fn copied(&self) -> Result<Automaton, Memory>
+        ensures states { IfOk result (λ copy. (s : ℕ) → state_at copy s ≡ state_at self.now.table s) }
+        ensures there { IfOk result (λ copy. (s : ℕ) → IsThere self.now s → s < length copy.states) }
+        ensures flows { IfOk result (λ copy. (n p : ℕ) → HasFlow copy n p ↔ HasFlow self.now.table n p) }
+        ensures closed { IfOk result IsClosed }
+    {
+        let _limit = self.table.limit();
+        let copy = copied_table(self.relation.allocator(), &self.table)?;
+        Ok(copy)
+    }
+
     /// The scheme of the states that heads reach from the root and the binders, in the order of their numbers. It goes
-    /// over the whole table.
+    /// over these states alone.
     ///
     /// # Errors
     ///
@@ -307,16 +365,21 @@ impl Live {
         ensures scheme { IfOk result IsScheme }
         ensures equivalent { IfOk result (AreEquivalentSchemes (scheme_over self.now.table root.0 env.now)) }
     {
-        let alloc = self.relation.allocator();
         let _limit = self.table.limit();
-        let scheme = Scheme {
-            automaton: copied_table(alloc, &self.table)?,
-            env: copied_env(alloc, env)?,
-            root,
-        };
-        let kept = scheme.keep_reachable()?;
+        let kept = frozen(self.relation.allocator(), &self.table, root, env)?;
         Ok(kept)
     }
+}
+
+// The numbers of these states.
+fn numbers_of(alloc: Global, states: &[StateId]) -> Result<Vec<usize>, Memory>
+    ensures { IfOk result (λ numbers. numbers.items ≡ numbers_in states.now) }
+{
+    let mut numbers = Vec::new(alloc);
+    for s in states {
+        numbers.push(s.0)?;
+    }
+    Ok(numbers)
 }
 
 // The answer of `solve` where the relation is there.

@@ -1,41 +1,41 @@
 //! The states of a table that heads reach from some.
-ghost use Rattle.std.specs.Prelude.{◌≡◌, ◌<◌, true, false, length, get_or, All, Contains, IfOk, OnOk};
+ghost use Rattle.std.specs.Prelude.{◌≡◌, ◌↔◌, ℕ, true, false, get_or, All, Contains, IfOk, OnOk};
 ghost use Rattle.mls_automaton.specs.Reached.{HeadNames, InAnyField, InFunction, InRecord};
 ghost use Rattle.mls_automaton.specs.declared.state_set.StateId.{StateId};
-ghost use Rattle.mls_automaton.specs.steps.Searching.{Grows, InArms, IsBelow};
-ghost use Rattle.mls_biunify.specs.steps.Keeping.{AreReached, InRoots, IsSearch, search_of};
+ghost use Rattle.mls_automaton.specs.steps.Searching.{InArms};
+ghost use Rattle.mls_biunify.specs.Live.{IsReachedFrom};
+ghost use Rattle.mls_biunify.specs.steps.Keeping.{Finds, InRoots};
 
 use crate::table::Table;
 use mls_automaton::automaton::{Arms, FieldSet, FieldSets, Head};
 use mls_automaton::state_set::{StateId, StateSet};
 use mls_base::memory::Memory;
 use std::alloc::Global;
+use std::collections::BTreeSet;
 
 // The states that were found so far, and those of them whose heads are still to be looked at.
 #[derive(Drop)]
 struct Search {
-    marks: Vec<bool>,
+    found: BTreeSet<usize>,
     work: Vec<usize>,
 }
 
 impl Search {
     // Finds a state.
     fn mark(&mut self, s: usize) -> Result<(), Memory>
-        requires { s < length (search_of self.old).marks }
-        ensures { OnOk result (Grows (search_of self.old) (search_of self.new) (λ j. j ≡ s)) }
+        ensures { OnOk result (Finds self.old self.new (λ j. j ≡ s)) }
     {
-        if self.marks[s] {
+        let is_new = self.found.insert(s)?;
+        if !is_new {
             return Ok(());
         }
         self.work.push(s)?;
-        self.marks[s] = true;
         Ok(())
     }
 
     // Finds the members of a set.
     fn mark_set(&mut self, set: &StateSet) -> Result<(), Memory>
-        requires { IsBelow (Contains set.now) (length (search_of self.old).marks) }
-        ensures { OnOk result (Grows (search_of self.old) (search_of self.new) (Contains set.now)) }
+        ensures { OnOk result (Finds self.old self.new (Contains set.now)) }
     {
         for s in set.as_slice() {
             self.mark(*s)?;
@@ -45,8 +45,7 @@ impl Search {
 
     // Finds the states of a domain and a codomain.
     fn mark_arms(&mut self, arms: &Arms) -> Result<(), Memory>
-        requires { IsBelow (InArms arms.now) (length (search_of self.old).marks) }
-        ensures { OnOk result (Grows (search_of self.old) (search_of self.new) (InArms arms.now)) }
+        ensures { OnOk result (Finds self.old self.new (InArms arms.now)) }
     {
         self.mark_set(&arms.domain)?;
         self.mark_set(&arms.codomain)?;
@@ -54,8 +53,7 @@ impl Search {
     }
 
     fn mark_function(&mut self, function: &Option<Arms>) -> Result<(), Memory>
-        requires { IsBelow (InFunction function.now) (length (search_of self.old).marks) }
-        ensures { OnOk result (Grows (search_of self.old) (search_of self.new) (InFunction function.now)) }
+        ensures { OnOk result (Finds self.old self.new (InFunction function.now)) }
     {
         match function {
             None => Ok(()),
@@ -68,8 +66,7 @@ impl Search {
 
     // Finds the states of fields.
     fn mark_fields(&mut self, fields: &[FieldSet]) -> Result<(), Memory>
-        requires { IsBelow (InAnyField fields.now) (length (search_of self.old).marks) }
-        ensures { OnOk result (Grows (search_of self.old) (search_of self.new) (InAnyField fields.now)) }
+        ensures { OnOk result (Finds self.old self.new (InAnyField fields.now)) }
     {
         for field in fields {
             self.mark_set(&field.set)?;
@@ -78,8 +75,7 @@ impl Search {
     }
 
     fn mark_record(&mut self, fields: &Option<FieldSets>) -> Result<(), Memory>
-        requires { IsBelow (InRecord fields.now) (length (search_of self.old).marks) }
-        ensures { OnOk result (Grows (search_of self.old) (search_of self.new) (InRecord fields.now)) }
+        ensures { OnOk result (Finds self.old self.new (InRecord fields.now)) }
     {
         match fields {
             None => Ok(()),
@@ -92,8 +88,7 @@ impl Search {
 
     // Finds the states that a head names.
     fn mark_head(&mut self, head: &Head) -> Result<(), Memory>
-        requires { IsBelow (HeadNames head.now) (length (search_of self.old).marks) }
-        ensures { OnOk result (Grows (search_of self.old) (search_of self.new) (HeadNames head.now)) }
+        ensures { OnOk result (Finds self.old self.new (HeadNames head.now)) }
     {
         self.mark_function(&head.function)?;
         self.mark_record(&head.fields)?;
@@ -102,8 +97,7 @@ impl Search {
 
     // Finds the roots.
     fn mark_roots(&mut self, roots: &[StateId]) -> Result<(), Memory>
-        requires { IsBelow (InRoots roots.now) (length (search_of self.old).marks) }
-        ensures { OnOk result (Grows (search_of self.old) (search_of self.new) (InRoots roots.now)) }
+        ensures { OnOk result (Finds self.old self.new (InRoots roots.now)) }
     {
         for root in roots {
             self.mark(root.0)?;
@@ -112,29 +106,20 @@ impl Search {
     }
 }
 
-// Which states heads reach from the roots.
-pub fn reached(alloc: Global, table: &Table, roots: &[StateId]) -> Result<Vec<bool>, Memory>
+// The states that heads reach from the roots. It goes over these states alone.
+pub fn reached(alloc: Global, table: &Table, roots: &[StateId]) -> Result<BTreeSet<usize>, Memory>
     requires { All (λ (root : StateId). get_or table.now.there root.0 false ≡ true) roots.now }
-    ensures size { IfOk result (λ marks. length marks.items ≡ table.now.limit) }
-    ensures marks { IfOk result (λ marks. AreReached table.now roots.now marks.items) }
+    ensures { IfOk result (λ found. (s : ℕ)
+        → Contains found.keys s ↔ IsReachedFrom table.now.automaton roots.now s) }
 {
     let _limit = table.limit();
-    let mut search = begin(alloc, table, roots)?;
-    while let Some(s) = search.work.pop() {
-        search.mark_head(table.head(StateId(s)))?;
-    }
-    Ok(search.marks)
-}
-
-// A search that has found the roots.
-fn begin(alloc: Global, table: &Table, roots: &[StateId]) -> Result<Search, Memory>
-    requires { All (λ (root : StateId). get_or table.now.there root.0 false ≡ true) roots.now }
-    ensures { IfOk result (λ search. IsSearch table.now roots.now (search_of search)) }
-{
     let mut search = Search {
-        marks: vec![in alloc; false; table.limit()]?,
+        found: BTreeSet::new(alloc),
         work: Vec::new(alloc),
     };
     search.mark_roots(roots)?;
-    Ok(search)
+    while let Some(s) = search.work.pop() {
+        search.mark_head(table.head(StateId(s)))?;
+    }
+    Ok(search.found)
 }

@@ -1,33 +1,79 @@
 //! Heads under other numbers of states.
-ghost use Rattle.std.specs.Prelude.{◌≡◌, ◌<◌, length, map, option_map, Contains, IfOk};
+ghost use Rattle.std.specs.Prelude.{◌≡◌, map, option_map, All, IfOk};
+ghost use Rattle.mls_automaton.specs.declared.automaton.FieldSet.{FieldSet};
 ghost use Rattle.mls_automaton.specs.Embeddings.{renamed_arms, renamed_field, renamed_head};
-ghost use Rattle.mls_automaton.specs.Reached.{HeadNames, InAnyField, InFunction, InRecord};
 ghost use Rattle.mls_automaton.specs.Sets.{Rises};
-ghost use Rattle.mls_automaton.specs.steps.Searching.{InArms, IsBelow};
+ghost use Rattle.mls_automaton.specs.steps.Numbers.{KeepsOrder, KeepsOrderInArms, KeepsOrderInFields, KeepsOrderInHead};
 ghost use Rattle.mls_biunify.specs.Live.{number_of};
+ghost use Rattle.mls_biunify.specs.steps.Renaming.{list_in, number_by, place_among};
 
 use mls_automaton::automaton::{Arms, FieldSet, FieldSets, Head};
 use mls_automaton::state_set::{StateId, StateSet};
 use mls_base::memory::Memory;
 use std::alloc::Global;
 
+// Which number each state gets, by numbers that rise.
+#[derive(Clone, Copy)]
+pub enum Numbers<'a> {
+    // The one that stands at the place of the state.
+    At(&'a [usize]),
+    // The place where the state stands among them.
+    PlaceIn(&'a [usize]),
+}
+
+impl Numbers<'_> {
+    // The new number of a state.
+    fn of(&self, s: usize) -> usize
+        requires { Rises (list_in self.now) }
+        ensures { result ≡ number_by self.now s }
+    {
+        match self {
+            Numbers::At(numbers) => number_at(numbers, s),
+            Numbers::PlaceIn(numbers) => place_in(numbers, s),
+        }
+    }
+}
+
+// The number at a place; past the end it is 0.
+fn number_at(numbers: &[usize], s: usize) -> usize
+    ensures { result ≡ number_of numbers.now s }
+{
+    match numbers.get(s) {
+        Some(number) => *number,
+        None => 0,
+    }
+}
+
+// How many numbers are below this one, which is its place if it stands among them.
+pub fn place_in(numbers: &[usize], s: usize) -> usize
+    requires { Rises numbers.now }
+    ensures { result ≡ place_among numbers.now s }
+{
+    match numbers.binary_search(&s) {
+        Ok(place) => place,
+        Err(place) => place,
+    }
+}
+
 // The set of the new numbers, each of which stands in the place of the old one.
-fn rename_set(alloc: Global, set: &StateSet, numbers: &[usize]) -> Result<StateSet, Memory>
-    requires low { IsBelow (Contains set.now) (length numbers.now) }
-    requires rises { Rises numbers.now }
-    ensures { IfOk result (λ renamed. renamed ≡ map (number_of numbers.now) set.now) }
+fn rename_set(alloc: Global, set: &StateSet, numbers: &Numbers<'_>) -> Result<StateSet, Memory>
+    requires order { KeepsOrder (number_by numbers.now) set.now }
+    requires rises { Rises (list_in numbers.now) }
+    ensures { IfOk result (λ renamed. renamed ≡ map (number_by numbers.now) set.now) }
 {
     let mut renamed = StateSet::new(alloc);
     for s in set.as_slice() {
-        renamed.push(StateId(numbers[*s]))?;
+        let number = numbers.of(*s);
+        renamed.push(StateId(number))?;
     }
     Ok(renamed)
 }
 
-fn rename_arms(alloc: Global, arms: &Arms, numbers: &[usize]) -> Result<Arms, Memory>
-    requires low { IsBelow (InArms arms.now) (length numbers.now) }
-    requires rises { Rises numbers.now }
-    ensures { IfOk result (λ renamed. renamed ≡ renamed_arms (number_of numbers.now) arms.now) }
+fn rename_arms(alloc: Global, arms: &Arms, numbers: &Numbers<'_>) -> Result<Arms, Memory>
+    requires domain { KeepsOrder (number_by numbers.now) arms.now.domain }
+    requires codomain { KeepsOrder (number_by numbers.now) arms.now.codomain }
+    requires rises { Rises (list_in numbers.now) }
+    ensures { IfOk result (λ renamed. renamed ≡ renamed_arms (number_by numbers.now) arms.now) }
 {
     let domain = rename_set(alloc, &arms.domain, numbers)?;
     let codomain = rename_set(alloc, &arms.codomain, numbers)?;
@@ -37,11 +83,11 @@ fn rename_arms(alloc: Global, arms: &Arms, numbers: &[usize]) -> Result<Arms, Me
 fn rename_function(
     alloc: Global,
     function: &Option<Arms>,
-    numbers: &[usize],
+    numbers: &Numbers<'_>,
 ) -> Result<Option<Arms>, Memory>
-    requires low { IsBelow (InFunction function.now) (length numbers.now) }
-    requires rises { Rises numbers.now }
-    ensures { IfOk result (λ renamed. renamed ≡ option_map (renamed_arms (number_of numbers.now)) function.now) }
+    requires order { KeepsOrderInArms (number_by numbers.now) function.now }
+    requires rises { Rises (list_in numbers.now) }
+    ensures { IfOk result (λ renamed. renamed ≡ option_map (renamed_arms (number_by numbers.now)) function.now) }
 {
     match function {
         None => Ok(None),
@@ -52,20 +98,24 @@ fn rename_function(
     }
 }
 
-fn rename_field(alloc: Global, field: &FieldSet, numbers: &[usize]) -> Result<FieldSet, Memory>
-    requires low { IsBelow (Contains field.now.set) (length numbers.now) }
-    requires rises { Rises numbers.now }
-    ensures { IfOk result (λ renamed. renamed ≡ renamed_field (number_of numbers.now) field.now) }
+fn rename_field(alloc: Global, field: &FieldSet, numbers: &Numbers<'_>) -> Result<FieldSet, Memory>
+    requires order { KeepsOrder (number_by numbers.now) field.now.set }
+    requires rises { Rises (list_in numbers.now) }
+    ensures { IfOk result (λ renamed. renamed ≡ renamed_field (number_by numbers.now) field.now) }
 {
     let label = field.label.clone()?;
     let set = rename_set(alloc, &field.set, numbers)?;
     Ok(FieldSet { label, set })
 }
 
-fn rename_fields(alloc: Global, fields: &[FieldSet], numbers: &[usize]) -> Result<FieldSets, Memory>
-    requires low { IsBelow (InAnyField fields.now) (length numbers.now) }
-    requires rises { Rises numbers.now }
-    ensures { IfOk result (λ renamed. renamed ≡ map (renamed_field (number_of numbers.now)) fields.now) }
+fn rename_fields(
+    alloc: Global,
+    fields: &[FieldSet],
+    numbers: &Numbers<'_>,
+) -> Result<FieldSets, Memory>
+    requires order { All (λ (field : FieldSet). KeepsOrder (number_by numbers.now) field.set) fields.now }
+    requires rises { Rises (list_in numbers.now) }
+    ensures { IfOk result (λ renamed. renamed ≡ map (renamed_field (number_by numbers.now)) fields.now) }
 {
     let mut renamed = FieldSets::new(alloc);
     for field in fields {
@@ -78,11 +128,11 @@ fn rename_fields(alloc: Global, fields: &[FieldSet], numbers: &[usize]) -> Resul
 fn rename_record(
     alloc: Global,
     fields: &Option<FieldSets>,
-    numbers: &[usize],
+    numbers: &Numbers<'_>,
 ) -> Result<Option<FieldSets>, Memory>
-    requires low { IsBelow (InRecord fields.now) (length numbers.now) }
-    requires rises { Rises numbers.now }
-    ensures { IfOk result (λ renamed. renamed ≡ option_map (map (renamed_field (number_of numbers.now))) fields.now) }
+    requires order { KeepsOrderInFields (number_by numbers.now) fields.now }
+    requires rises { Rises (list_in numbers.now) }
+    ensures { IfOk result (λ renamed. renamed ≡ option_map (map (renamed_field (number_by numbers.now))) fields.now) }
 {
     match fields {
         None => Ok(None),
@@ -94,10 +144,10 @@ fn rename_record(
 }
 
 // The head with the new numbers.
-pub fn rename_head(alloc: Global, head: &Head, numbers: &[usize]) -> Result<Head, Memory>
-    requires low { IsBelow (HeadNames head.now) (length numbers.now) }
-    requires rises { Rises numbers.now }
-    ensures { IfOk result (λ renamed. renamed ≡ renamed_head (number_of numbers.now) head.now) }
+pub fn rename_head(alloc: Global, head: &Head, numbers: &Numbers<'_>) -> Result<Head, Memory>
+    requires order { KeepsOrderInHead (number_by numbers.now) head.now }
+    requires rises { Rises (list_in numbers.now) }
+    ensures { IfOk result (λ renamed. renamed ≡ renamed_head (number_by numbers.now) head.now) }
 {
     let function = rename_function(alloc, &head.function, numbers)?;
     let fields = rename_record(alloc, &head.fields, numbers)?;

@@ -62,7 +62,7 @@ fn touched(alloc: Global, found: &Found, a: &Automaton) -> Result<BTreeSet<usize
 }
 
 // Inserts these numbers.
-fn insert_all(set: &mut BTreeSet<usize>, numbers: &[usize]) -> Result<(), Memory>
+pub(crate) fn insert_all(set: &mut BTreeSet<usize>, numbers: &[usize]) -> Result<(), Memory>
     ensures { OnOk result ((j : ℕ) → Contains set.new.keys j ↔ Contains set.old.keys j ⊎ Contains numbers.now j) }
 {
     for number in numbers {
@@ -113,7 +113,7 @@ fn change_of(alloc: Global, found: &Found, a: &Automaton, s: StateId) -> Result<
 }
 
 // The members of a set in order.
-fn listed(alloc: Global, set: &BTreeSet<usize>) -> Result<Vec<usize>, Memory>
+pub(crate) fn listed(alloc: Global, set: &BTreeSet<usize>) -> Result<Vec<usize>, Memory>
     ensures { IfOk result (λ list. list.items ≡ set.now.keys) }
 {
     let mut list = Vec::new(alloc);

@@ -127,3 +127,25 @@ fn tells_the_first_clash(rt: HostRuntime) -> Result<(), Fail> {
     }
     Ok(())
 }
+
+#[test]
+fn lists_the_ends_of_edges(rt: HostRuntime) -> Result<(), Fail> {
+    let mut live = sample(&rt, rt.alloc())?;
+    link(&rt, &mut live, 3, 0)?;
+    link(&rt, &mut live, 1, 0)?;
+    assert!(rt; live.is_state(StateId(1), Polarity::Negative));
+    assert_eq!(rt; live.after(StateId(1)).as_slice(), [0, 2].as_slice());
+    Ok(())
+}
+
+#[test]
+fn copies_the_table(rt: HostRuntime) -> Result<(), Fail> {
+    let mut live = sample(&rt, rt.alloc())?;
+    let copy = live.copied()?;
+    insert(&mut live, Polarity::Positive, false, false)?;
+    assert!(rt; copy.len() == 4);
+    assert!(rt; copy.head(StateId(0)).integer && !copy.head(StateId(2)).integer);
+    assert_eq!(rt; copy.polarity(StateId(3)), Polarity::Negative);
+    assert_eq!(rt; copy.flows().len(), 1);
+    Ok(())
+}

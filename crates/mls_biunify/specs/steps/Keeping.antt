@@ -1,15 +1,26 @@
 -- What a walk over a table has found, and the states that stay.
-use Rattle.std.specs.Prelude.{◌≡◌, ◌⊎◌, ◌↔◌, ℕ, Bool, true, false, List, length, get_or, Contains}
+use Rattle.std.specs.Prelude.{◌≡◌, ◌⊎◌, ◌↔◌, ℕ, Bool, true, false, List, map, length, get_or, Contains}
+use Rattle.std.specs.List.{range_with_len}
 use Rattle.mls_automaton.specs.declared.state_set.StateId.{StateId}
 use Rattle.mls_automaton.specs.Automata.{HasFlow, empty_head, head_at, state_at}
 use Rattle.mls_automaton.specs.Reached.{Names}
-use Rattle.mls_automaton.specs.steps.Searching.{Found, IsMarked}
+use Rattle.mls_automaton.specs.steps.Searching.{Found, Grows, IsBelow, IsMarked}
 use Rattle.mls_biunify.specs.Live.{IsReachedFrom}
 use Rattle.mls_biunify.specs.declared.reach.Search.{Search}
+use Rattle.mls_biunify.specs.steps.Among.{is_among}
 use Rattle.mls_biunify.specs.steps.Tables.{Numbered}
 
-abbrev pub search_of : Search → Found
-search_of s = record { marks = s.marks.items; work = s.work.items }
+-- whether each number below the limit is among these
+abbrev pub marks_below : ℕ → List ℕ → List Bool
+marks_below limit numbers = map (is_among numbers) (range_with_len 0 limit)
+
+-- a search, where all that is to be found is below the limit
+abbrev pub found_of : ℕ → Search → Found
+found_of limit s = record { marks = marks_below limit s.found.keys; work = s.work.items }
+
+-- the states of this kind were found, and nothing else was; what is new is to be looked at
+abbrev pub Finds : Search → Search → (ℕ → Type 0) → Type 0
+Finds old new IsOne = (limit : ℕ) → IsBelow IsOne limit → Grows (found_of limit old) (found_of limit new) IsOne
 
 abbrev pub InRoots : List StateId → ℕ → Type 0
 InRoots roots j = (root : StateId) × Contains roots root × (root.0 ≡ j)
@@ -23,13 +34,9 @@ pub record IsSearch (t : Numbered) (roots : List StateId) (s : Found) : Type 0 w
   pub work : (j : ℕ) → Contains s.work j → IsMarked s j
   pub closed : (i : ℕ) → IsMarked s i → Contains s.work i ⊎ ((j : ℕ) → Names t.automaton i j → IsMarked s j)
 
--- just the states that are reached are marked
-abbrev pub AreReached : Numbered → List StateId → List Bool → Type 0
-AreReached t roots marks = (j : ℕ) → (get_or marks j false ≡ true) ↔ IsReachedFrom t.automaton roots j
-
--- the state is there and has no mark
-abbrev pub IsUnmarked : Numbered → List Bool → ℕ → Type 0
-IsUnmarked t marks s = (get_or t.there s false ≡ true) × (get_or marks s false ≡ false)
+-- the state is one of these, and was not found
+abbrev pub IsUnfound : List ℕ → List ℕ → ℕ → Type 0
+IsUnfound states found s = Contains states s × (Contains found s → ⊥)
 
 -- the edge begins or ends at one of these states
 abbrev pub IsEdgeAtOne : Numbered → List ℕ → ℕ × ℕ → Type 0
@@ -42,9 +49,13 @@ pub record EmptiesHeads (old : Numbered) (states : List ℕ) (new : Numbered) : 
   pub empty : (s : ℕ) → Contains states s → head_at new.automaton s ≡ empty_head
   pub others : (s : ℕ) → (Contains states s → ⊥) → state_at new.automaton s ≡ state_at old.automaton s
 
--- just the states that are reached stay, as they were, with the edges between them
-pub record KeepsReached (old : Numbered) (roots : List StateId) (new : Numbered) : Type 0 where
-  pub there : (s : ℕ) → get_or new.there s false ≡ true ↔ IsReachedFrom old.automaton roots s
-  pub states : (s : ℕ) → IsReachedFrom old.automaton roots s → state_at new.automaton s ≡ state_at old.automaton s
-  pub flows : (n p : ℕ) → HasFlow new.automaton n p
-      ↔ HasFlow old.automaton n p × IsReachedFrom old.automaton roots n × IsReachedFrom old.automaton roots p
+-- just the states of this kind stay, as they were, with the edges between them
+pub record KeepsStates (old : Numbered) (IsKept : ℕ → Type 0) (new : Numbered) : Type 0 where
+  pub there : (s : ℕ) → get_or new.there s false ≡ true ↔ IsKept s
+  pub states : (s : ℕ) → IsKept s → state_at new.automaton s ≡ state_at old.automaton s
+  pub flows : (n p : ℕ) → HasFlow new.automaton n p ↔ HasFlow old.automaton n p × IsKept n × IsKept p
+
+-- the state is there, and is reached or is none of these
+abbrev pub StaysAmong : Numbered → List ℕ → List StateId → ℕ → Type 0
+StaysAmong t states roots s =
+    (get_or t.there s false ≡ true) × (IsReachedFrom t.automaton roots s ⊎ (Contains states s → ⊥))

@@ -1,7 +1,7 @@
 use Rattle.std.proofs.Common.{◌≡◌, ◌++◌, ◌∷◌, ◌∙◌, ℕ, List, [], sym, subst}
 use Rattle.mls_automaton.proofs.Refusals.{refused, accepted}
 use Rattle.mls_biunify.specs.Live.{free_state}
-use Rattle.mls_biunify.specs.steps.Absorbing.{AreDistinct, AreLoose, RemovesStates}
+use Rattle.mls_biunify.specs.steps.Absorbing.{AreLoose, RemovesStates}
 use Rattle.mls_biunify.specs.steps.Tables.{InsertsState}
 use Rattle.mls_biunify.proofs.Claiming.{AreClaiming, claiming-none, claiming-more, claims-kept, claimed-loose, released-none}
 use Rattle.mls_biunify.proofs.absorb.claim_all.Goals as goal
@@ -14,12 +14,8 @@ loop-preserved c =
     let it = accepted c.claim.result ((s : ℕ) × InsertsState c.loop.table c.claim.new.table s free_state × (c.claim.new.numbers.items ≡ c.loop.numbers.items ++ s ∷ [])) (sym c.is_err.ensures.value ∙ c.if-is_err.false) c.claim.ensures.ok in
     claiming-more c.args.table.now c.loop.table c.claim.new.table c.loop.numbers.items c.claim.new.numbers.items c.loop.counter it.0 c.loop.invariant it.1 it.2
 
-pub remove_all-requires-clause-distinct : goal.remove_all-requires-clause-distinct
-remove_all-requires-clause-distinct c =
-    subst AreDistinct (sym (refused c.claim.result (c.claim.new.numbers.items ≡ c.loop.numbers.items) (sym c.is_err.ensures.value ∙ c.if-is_err.true) c.claim.ensures.noted)) c.loop.invariant.distinct
-
-pub remove_all-requires-clause-loose : goal.remove_all-requires-clause-loose
-remove_all-requires-clause-loose c =
+pub remove_all-requires : goal.remove_all-requires
+remove_all-requires c =
     subst (AreLoose c.claim.new.table) (sym (refused c.claim.result (c.claim.new.numbers.items ≡ c.loop.numbers.items) (sym c.is_err.ensures.value ∙ c.if-is_err.true) c.claim.ensures.noted))
     (claimed-loose c.args.table.now c.claim.new.table c.loop.numbers.items c.limit-limit.ensures.is
     (claims-kept c.args.table.now c.loop.table c.claim.new.table c.loop.numbers.items

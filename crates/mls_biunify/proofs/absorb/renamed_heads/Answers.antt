@@ -4,13 +4,15 @@ use Rattle.mls_automaton.specs.Embeddings.{renamed_head}
 use Rattle.mls_biunify.specs.Live.{number_of}
 use Rattle.mls_biunify.specs.steps.Absorbing.{AreRenamedHeads, renamed_at}
 use Rattle.mls_biunify.proofs.Filling.{names-numbered, upto-none, upto-more}
+use Rattle.mls_biunify.proofs.Renames.{head-order}
 use Rattle.mls_biunify.proofs.absorb.renamed_heads.Goals as goal
 
 pub loop-i-init : goal.loop-i-init
 loop-i-init c = upto-none (renamed_at c.args.a.now c.args.numbers.now) c.new-heads.result.items c.new-heads.ensures.items
 
-pub rename_head-requires-clause-low : goal.rename_head-requires-clause-low
-rename_head-requires-clause-low c = names-numbered c.args.a.now c.args.numbers.now c.requires.closed c.requires.count c.loop-i.i c.head.result.now c.head.ensures
+pub rename_head-requires-clause-order : goal.rename_head-requires-clause-order
+rename_head-requires-clause-order c =
+    head-order c.args.numbers.now c.head.result.now c.requires.rises (names-numbered c.args.a.now c.args.numbers.now c.requires.closed c.requires.count c.loop-i.i c.head.result.now c.head.ensures)
 
 pub loop-i-preserved : goal.loop-i-preserved
 loop-i-preserved c =

@@ -1,34 +1,11 @@
-use Rattle.std.proofs.Common.{◌≡◌, ◌↔◌, ℕ, List, Bool, true, false, Contains, get_or, sym, subst}
-use Rattle.mls_biunify.specs.steps.Keeping.{EmptiesHeads, IsEdgeAtOne, IsUnmarked}
-use Rattle.mls_biunify.specs.steps.Settlement.{Unlinks}
-use Rattle.mls_biunify.proofs.KeptTables.{edges-there, gone-loose, keeps-reached}
+use Rattle.mls_biunify.proofs.KeptTables.{all-heads, all-kept, all-there}
 use Rattle.mls_biunify.proofs.keep.keep_reached.Goals as goal
 
-pub unlink_all-requires : goal.unlink_all-requires
-unlink_all-requires c =
-    subst (λ (xs : List (ℕ × ℕ)). (n p : ℕ) → Contains xs (n, p) → (get_or c.args.table.now.there n false ≡ true) × (get_or c.args.table.now.there p false ≡ true)) (sym c.as_slice-3.ensures.value)
-    (edges-there c.args.table.now c.limit-limit.ensures.is c.args.roots.now c.requires c.in_ok-marks.marks.items c.in_ok-marks.ensures.marks c.in_ok-gone.gone.items
-    (subst (λ (bits : List Bool). (s : ℕ) → Contains c.in_ok-gone.gone.items s ↔ IsUnmarked c.args.table.now bits s) c.as_slice.ensures.value c.in_ok-gone.ensures.members)
-    c.in_ok-edges.edges.items
-    (subst (λ (xs : List ℕ). (x : ℕ × ℕ) → Contains c.in_ok-edges.edges.items x ↔ IsEdgeAtOne c.args.table.now xs x) c.as_slice-2.ensures.value c.in_ok-edges.ensures))
+pub keep_among-requires-clause-states : goal.keep_among-requires-clause-states
+keep_among-requires-clause-states c = all-there c.args.table.now c.limit-limit.ensures.is c.in_ok-all.all c.as_slice.result.now c.as_slice.ensures.members c.in_ok-all.ensures
 
-pub remove_all-requires-clause-loose : goal.remove_all-requires-clause-loose
-remove_all-requires-clause-loose c =
-    gone-loose c.args.table.now c.limit-limit.ensures.is c.args.roots.now c.requires c.in_ok-marks.marks.items c.in_ok-marks.ensures.marks c.in_ok-gone.gone.items
-    (subst (λ (bits : List Bool). (s : ℕ) → Contains c.in_ok-gone.gone.items s ↔ IsUnmarked c.args.table.now bits s) c.as_slice.ensures.value c.in_ok-gone.ensures.members)
-    c.in_ok-edges.edges.items
-    (subst (λ (xs : List ℕ). (x : ℕ × ℕ) → Contains c.in_ok-edges.edges.items x ↔ IsEdgeAtOne c.args.table.now xs x) c.as_slice-2.ensures.value c.in_ok-edges.ensures)
-    c.unlink_all.new.table c.empty_heads.new.table
-    (subst (λ (xs : List (ℕ × ℕ)). Unlinks c.args.table.now xs c.unlink_all.new.table) c.as_slice-3.ensures.value c.unlink_all.ensures)
-    (subst (λ (xs : List ℕ). EmptiesHeads c.unlink_all.new.table xs c.empty_heads.new.table) c.as_slice-4.ensures.value c.empty_heads.ensures)
+pub keep_among-requires-clause-heads : goal.keep_among-requires-clause-heads
+keep_among-requires-clause-heads c = all-heads c.args.table.now c.limit-limit.ensures.is c.in_ok-all.all c.as_slice.result.now c.as_slice.ensures.members c.in_ok-all.ensures
 
 pub returns-clause-ok : goal.returns-clause-ok
-returns-clause-ok c =
-    keeps-reached c.args.table.now c.limit-limit.ensures.is c.args.roots.now c.requires c.in_ok-marks.marks.items c.in_ok-marks.ensures.marks c.in_ok-gone.gone.items
-    (subst (λ (bits : List Bool). (s : ℕ) → Contains c.in_ok-gone.gone.items s ↔ IsUnmarked c.args.table.now bits s) c.as_slice.ensures.value c.in_ok-gone.ensures.members)
-    c.in_ok-edges.edges.items
-    (subst (λ (xs : List ℕ). (x : ℕ × ℕ) → Contains c.in_ok-edges.edges.items x ↔ IsEdgeAtOne c.args.table.now xs x) c.as_slice-2.ensures.value c.in_ok-edges.ensures)
-    c.unlink_all.new.table c.empty_heads.new.table
-    (subst (λ (xs : List (ℕ × ℕ)). Unlinks c.args.table.now xs c.unlink_all.new.table) c.as_slice-3.ensures.value c.unlink_all.ensures)
-    (subst (λ (xs : List ℕ). EmptiesHeads c.unlink_all.new.table xs c.empty_heads.new.table) c.as_slice-4.ensures.value c.empty_heads.ensures)
-    c.remove_all.new.table c.remove_all.ensures.removes
+returns-clause-ok c = all-kept c.args.table.now c.limit-limit.ensures.is c.in_ok-all.all c.as_slice.result.now c.as_slice.ensures.members c.in_ok-all.ensures c.args.roots.now c.requires c.keep_among.new.table c.in_ok-keep_among.ensures.ok

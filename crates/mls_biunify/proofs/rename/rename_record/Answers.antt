@@ -1,7 +1,7 @@
-use Rattle.std.proofs.Common.{List, subst}
-use Rattle.mls_automaton.specs.declared.automaton.FieldSet.{FieldSet}
-use Rattle.mls_automaton.specs.Reached.{InAnyField}
+use Rattle.mls_automaton.proofs.Renumbered.{fields-order}
+use Rattle.mls_biunify.specs.steps.Renaming.{number_by}
 use Rattle.mls_biunify.proofs.rename.rename_record.Goals as goal
 
-pub rename_fields-requires-clause-low : goal.rename_fields-requires-clause-low
-rename_fields-requires-clause-low c = λ j it. c.requires.low j (_, c.in-Some.is, subst (λ (xs : List FieldSet). InAnyField xs j) c.as_slice.ensures it)
+pub rename_fields-requires-clause-order : goal.rename_fields-requires-clause-order
+rename_fields-requires-clause-order c =
+    fields-order (number_by c.args.numbers.now) c.args.fields.now _ c.as_slice.result.now c.in-Some.is c.as_slice.ensures c.requires.order

@@ -11,4 +11,4 @@ keep_reached-requires c = subst (λ (live : Live). All (λ (root : StateId). IsT
 pub returns-clause-kept : goal.returns-clause-kept
 returns-clause-kept c =
     subst (λ (live : Live). KeepsThere live (live_of (record { table = c.keep_reached.new.table; relation = c.self.inside.relation; is_solved = false; is_ready = false })) (IsReachedFrom live.table c.args.roots.now)) c.self.view_is
-    (kept-live c.self.inside.table c.keep_reached.new.table c.args.roots.now c.self.inside.relation c.self.inside.is_solved c.self.inside.is_ready c.in_ok-keep_reached.ensures.ok)
+    (kept-live c.self.inside.table c.keep_reached.new.table (IsReachedFrom c.self.inside.table.automaton c.args.roots.now) c.self.inside.relation c.self.inside.is_solved c.self.inside.is_ready c.in_ok-keep_reached.ensures.ok)

@@ -1,12 +1,13 @@
-use Rattle.std.proofs.Common.{◌≡◌, ◌∙◌, ℕ, true, false, sym, subst, List}
-use Rattle.std.proofs.lemmas.List.{get_or_default}
-use Rattle.std.proofs.Math.ListN.{set}
-use Rattle.mls_automaton.specs.steps.Searching.{Grows}
-use Rattle.mls_biunify.specs.steps.Keeping.{search_of}
-use Rattle.mls_automaton.proofs.Searches.{grows-one}
+use Rattle.std.proofs.Common.{◌≡◌, refl, subst}
+use Rattle.std.specs.Bool.{OnFalse}
+use Rattle.mls_biunify.proofs.FoundStates.{finds-none, finds-one}
 use Rattle.mls_biunify.proofs.reach.Search.mark.Goals as goal
+
+pub returns-then-not-is_new : goal.returns-then-not-is_new
+returns-then-not-is_new c =
+    finds-none c.args.self.now (record { found = c.insert.new.self; work = c.args.self.now.work }) c.args.s c.in_ok-is_new.is_new c.in_ok-is_new.ensures.added c.if-not-is_new.true
+    (subst (λ b. OnFalse b (c.insert.new.self.keys ≡ c.args.self.now.found.keys)) c.if-not-is_new.true c.in_ok-is_new.ensures.unchanged) refl
 
 pub returns : goal.returns
 returns c =
-    subst (λ (work : List ℕ). Grows (search_of c.args.self.now) (record { marks = set c.args.self.now.marks.items c.args.s true; work = work }) (λ j. j ≡ c.args.s))
-    (sym c.in_ok-push.ensures.items) (grows-one c.args.self.now.marks.items c.args.self.now.work.items c.args.s c.requires (get_or_default c.args.self.now.marks.items c.args.s false c.index.result.now c.requires ∙ sym c.index.ensures ∙ c.if-index.false))
+    finds-one c.args.self.now (record { found = c.insert.new.self; work = c.push.new.self }) c.args.s c.in_ok-is_new.is_new c.in_ok-is_new.ensures.added c.if-not-is_new.false c.in_ok-is_new.ensures.updates c.in_ok-push.ensures.items

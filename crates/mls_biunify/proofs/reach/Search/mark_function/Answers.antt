@@ -1,12 +1,11 @@
-use Rattle.mls_biunify.specs.steps.Keeping.{search_of}
+use Rattle.mls_biunify.specs.steps.Keeping.{found_of}
 use Rattle.mls_automaton.proofs.Searches.{function-none, function-some}
 use Rattle.mls_biunify.proofs.reach.Search.mark_function.Goals as goal
 
 pub returns-in-None : goal.returns-in-None
-returns-in-None c = function-none (search_of c.args.self.now) c.args.function.now c.in-None.is
-
-pub mark_arms-requires : goal.mark_arms-requires
-mark_arms-requires c = λ j it. c.requires j (_, c.in-Some.is, it)
+returns-in-None c = λ limit below. function-none (found_of limit c.args.self.now) c.args.function.now c.in-None.is
 
 pub returns-in_ok-mark_arms-in-Some : goal.returns-in_ok-mark_arms-in-Some
-returns-in_ok-mark_arms-in-Some c = function-some (search_of c.args.self.now) (search_of c.mark_arms.new.self) c.args.function.now _ c.in-Some.is c.in_ok-mark_arms-in-Some.ensures
+returns-in_ok-mark_arms-in-Some c = λ limit below.
+    function-some (found_of limit c.args.self.now) (found_of limit c.mark_arms.new.self) c.args.function.now _ c.in-Some.is
+    (c.in_ok-mark_arms-in-Some.ensures limit (λ j it. below j (_, c.in-Some.is, it)))
