@@ -15,7 +15,7 @@ use Rattle.mls_deriv.specs.declared.derivation.SectionLine.TheVariants as line
 use Rattle.mls_deriv.specs.declared.table.Table.{Table}
 use Rattle.mls_deriv.specs.Pairs.{Put, Pair, Claims, put_at}
 use Rattle.mls_deriv.specs.Steps.{puts_of, pairs_of}
-use Rattle.mls_deriv.specs.inner.Tables.{numbers_cmp, Holds, put_in, or_else, AddsPair, Adds, IsTableWith, IsTableOf}
+use Rattle.mls_deriv.specs.inner.Tables.{numbers_cmp, Holds, put_in, or_else, AddsPair, RemovesPair, Adds, IsTableWith, IsTableOf}
 use Rattle.mls_deriv.proofs.ScopedNames.{first_or_later}
 
 both_equal : (o p : Ordering) → is_eq (ordering_then o p) ≡ true → (o ≡ Equal) × (p ≡ Equal)
@@ -59,6 +59,48 @@ set_added i j old new updates k l =
         let second : nat_cmp j l ≡ Equal = tied j l e.1 in
         let equal : is_eq (numbers_cmp (i, j) (k, l)) ≡ true = λ n. is_eq (ordering_then (first n) (second n)) in
         ap (λ b. cond b true (contains numbers_cmp old (k, l))) equal
+
+-- and with one less
+set_removed : (i j : ℕ) (old new : BTreeSet (ℕ × ℕ)) → Updates numbers_cmp old new (i, j) false → (k l : ℕ)
+    → IsTrue (contains numbers_cmp new (k, l)) ↔ (IsTrue (contains numbers_cmp old (k, l)) × ((i ≡ k) × (j ≡ l) → ⊥))
+set_removed i j old new updates k l =
+    let same : contains numbers_cmp new (k, l) ≡ cond (is_eq (numbers_cmp (i, j) (k, l))) false (contains numbers_cmp old (k, l)) = updates.0 (k, l) in (
+      λ h. left (is_eq (numbers_cmp (i, j) (k, l))) refl (sym same ∙ h),
+      λ h. same ∙ back (is_eq (numbers_cmp (i, j) (k, l))) refl h,
+    )
+  where
+    equal : is_eq (numbers_cmp (i, j) (k, l)) ≡ true → (i ≡ k) × (j ≡ l)
+    equal e =
+        let both = both_equal (nat_cmp i k) (nat_cmp j l) e in
+        (nat_cmp-IsAntisymmetric i k both.0, nat_cmp-IsAntisymmetric j l both.1)
+
+    other : is_eq (numbers_cmp (i, j) (k, l)) ≡ false → (i ≡ k) × (j ≡ l) → ⊥
+    other apart e =
+        let first : nat_cmp i k ≡ Equal = tied i k e.0 in
+        let second : nat_cmp j l ≡ Equal = tied j l e.1 in
+        let yes : is_eq (numbers_cmp (i, j) (k, l)) ≡ true = λ n. is_eq (ordering_then (first n) (second n)) in
+        absurd (cc)
+
+    left : (b : Bool) → is_eq (numbers_cmp (i, j) (k, l)) ≡ b → cond b false (contains numbers_cmp old (k, l)) ≡ true
+        → IsTrue (contains numbers_cmp old (k, l)) × ((i ≡ k) × (j ≡ l) → ⊥)
+    left true e h = absurd (cc)
+    left false e h = (h, other e)
+
+    back : (b : Bool) → is_eq (numbers_cmp (i, j) (k, l)) ≡ b → IsTrue (contains numbers_cmp old (k, l)) × ((i ≡ k) × (j ≡ l) → ⊥)
+        → cond b false (contains numbers_cmp old (k, l)) ≡ true
+    back true e h = absurd (h.1 (equal e))
+    back false e h = h.0
+
+-- a pair of this mode that is not this one
+not_here : (A B P Q : Type 0) (m : Mode) → A ↔ (B × (P × Q → ⊥)) → A ↔ (B × ((m ≡ m) × P × Q → ⊥))
+not_here A B P Q m h = (
+  λ a. ((h.0 a).0, λ e. (h.0 a).1 (e.1, e.2)),
+  λ b. h.1 (b.0, λ e. b.1 (refl, e.0, e.1)),
+)
+
+-- a pair of another mode
+not_elsewhere : (A P Q : Type 0) (m n : Mode) → (m ≡ n → ⊥) → A ↔ (A × ((m ≡ n) × P × Q → ⊥))
+not_elsewhere A P Q m n other = (λ a. (a, λ e. other e.0), λ h. h.0)
 
 -- the pair is of this mode
 here : (A B P Q : Type 0) (m : Mode) → A ↔ (B ⊎ (P × Q)) → A ↔ (B ⊎ ((m ≡ m) × P × Q))
@@ -107,6 +149,30 @@ module _ (puts : BTreeMap ℕ ℕ) (lr rl pp set : BTreeSet (ℕ × ℕ)) (i j :
       go Lr k l = elsewhere _ _ _ Pp Lr (λ e. absurd (cc))
       go Rl k l = elsewhere _ _ _ Pp Rl (λ e. absurd (cc))
       go Pp k l = here _ _ _ _ Pp (set_added i j pp set updates k l)
+
+  pub lr_removed : Updates numbers_cmp lr set (i, j) false → RemovesPair Lr i j old (record { puts = puts; lr = set; rl = rl; pp = pp })
+  lr_removed updates = (go, λ y. refl)
+    where
+      go : (m : Mode) (k l : ℕ) → Holds (record { puts = puts; lr = set; rl = rl; pp = pp }) m k l ↔ Holds old m k l × ((Lr ≡ m) × (i ≡ k) × (j ≡ l) → ⊥)
+      go Lr k l = not_here _ _ _ _ Lr (set_removed i j lr set updates k l)
+      go Rl k l = not_elsewhere _ _ _ Lr Rl (λ e. absurd (cc))
+      go Pp k l = not_elsewhere _ _ _ Lr Pp (λ e. absurd (cc))
+
+  pub rl_removed : Updates numbers_cmp rl set (i, j) false → RemovesPair Rl i j old (record { puts = puts; lr = lr; rl = set; pp = pp })
+  rl_removed updates = (go, λ y. refl)
+    where
+      go : (m : Mode) (k l : ℕ) → Holds (record { puts = puts; lr = lr; rl = set; pp = pp }) m k l ↔ Holds old m k l × ((Rl ≡ m) × (i ≡ k) × (j ≡ l) → ⊥)
+      go Lr k l = not_elsewhere _ _ _ Rl Lr (λ e. absurd (cc))
+      go Rl k l = not_here _ _ _ _ Rl (set_removed i j rl set updates k l)
+      go Pp k l = not_elsewhere _ _ _ Rl Pp (λ e. absurd (cc))
+
+  pub pp_removed : Updates numbers_cmp pp set (i, j) false → RemovesPair Pp i j old (record { puts = puts; lr = lr; rl = rl; pp = set })
+  pp_removed updates = (go, λ y. refl)
+    where
+      go : (m : Mode) (k l : ℕ) → Holds (record { puts = puts; lr = lr; rl = rl; pp = set }) m k l ↔ Holds old m k l × ((Pp ≡ m) × (i ≡ k) × (j ≡ l) → ⊥)
+      go Lr k l = not_elsewhere _ _ _ Pp Lr (λ e. absurd (cc))
+      go Rl k l = not_elsewhere _ _ _ Pp Rl (λ e. absurd (cc))
+      go Pp k l = not_here _ _ _ _ Pp (set_removed i j pp set updates k l)
 
 -- a list with one more pair in front
 claims_more : (mode : Mode) (i j : ℕ) (pairs : List Pair) (m : Mode) (k l : ℕ)

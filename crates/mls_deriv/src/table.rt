@@ -1,6 +1,6 @@
 //! The pairs that follow a step and the nodes of its variables, to be looked up.
 ghost use Rattle.std.specs.Prelude.{◌≡◌, ◌↔◌, ◌∷◌, IfOk, OnOk, IsTrue, None, drop};
-ghost use Rattle.mls_deriv.specs.inner.Tables.{AddsPair, AddsPut, Adds, Holds, IsTableOf, put_in};
+ghost use Rattle.mls_deriv.specs.inner.Tables.{AddsPair, AddsPut, Adds, Holds, IsTableOf, RemovesPair, put_in};
 
 use crate::derivation::{Mode, SectionLine};
 use mls_base::memory::Memory;
@@ -48,8 +48,12 @@ impl Table {
         self.puts.get(&variable).copied()
     }
 
-    // Adds a pair.
-    fn add_pair(&mut self, mode: Mode, left: usize, right: usize) -> Result<(), Memory>
+    /// Adds a pair.
+    ///
+    /// # Errors
+    ///
+    /// `Memory` where memory is wanting.
+    pub fn add_pair(&mut self, mode: Mode, left: usize, right: usize) -> Result<(), Memory>
         ensures { OnOk result (AddsPair mode left right self.old self.new) }
     {
         match mode {
@@ -58,6 +62,17 @@ impl Table {
             Mode::Pp => self.pp.insert((left, right))?,
         };
         Ok(())
+    }
+
+    /// Takes out a pair, if it is there.
+    pub fn remove(&mut self, mode: Mode, left: usize, right: usize)
+        ensures { RemovesPair mode left right self.old self.new }
+    {
+        match mode {
+            Mode::Lr => self.lr.remove(&(left, right)),
+            Mode::Rl => self.rl.remove(&(left, right)),
+            Mode::Pp => self.pp.remove(&(left, right)),
+        };
     }
 
     // Adds the node of a variable, unless it has one.

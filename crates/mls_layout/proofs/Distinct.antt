@@ -1,46 +1,54 @@
--- Nodes without those that stand twice.
---     marked_none, marked_there, marked_new       what is marked stands in the list
---     there_gathered                              a node that is marked is gathered
---     distinct_same                               the members of a list, one after another
-use Rattle.std.proofs.Common.{◌≡◌, ◌⊎◌, inl, inr, ℕ, Bool, true, false, List, [], ◌∷◌, ◌++◌, refl, sym, ◌∙◌, subst, cond}
-use Rattle.std.specs.Prelude.{◌↔◌, IsTrue}
-use Rattle.std.specs.FinMap.{nat_cmp-IsAntisymmetric}
-use Rattle.std.specs.BTreeSet.{BTreeSet, contains, Updates}
-use Rattle.std.specs.Ordering.{nat_cmp, is_eq}
-use Rattle.std.specs.declared.cmp.Ordering.{Ordering}
-use Rattle.std.specs.declared.cmp.Ordering.TheVariants.{Less, Equal, Greater}
-use Rattle.std.proofs.lemmas.List.Elements.{Contains-append_left, Contains-push}
+-- Nodes without those that stand twice, in order.
+--     numbers_none, numbers_more, numbers_all     the numbers of a list, one after another
+--     nodes_more, nodes_are                       the nodes of numbers
+use Rattle.std.proofs.Common.{◌≡◌, ◌<◌, ◌+◌, ◌⊎◌, inl, inr, ℕ, zero, suc, List, [], ◌∷◌, ◌++◌, length, take, map, refl, sym, ap, subst, arith}
+use Rattle.std.specs.Prelude.{◌↔◌, Contains, get_or}
+use Rattle.std.proofs.lemmas.List.{take_more}
+use Rattle.std.proofs.lemmas.List.Elements.{Contains-append_cases, Contains-append_left, Contains-push}
 use Rattle.mls_book.specs.declared.book.NodeId.{NodeId}
 use Rattle.mls_layout.specs.Trees.{IsNodeIn}
-use Rattle.mls_layout.specs.steps.Sources.{Gathers, HasMarked}
-use Rattle.mls_layout.proofs.Gathering.{BySome}
+use Rattle.mls_layout.specs.steps.Sources.{node_id}
 
-is_equal : (o : Ordering) → is_eq o ≡ true → o ≡ Equal
-is_equal Less e = absurd (cc)
-is_equal Equal e = refl
-is_equal Greater e = absurd (cc)
+-- the numbers of these nodes
+abbrev pub AreNumbersOf : List NodeId → List ℕ → Type 0
+AreNumbersOf ids numbers = (i : ℕ) → Contains numbers i ↔ IsNodeIn ids i
 
--- a set with one more number
-number_marked : (k : ℕ) (old new : BTreeSet ℕ) → Updates nat_cmp old new k true → (q : ℕ) → IsTrue (contains nat_cmp new q) → IsTrue (contains nat_cmp old q) ⊎ (k ≡ q)
-number_marked k old new updates q h =
-    let same : contains nat_cmp new q ≡ cond (is_eq (nat_cmp k q)) true (contains nat_cmp old q) = updates.0 q in
-    go (is_eq (nat_cmp k q)) refl (sym same ∙ h)
+pub numbers_more : (ids : List NodeId) (k : ℕ) (d : NodeId) (old new : List ℕ) → k < length ids → AreNumbersOf (take k ids) old → ((i : ℕ) → Contains new i ↔ (i ≡ (get_or ids k d).0) ⊎ Contains old i)
+    → AreNumbersOf (take (k + 1) ids) new
+numbers_more ids k d old new low are adds i =
+    subst (λ (ns : List NodeId). Contains new i ↔ IsNodeIn ns i) (sym (take_more ids k d low)) (
+      λ there. to ((adds i).0 there),
+      λ there. (adds i).1 (from (Contains-append_cases (take k ids) (id ∷ []) (node_id i) there)),
+    )
   where
-    go : (b : Bool) → is_eq (nat_cmp k q) ≡ b → cond b true (contains nat_cmp old q) ≡ true → IsTrue (contains nat_cmp old q) ⊎ (k ≡ q)
-    go true e h = inr (nat_cmp-IsAntisymmetric k q (is_equal (nat_cmp k q) e))
-    go false e h = inl h
+    id : NodeId
+    id = get_or ids k d
 
-pub marked_new : (ids new : List NodeId) (old marked : BTreeSet ℕ) (id : NodeId) → HasMarked ids old → Updates nat_cmp old marked id.0 true → new ≡ ids ++ id ∷ [] → HasMarked new marked
-marked_new ids new old marked id has updates is i it = elim (number_marked id.0 old marked updates i it) [
-  | inl before ↦ subst (λ (ns : List NodeId). IsNodeIn ns i) (sym is) (Contains-append_left ids (id ∷ []) (record { 0 = i }) (has i before))
-  | inr same ↦ subst (λ (ns : List NodeId). IsNodeIn ns i) (sym is) (subst (λ k. IsNodeIn (ids ++ id ∷ []) k) same (Contains-push ids id))
-]
+    to : (i ≡ id.0) ⊎ Contains old i → IsNodeIn (take k ids ++ id ∷ []) i
+    to (inl same) = subst (IsNodeIn (take k ids ++ id ∷ [])) (sym same) (Contains-push (take k ids) id)
+    to (inr before) = Contains-append_left (take k ids) (id ∷ []) (node_id i) ((are i).0 before)
 
-pub there_gathered : (ids : List NodeId) (marked : BTreeSet ℕ) (id : NodeId) → HasMarked ids marked → IsTrue (contains nat_cmp marked id.0) → Gathers (λ i. id.0 ≡ i) ids ids
-there_gathered ids marked id has it i = (
-  λ there. inl there,
-  λ either. elim either [ inl there ↦ there | inr same ↦ subst (IsNodeIn ids) same (has id.0 it) ],
+    from : IsNodeIn (take k ids) i ⊎ Contains (id ∷ []) (node_id i) → (i ≡ id.0) ⊎ Contains old i
+    from (inl before) = inr ((are i).1 before)
+    from (inr (zero, low, e)) = inl (sym (ap (λ (n : NodeId). n.0) e))
+    from (inr (suc j, low, e)) = absurd (omega arith)
+
+pub nodes_more : (numbers : List ℕ) (n : ℕ) → map node_id (numbers ++ n ∷ []) ≡ map node_id numbers ++ node_id n ∷ []
+nodes_more [] n = refl
+nodes_more (m ∷ numbers) n = ap (λ (ns : List NodeId). node_id m ∷ ns) (nodes_more numbers n)
+
+nodes_there : (numbers : List ℕ) (i : ℕ) → Contains numbers i → IsNodeIn (map node_id numbers) i
+nodes_there [] i (k, low, e) = absurd (omega arith)
+nodes_there (m ∷ numbers) i (zero, low, e) = (zero, omega arith, ap node_id e)
+nodes_there (m ∷ numbers) i (suc k, low, e) = let rest = nodes_there numbers i (k, omega (arith, low), e) in (suc rest.0, omega (arith, rest.1), rest.2)
+
+there_nodes : (numbers : List ℕ) (i : ℕ) → IsNodeIn (map node_id numbers) i → Contains numbers i
+there_nodes [] i (k, low, e) = absurd (omega arith)
+there_nodes (m ∷ numbers) i (zero, low, e) = (zero, omega arith, ap (λ (n : NodeId). n.0) e)
+there_nodes (m ∷ numbers) i (suc k, low, e) = let rest = there_nodes numbers i (k, omega (arith, low), e) in (suc rest.0, omega (arith, rest.1), rest.2)
+
+pub nodes_are : (ids left : List NodeId) (numbers : List ℕ) → AreNumbersOf ids numbers → left ≡ map node_id numbers → (i : ℕ) → IsNodeIn left i ↔ IsNodeIn ids i
+nodes_are ids left numbers are is i = (
+  λ there. (are i).0 (there_nodes numbers i (subst (λ (ns : List NodeId). IsNodeIn ns i) is there)),
+  λ there. subst (λ (ns : List NodeId). IsNodeIn ns i) (sym is) (nodes_there numbers i ((are i).1 there)),
 )
-
-pub distinct_same : (ids : List NodeId) (i : ℕ) → BySome ids (λ (id : NodeId) j. id.0 ≡ j) i ↔ IsNodeIn ids i
-distinct_same ids i = (λ w. subst (IsNodeIn ids) w.2 w.1, λ there. (record { 0 = i }, there, refl))

@@ -1,6 +1,8 @@
 -- Trees that are planned.
 --     low_pushed                              a tree more keeps the members low
 --     root_pushed, root_low                   its number
+--     known_none, known_more, known_next      the numbers that are found by sums
+--     known_is, last_of                       a tree that is found, and the last one
 --     extends_none, extends_then, extends_one more trees behind
 --     tree_made, tree_more, tree_as           a planned tree, where there are more trees, and in other words
 --     low_at                                  the members of a tree come before it
@@ -9,7 +11,11 @@
 --     counted_next, root_next, low_next       the parts of planned trees
 --     trees_none, trees_next, trees_more      the trees of the first states
 use Rattle.std.proofs.Common.{◌≡◌, ◌⊎◌, inl, inr, ℕ, zero, suc, ◌+◌, ◌<◌, ◌≤◌, List, [], ◌∷◌, ◌++◌, length, take, refl, sym, ap, ◌∙◌, subst, arith, append-nil, append_assoc, length-append}
-use Rattle.std.specs.Prelude.{All, get_or, ◌↔◌}
+use Rattle.std.specs.Prelude.{◌≢◌, All, get_or, ◌↔◌, Some, None, slice_get}
+use Rattle.std.specs.BTreeMap.{BTreeMap, get}
+use Rattle.std.specs.Ordering.{nat_cmp}
+use Rattle.std.proofs.lemmas.Bool.{cases_eq}
+use Rattle.std.proofs.lemmas.Option.{slice_get_within, slice_get-get_or, get_or_from_slice_get}
 use Rattle.std.proofs.Math.ListN.{get_or-append}
 use Rattle.std.proofs.lemmas.List.{get_or_push}
 use Rattle.std.proofs.lemmas.List.Elements.{All-nil, All-append, All-contains}
@@ -21,7 +27,7 @@ use Rattle.mls_automaton.specs.declared.automaton.Polarity.{Polarity}
 use Rattle.mls_automaton.proofs.Lists.{All-contained}
 use Rattle.mls_layout.specs.declared.tree.PlannedTree.{PlannedTree}
 use Rattle.mls_layout.specs.Trees.{IsTree, IsNodeIn, IsOfTree, AddsTree, tree_size, tree_root}
-use Rattle.mls_layout.specs.steps.Planned.{Planned, sizes, end_of, planned_tree, with_tree, AreLow, IsCounted, IsRootIn, IsRoot, HasTree, Extends, AddsPlanned}
+use Rattle.mls_layout.specs.steps.Planned.{Planned, sizes, end_of, planned_tree, with_tree, AreLow, IsCounted, IsRootIn, IsRoot, IsNumberOf, AreKnown, HasTree, Extends, AddsPlanned}
 use Rattle.mls_layout.specs.steps.Owned.{HaveTrees}
 use Rattle.mls_layout.proofs.TreesMade.{tree_kept, tree_same}
 
@@ -59,11 +65,68 @@ root_cases start at (one ∷ trees) tree p members i e (inr it) =
       | inr last ↦ inr last
     ]
 
+-- the numbers that are found by sums
+pub known_none : (start end : ℕ) (trees : List PlannedTree) (known : BTreeMap ℕ (ℕ × NodeId)) → ((sum : ℕ) → get nat_cmp known sum ≡ None) → AreKnown start end trees known
+known_none start end trees known none sum found is = let not_so : get nat_cmp known sum ≡ None = none sum in absurd (cc)
+
+number_more : (start end next : ℕ) (trees more : List PlannedTree) (found : ℕ × NodeId) → end ≤ next → IsNumberOf start end trees found → IsNumberOf start next (trees ++ more) found
+number_more start end next trees more found le it = record {
+  tree = it.tree;
+  there =
+      let low : found.0 < length trees = slice_get_within trees found.0 it.tree it.there in
+      let all : length (trees ++ more) ≡ length trees + length more = length-append trees more in
+      slice_get-get_or (trees ++ more) found.0 it.tree (omega (arith, low, all))
+      ∙ ap (λ (tree : PlannedTree). Some tree) (get_or-append trees more it.tree found.0 low ∙ get_or_from_slice_get trees found.0 it.tree it.tree it.there);
+  root = root_kept start trees more it.tree.polarity it.tree.members found.1.0 it.root;
+  low = let low : found.1.0 < end = it.low in omega (arith, low, le);
+}
+
+pub known_more : (start end next : ℕ) (trees more new : List PlannedTree) (known : BTreeMap ℕ (ℕ × NodeId)) → end ≤ next → new ≡ trees ++ more → AreKnown start end trees known → AreKnown start next new known
+known_more start end next trees more new known le is all sum found there =
+    subst (λ (ts : List PlannedTree). IsNumberOf start next ts found) (sym is) (number_more start end next trees more found le (all sum found there))
+
+-- one more of them
+pub known_next : (start end : ℕ) (trees : List PlannedTree) (old new : BTreeMap ℕ (ℕ × NodeId)) (sum : ℕ) (found : ℕ × NodeId) → AreKnown start end trees old → get nat_cmp new sum ≡ Some found
+    → ((k : ℕ) → k ≢ sum → get nat_cmp new k ≡ get nat_cmp old k) → IsNumberOf start end trees found → AreKnown start end trees new
+known_next start end trees old new sum found all here others one k other e = go (cases_eq k sum)
+  where
+    go : (k ≡ sum) ⊎ (k ≢ sum) → IsNumberOf start end trees other
+    go (inl same) =
+        let both : Some found ≡ Some other = sym here ∙ (ap (get nat_cmp new) (sym same) ∙ e) in
+        let at : found ≡ other = cc in
+        subst (IsNumberOf start end trees) at one
+    go (inr apart) = all k other (sym (others k apart) ∙ e)
+
+-- a tree that is found
+pub known_is : (plan : Planned) (end : ℕ) (found : ℕ × NodeId) (p : Polarity) (members : List NodeId) (tree : PlannedTree) → end ≡ end_of plan → IsNumberOf plan.start end plan.trees found
+    → get_or plan.trees found.0 tree ≡ tree → tree ≡ planned_tree p members → IsRoot plan p members found.1.0 × (found.1.0 < end_of plan)
+known_is plan end found p members tree e it there is =
+    let same : it.tree ≡ tree = sym (get_or_from_slice_get plan.trees found.0 it.tree tree it.there) ∙ there in
+    let low : found.1.0 < end = it.low in (
+      subst (λ (t : PlannedTree). IsRootIn plan.start plan.trees t.polarity t.members found.1.0) (same ∙ is) it.root,
+      omega (arith, low, e),
+    )
+
 -- the number of a tree of low members is below the end
 pub root_low : (start : ℕ) (members : List NodeId) → All (λ (id : NodeId). id.0 < start) members → tree_root start members < start + tree_size members
 root_low start [] all = omega arith
 root_low start (one ∷ []) all = let low : one.0 < start = all 0 one (omega arith) in omega (arith, low)
 root_low start (one ∷ other ∷ rest) all = omega arith
+
+-- the last of the trees
+pub last_of : (old new : Planned) (end : ℕ) (p : Polarity) (members : List NodeId) (place : ℕ) (id : NodeId) → place ≡ length old.trees → new ≡ with_tree old p members → IsCounted new.start end new.trees
+    → IsRoot new p members id.0 → id.0 < end_of new → IsNumberOf new.start end new.trees (place, id)
+last_of old new end p members place id at is counted root low = record {
+  tree = planned_tree p members;
+  there =
+      let trees : new.trees ≡ old.trees ++ planned_tree p members ∷ [] = ap (λ (plan : Planned). plan.trees) is in
+      let all : length (old.trees ++ planned_tree p members ∷ []) ≡ length old.trees + 1 = length-append old.trees (planned_tree p members ∷ []) in
+      ap (λ (ts : List PlannedTree). slice_get ts place) trees
+      ∙ (slice_get-get_or (old.trees ++ planned_tree p members ∷ []) place (planned_tree p members) (omega (arith, at, all))
+      ∙ ap (λ (tree : PlannedTree). Some tree) (get_or_push old.trees (planned_tree p members) (planned_tree p members) place (sym at)));
+  root = root;
+  low = let e : end ≡ new.start + sizes new.trees = counted.counted in omega (arith, low, e);
+}
 
 -- more trees behind
 pub extends_none : (plan : Planned) → Extends plan plan

@@ -167,7 +167,7 @@ fn lays_out_an_application(rt: HostRuntime) -> Result<(), Fail> {
     let line = laid(&rt, alloc, book, text, &[goal(2, 3)], &pairs, &places)?;
     assert_eq!(rt;
         line.as_str(),
-        "1>4 2>3 int v0 v0 bot bool int bot 1>3 7>3 10&1 at 9 1 1 11 3 7 3 and 8"
+        "1>4 2>3 int v0 v0 bot bool int bot 1>3 7>3 1&10 at 9 1 1 11 3 7 3 and 8"
     );
     Ok(())
 }
@@ -192,7 +192,7 @@ fn lays_out_a_field_that_is_read(rt: HostRuntime) -> Result<(), Fail> {
     )?;
     assert_eq!(rt;
         line.as_str(),
-        "int bot bool int bot {a:3} {a:3} 6&5 at 3 5 3 7 3 and 4"
+        "int bot bool int bot {a:3} {a:3} 5&6 at 3 5 3 7 3 and 4"
     );
     Ok(())
 }

@@ -56,7 +56,7 @@ fn lays_out_types(rt: HostRuntime) -> Result<(), Fail> {
         ("+f1>2 - + 1~2 *0", "v5 bool int bot 0>0 at 4 0 0 and 3, 6"),
         (
             "- +i - 0~1 2~1 *1",
-            "v5 v6 bool int bot 3|0 5|1 at 0 6 1 and 4, 7",
+            "v5 v6 bool int bot 0|1 5|3 at 0 6 1 and 4, 7",
         ),
         ("+{a:0} - x0=1 *0", "bool int bot {a:3} top at 3 4 and 2, 5"),
     ];

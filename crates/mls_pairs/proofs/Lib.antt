@@ -6,3 +6,4 @@ pub mod Rounding
 pub mod LinesRead
 pub mod TableShown
 pub mod Choosing
+pub mod Deletions

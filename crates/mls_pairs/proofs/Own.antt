@@ -1,7 +1,7 @@
 -- Pairs that hold by themselves, where variables stand for themselves.
 --     own_justified       what they need justifies them
 --     own_more            and holds by itself too
-use Rattle.std.proofs.Common.{◌≡◌, ◌⊎◌, inl, inr, ℕ, zero, suc, ◌<◌, Bool, true, false, List, [], ◌∷◌, map, length, refl, sym, ap, ◌∙◌, subst, arith, Option, Some, None, IsSome, bytes_eq}
+use Rattle.std.proofs.Common.{◌≡◌, ◌⊎◌, inl, inr, ℕ, suc, ◌<◌, Bool, true, false, List, [], ◌∷◌, map, length, refl, sym, ap, ◌∙◌, subst, arith, Some, None, IsSome, bytes_eq}
 use Rattle.std.specs.Prelude.{◌==◌, ◌||◌, Contains, cond, find, option_map}
 use Rattle.std.proofs.lemmas.Bool.Decides.{Decides-eqb}
 use Rattle.mls_book.specs.declared.book.Field.{Field}
@@ -16,7 +16,7 @@ use Rattle.mls_deriv.specs.declared.claim.Put.{Put}
 use Rattle.mls_deriv.specs.Pairs.{left_put, right_put, exchanged, IsJustified, bot_below, below_top, join_below, below_meet, first_below, second_below, below_first, below_second, same_bool, same_int, same_variable, functions, records}
 use Rattle.mls_deriv.proofs.ScopedNames.{first_or_later}
 use Rattle.mls_pairs.specs.PairLists.{pair_of}
-use Rattle.mls_pairs.specs.steps.Needs.{has_member, is_member, member_needs, own_needs, own_needs_at, self_needs}
+use Rattle.mls_pairs.specs.steps.Needs.{has_member, is_member, member_needs, own_needs, self_needs}
 use Rattle.mls_pairs.proofs.Needed.{head_there, next_there}
 
 abbrev no_puts : List Put

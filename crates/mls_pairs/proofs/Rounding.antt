@@ -102,7 +102,7 @@ module _ (IsOne : Pair → Type 0) where
   later : (x y : Pair) (xs : List Pair) → Contains xs y → Contains (x ∷ xs) y
   later x y xs h = (suc h.0, (let low : h.0 < length xs = h.1 in omega arith), h.2)
 
-  gone_is_not : (pairs left : List Pair) (those : AreThose IsOne pairs left) (pair : Pair) → Contains (those_gone pairs left those) pair → (IsOne pair → ⊥) × Contains pairs pair
+  pub gone_is_not : (pairs left : List Pair) (those : AreThose IsOne pairs left) (pair : Pair) → Contains (those_gone pairs left those) pair → (IsOne pair → ⊥) × Contains pairs pair
   gone_is_not pairs left none pair there = absurd (let low : there.0 < 0 = there.1 in omega arith)
   gone_is_not pairs left (kept {pairs = ps} {left = ls} first one rest) pair there =
       let it = gone_is_not ps ls rest pair there in
@@ -115,7 +115,7 @@ module _ (IsOne : Pair → Type 0) where
           let it = inside h in
           (it.0, later first pair ps it.1)
 
-  left_or_gone : (pairs left : List Pair) (those : AreThose IsOne pairs left) (pair : Pair) → Contains pairs pair → Contains left pair ⊎ Contains (those_gone pairs left those) pair
+  pub left_or_gone : (pairs left : List Pair) (those : AreThose IsOne pairs left) (pair : Pair) → Contains pairs pair → Contains left pair ⊎ Contains (those_gone pairs left those) pair
   left_or_gone pairs left none pair there = absurd (let low : there.0 < 0 = there.1 in omega arith)
   left_or_gone pairs left (kept {pairs = ps} {left = ls} first one rest) pair there = go (first_or_later first ps pair there) (left_or_gone ps ls rest pair)
     where
@@ -136,7 +136,7 @@ module _ (IsOne : Pair → Type 0) where
           either (inl l) = inl l
           either (inr g) = inr (later first pair (those_gone ps ls rest) g)
 
-  left_there : (pairs left : List Pair) → AreThose IsOne pairs left → (pair : Pair) → Contains left pair → Contains pairs pair
+  pub left_there : (pairs left : List Pair) → AreThose IsOne pairs left → (pair : Pair) → Contains left pair → Contains pairs pair
   left_there pairs left none pair there = there
   left_there pairs left (kept {pairs = ps} {left = ls} first one rest) pair there = go (first_or_later first ls pair there) (left_there ps ls rest pair)
     where
@@ -214,39 +214,60 @@ module _ (book : List Node) (puts : List Put) (wanted : List Pair) where
           (λ m k l named. still (pair_of m k l) named.1 named.0) pair.mode pair.left pair.right
           (by_needs book puts (IsOutside it.gone) pair.mode pair.left pair.right h))
 
-  pub left_next : (pairs left : List Pair) → IsLeft book puts wanted pairs → AreThose (IsJustifiedBy book puts pairs) pairs left → IsLeft book puts wanted left
-  left_next pairs left it those = record {
+  -- pairs that are not justified are taken out
+  pub left_without : (IsOne : Pair → Type 0) (pairs left : List Pair) → IsLeft book puts wanted pairs → AreThose IsOne pairs left
+      → ((pair : Pair) → (IsOne pair → ⊥) → IsJustifiedBy book puts pairs pair → ⊥) → IsLeft book puts wanted left
+  left_without IsOne pairs left it those unjustified = record {
     first = it.first;
     whole = it.whole;
-    own = λ alone pair there own. own_left alone pair there own (left_or_gone (IsJustifiedBy book puts pairs) pairs left those pair (it.own alone pair there own));
+    own = λ alone pair there own. own_left alone pair there own (left_or_gone IsOne pairs left those pair (it.own alone pair there own));
     gone = it.gone ++ now;
-    within = λ pair there. it.within pair (left_there (IsJustifiedBy book puts pairs) pairs left those pair there);
+    within = λ pair there. it.within pair (left_there IsOne pairs left those pair there);
     refuted = λ pair there. all_refuted pair (Contains-append_cases it.gone now pair there);
     either = λ pair there. either pair (it.either pair there);
   }
     where
       now : List Pair
-      now = those_gone (IsJustifiedBy book puts pairs) pairs left those
+      now = those_gone IsOne pairs left those
 
       own_left : it.whole.alone ≡ true → (pair : Pair) → Contains it.first pair → IsSome (own_needs book pair) → Contains left pair ⊎ Contains now pair → Contains left pair
       own_left alone pair there own (inl h) = h
       own_left alone pair there own (inr h) =
-          let is = gone_is_not (IsJustifiedBy book puts pairs) pairs left those pair h in
-          absurd (is.0 (own_stays pairs it alone pair there own))
+          let is = gone_is_not IsOne pairs left those pair h in
+          absurd (unjustified pair is.0 (own_stays pairs it alone pair there own))
 
       all_refuted : (pair : Pair) → Contains it.gone pair ⊎ Contains now pair → IsRefuted book puts pair
       all_refuted pair (inl h) = it.refuted pair h
       all_refuted pair (inr h) =
-          let is = gone_is_not (IsJustifiedBy book puts pairs) pairs left those pair h in
-          now_refuted pairs it pair is.1 is.0
+          let is = gone_is_not IsOne pairs left those pair h in
+          now_refuted pairs it pair is.1 (unjustified pair is.0)
 
       either : (pair : Pair) → Contains pairs pair ⊎ Contains it.gone pair → Contains left pair ⊎ Contains (it.gone ++ now) pair
       either pair (inr h) = inr (Contains-append_left it.gone now pair h)
-      either pair (inl h) = go (left_or_gone (IsJustifiedBy book puts pairs) pairs left those pair h)
+      either pair (inl h) = go (left_or_gone IsOne pairs left those pair h)
         where
           go : Contains left pair ⊎ Contains now pair → Contains left pair ⊎ Contains (it.gone ++ now) pair
           go (inl l) = inl l
           go (inr g) = inr (Contains-append_right it.gone now pair g)
+
+  pub left_next : (pairs left : List Pair) → IsLeft book puts wanted pairs → AreThose (IsJustifiedBy book puts pairs) pairs left → IsLeft book puts wanted left
+  left_next pairs left it those = left_without (IsJustifiedBy book puts pairs) pairs left it those (λ pair no. no)
+
+  -- a list with the same pairs
+  pub left_same : (pairs others : List Pair) → IsLeft book puts wanted pairs → ((pair : Pair) → Contains pairs pair ↔ Contains others pair) → IsLeft book puts wanted others
+  left_same pairs others it same = record {
+    first = it.first;
+    whole = it.whole;
+    own = λ alone pair there own. (same pair).0 (it.own alone pair there own);
+    gone = it.gone;
+    within = λ pair there. it.within pair ((same pair).1 there);
+    refuted = it.refuted;
+    either = λ pair there. either pair (it.either pair there);
+  }
+    where
+      either : (pair : Pair) → Contains pairs pair ⊎ Contains it.gone pair → Contains others pair ⊎ Contains it.gone pair
+      either pair (inl h) = inl ((same pair).0 h)
+      either pair (inr h) = inr h
 
   pub left_last : (pairs left : List Pair) → IsLeft book puts wanted pairs → AreThose (IsJustifiedBy book puts pairs) pairs left → length left ≡ length pairs → IsPairList book puts wanted pairs
   left_last pairs left it those same = record {

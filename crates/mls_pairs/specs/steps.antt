@@ -2,4 +2,5 @@
 pub mod Needs
 pub mod Growth
 pub mod Rounds
+pub mod Deleting
 pub mod Reasons

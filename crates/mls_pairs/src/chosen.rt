@@ -394,7 +394,7 @@ pub(crate) fn chosen_of(
     ensures { IfOk result (IsChosen book.now table.now wanted.now) }
 {
     let held = those_held(alloc, table, wanted)?;
-    let mut chosen = Found::new(alloc);
+    let mut chosen = Found::new(alloc, &[])?;
     chosen.add_all(held.as_slice())?;
     let mut next = 0;
     while next < chosen.len() {

@@ -1,7 +1,9 @@
 //! The pairs that the rules name for wanted pairs, for those that they name, and so on.
-ghost use Rattle.std.specs.Prelude.{◌≡◌, ◌↔◌, ◌<◌, ◌∷◌, [], get_or, length, IfOk, OnOk, IsTrue};
+ghost use Rattle.std.specs.Prelude.{◌≡◌, ℕ, ◌<◌, ◌∷◌, [], get_or, length, IfOk, OnOk};
+ghost use Rattle.mls_deriv.specs.Pairs.{put_at};
 ghost use Rattle.mls_deriv.specs.inner.Tables.{put_in};
-ghost use Rattle.mls_pairs.specs.steps.Growth.{Finds, FindsNeeds, IsFound, IsMarked, Marks};
+ghost use Rattle.mls_pairs.specs.Lines.{IsTable};
+ghost use Rattle.mls_pairs.specs.steps.Growth.{Finds, FindsNeeds, IsFound};
 ghost use Rattle.mls_pairs.specs.steps.Needs.{needs_by};
 ghost use Rattle.mls_pairs.specs.steps.Rounds.{IsWhole};
 
@@ -14,52 +16,28 @@ use mls_deriv::claim::{Pair, Put};
 use mls_deriv::derivation::Mode;
 use mls_deriv::table::Table;
 use std::alloc::Global;
-use std::collections::BTreeSet;
 
-/// Pairs in the order in which they were found, each once, with the numbers of their nodes by modes.
+/// Pairs in the order in which they were found, each once, and the table of them and of the nodes of variables.
 #[derive(Drop)]
 pub(crate) struct Found {
     pub(crate) pairs: Pairs,
-    lr: BTreeSet<(usize, usize)>,
-    rl: BTreeSet<(usize, usize)>,
-    pp: BTreeSet<(usize, usize)>,
+    pub(crate) table: Table,
 }
 
 impl Found {
-    /// No pair.
-    pub(crate) fn new(alloc: Global) -> Found
-        ensures found { IsFound result }
-        ensures empty { result.pairs ≡ [] }
+    /// No pair, and these nodes of variables.
+    ///
+    /// # Errors
+    ///
+    /// `Memory` where memory is wanting.
+    pub(crate) fn new(alloc: Global, puts: &[Put]) -> Result<Found, Memory>
+        ensures found { IfOk result IsFound }
+        ensures empty { IfOk result (λ found. found.pairs ≡ []) }
+        ensures puts { IfOk result (λ found. (x : ℕ) → put_in found.table x ≡ put_at puts.now x) }
     {
-        Found {
-            pairs: Pairs::new(alloc),
-            lr: BTreeSet::new(alloc),
-            rl: BTreeSet::new(alloc),
-            pp: BTreeSet::new(alloc),
-        }
-    }
-
-    // Whether the pair is marked.
-    fn has(&self, pair: Pair) -> bool
-        ensures { IsTrue result ↔ IsMarked self.now pair.mode pair.left pair.right }
-    {
-        match pair.mode {
-            Mode::Lr => self.lr.contains(&(pair.left, pair.right)),
-            Mode::Rl => self.rl.contains(&(pair.left, pair.right)),
-            Mode::Pp => self.pp.contains(&(pair.left, pair.right)),
-        }
-    }
-
-    // Marks a pair.
-    fn mark(&mut self, mode: Mode, left: usize, right: usize) -> Result<(), Memory>
-        ensures { OnOk result (Marks mode left right self.old self.new) }
-    {
-        match mode {
-            Mode::Lr => self.lr.insert((left, right))?,
-            Mode::Rl => self.rl.insert((left, right))?,
-            Mode::Pp => self.pp.insert((left, right))?,
-        };
-        Ok(())
+        let pairs = Pairs::new(alloc);
+        let table = table_with(alloc, puts, &pairs)?;
+        Ok(Found { pairs, table })
     }
 
     // Adds a pair, unless it is there.
@@ -67,10 +45,10 @@ impl Found {
         requires { IsFound self.old }
         ensures { OnOk result (Finds self.old self.new (pair ∷ [])) }
     {
-        if self.has(pair) {
+        if self.table.holds(pair.mode, pair.left, pair.right) {
             return Ok(());
         }
-        self.mark(pair.mode, pair.left, pair.right)?;
+        self.table.add_pair(pair.mode, pair.left, pair.right)?;
         self.pairs.push(pair)?;
         Ok(())
     }
@@ -110,17 +88,16 @@ impl Found {
         &mut self,
         alloc: Global,
         book: &Book,
-        table: &Table,
         alone: bool,
         pair: Pair,
     ) -> Result<(), Memory>
         requires { IsFound self.old }
-        ensures { OnOk result (FindsNeeds alone book.now (put_in table.now) self.old self.new pair) }
+        ensures { OnOk result (FindsNeeds alone book.now (put_in self.old.table) self.old self.new pair) }
     {
         if pair.mode == Mode::Pp && pair.left == pair.right {
             return Ok(());
         }
-        let needs = needs_by(alloc, book, table, alone, pair)?;
+        let needs = needs_by(alloc, book, &self.table, alone, pair)?;
         self.add_all(needs.as_slice())?;
         Ok(())
     }
@@ -144,24 +121,24 @@ fn needs_by(
     needs_of(alloc, book, table, pair)
 }
 
-/// The wanted pairs and all that is gathered for pairs of the list.
+/// The wanted pairs and all that is gathered for pairs of the list, with their table.
 pub(crate) fn gathered(
     alloc: Global,
     book: &Book,
     puts: &[Put],
     wanted: &[Pair],
-) -> Result<Pairs, Memory>
-    ensures { IfOk result (IsWhole book.now puts.now wanted.now) }
+) -> Result<Found, Memory>
+    ensures whole { IfOk result (λ found. IsWhole book.now puts.now wanted.now found.pairs) }
+    ensures table { IfOk result (λ found. IsTable puts.now found.pairs found.table) }
 {
     let alone = puts.is_empty();
-    let table = table_with(alloc, puts, &Pairs::new(alloc))?;
-    let mut found = Found::new(alloc);
+    let mut found = Found::new(alloc, puts)?;
     found.add_all(wanted)?;
     let mut next = 0;
     while next < found.len() {
         let pair = found.at(next);
-        found.add_needs(alloc, book, &table, alone, pair)?;
+        found.add_needs(alloc, book, alone, pair)?;
         next += 1;
     }
-    Ok(found.pairs)
+    Ok(found)
 }

@@ -2,6 +2,7 @@
 #![tactic(auto)]
 
 mod chosen;
+mod deleting;
 mod found;
 mod justify;
 pub mod labelled;

@@ -1,28 +1,22 @@
 //! The pairs of a step.
-ghost use Rattle.std.specs.Prelude.{◌≡◌, ◌↔◌, length, IfOk, IsTrue};
+ghost use Rattle.std.specs.Prelude.{◌≡◌, ◌≤◌, ◌↔◌, length, IfOk, IsTrue};
 ghost use Rattle.mls_pairs.specs.Lines.{IsTable};
 ghost use Rattle.mls_pairs.specs.PairLists.{IsPairList};
+ghost use Rattle.mls_pairs.specs.steps.Rounds.{IsLeft};
 
 use crate::chosen::chosen_of;
-use crate::found::gathered;
+use crate::deleting::thinned;
+use crate::found::{Found, gathered};
 use crate::lines::table_with;
 use crate::thin::shown;
 use mls_base::list::List;
 use mls_base::memory::Memory;
 use mls_book::book::Book;
 use mls_deriv::claim::{Pair, Put};
-use mls_deriv::table::Table;
 use std::alloc::Global;
 
 /// Pairs in order.
 pub type Pairs = List<Pair>;
-
-// Pairs, and the table of them and of the nodes of variables.
-#[derive(Drop)]
-struct PairTable {
-    pairs: Pairs,
-    table: Table,
-}
 
 // Whether two lists have as many pairs.
 fn have_same_length(first: &Pairs, second: &Pairs) -> bool
@@ -31,19 +25,44 @@ fn have_same_length(first: &Pairs, second: &Pairs) -> bool
     first.len() == second.len()
 }
 
-// The list of `pair_list`, with its table: that of the last round, which deletes no pair.
-fn listed(alloc: Global, book: &Book, puts: &[Put], wanted: &[Pair]) -> Result<PairTable, Memory>
-    ensures pairs { IfOk result (λ l. IsPairList book.now puts.now wanted.now l.pairs) }
-    ensures table { IfOk result (λ l. IsTable puts.now l.pairs l.table) }
+// So many rounds go over all pairs, before those alone are looked at again that rest on a pair that is gone.
+const ROUNDS: usize = 4;
+
+// What is left of a list when a round has left these of it, with its table.
+fn left_after(
+    alloc: Global,
+    book: &Book,
+    puts: &[Put],
+    left: Pairs,
+    round: usize,
+) -> Result<Found, Memory>
+    ensures left { IfOk result (λ found. (wanted : _) → IsLeft book.now puts.now wanted left
+        → IsLeft book.now puts.now wanted found.pairs) }
+    ensures table { IfOk result (λ found. IsTable puts.now found.pairs found.table) }
+    ensures fewer { IfOk result (λ found. length found.pairs ≤ length left) }
 {
-    let mut pairs = gathered(alloc, book, puts, wanted)?;
+    if round >= ROUNDS {
+        let found = thinned(alloc, book, puts, &left)?;
+        return Ok(found);
+    }
+    let table = table_with(alloc, puts, &left)?;
+    Ok(Found { pairs: left, table })
+}
+
+// The list of `pair_list`, with its table. The last round deletes no pair.
+fn listed(alloc: Global, book: &Book, puts: &[Put], wanted: &[Pair]) -> Result<Found, Memory>
+    ensures pairs { IfOk result (λ found. IsPairList book.now puts.now wanted.now found.pairs) }
+    ensures table { IfOk result (λ found. IsTable puts.now found.pairs found.table) }
+{
+    let mut found = gathered(alloc, book, puts, wanted)?;
+    let mut round = 0;
     loop {
-        let table = table_with(alloc, puts, &pairs)?;
-        let left = shown(alloc, book, &table, pairs.as_slice())?;
-        if have_same_length(&left, &pairs) {
-            return Ok(PairTable { pairs, table });
+        let left = shown(alloc, book, &found.table, found.pairs.as_slice())?;
+        if have_same_length(&left, &found.pairs) {
+            return Ok(found);
         }
-        pairs = left;
+        found = left_after(alloc, book, puts, left, round)?;
+        round = round.saturating_add(1);
     }
 }
 

@@ -42,6 +42,12 @@ AddsPair mode i j old new =
     ((m : Mode) (k l : ℕ) → Holds new m k l ↔ (Holds old m k l ⊎ ((mode ≡ m) × (i ≡ k) × (j ≡ l))))
     × ((y : ℕ) → put_in new y ≡ put_in old y)
 
+-- the table has what it had but this pair
+abbrev pub RemovesPair : Mode → ℕ → ℕ → Table → Table → Type 0
+RemovesPair mode i j old new =
+    ((m : Mode) (k l : ℕ) → Holds new m k l ↔ Holds old m k l × ((mode ≡ m) × (i ≡ k) × (j ≡ l) → ⊥))
+    × ((y : ℕ) → put_in new y ≡ put_in old y)
+
 -- the table has what it had, and this node for a variable that had none
 abbrev pub AddsPut : ℕ → ℕ → Table → Table → Type 0
 AddsPut x n old new =

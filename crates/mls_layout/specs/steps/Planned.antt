@@ -1,5 +1,7 @@
 -- Trees whose numbers are known before they are pushed, so that nodes before them can name them.
-use Rattle.std.specs.Prelude.{◌≡◌, ◌⊎◌, ◌↔◌, ℕ, ◌<◌, ◌+◌, List, [], ◌∷◌, ◌++◌, length, All}
+use Rattle.std.specs.Prelude.{◌≡◌, ◌⊎◌, ◌↔◌, ℕ, ◌<◌, ◌+◌, List, [], ◌∷◌, ◌++◌, length, slice_get, Some, All}
+use Rattle.std.specs.BTreeMap.{BTreeMap, get}
+use Rattle.std.specs.Ordering.{nat_cmp}
 use Rattle.mls_book.specs.declared.book.NodeId.{NodeId}
 use Rattle.mls_book.specs.declared.book.Node.{Node}
 use Rattle.mls_book.specs.Books.{IsBook}
@@ -45,6 +47,17 @@ IsRootIn start [] p members i = ⊥
 IsRootIn start (tree ∷ trees) p members i =
     ((planned_tree p members ≡ tree) × (i ≡ tree_root start members))
     ⊎ IsRootIn (start + tree_size tree.members) trees p members i
+
+-- what is found is the place of a tree and its number
+pub record IsNumberOf (start end : ℕ) (trees : List PlannedTree) (found : ℕ × NodeId) : Type 0 where
+  pub tree : PlannedTree
+  pub there : slice_get trees found.0 ≡ Some tree
+  pub root : IsRootIn start trees tree.polarity tree.members found.1.0
+  pub low : found.1.0 < end
+
+abbrev pub AreKnown : ℕ → ℕ → List PlannedTree → BTreeMap ℕ (ℕ × NodeId) → Type 0
+AreKnown start end trees known =
+    (sum : ℕ) (found : ℕ × NodeId) → get nat_cmp known sum ≡ Some found → IsNumberOf start end trees found
 
 abbrev pub IsRoot : Planned → Polarity → List NodeId → ℕ → Type 0
 IsRoot plan p members i = IsRootIn plan.start plan.trees p members i

@@ -1,8 +1,6 @@
 -- The nodes that are known before the trees of a part: those of the parts of heads, and of the type.
 use Rattle.std.specs.Prelude.{◌≡◌, ◌↔◌, ◌⊎◌, ℕ, ◌<◌, ◌+◌, Bool, true, false, List, [], ◌∷◌, ◌++◌, length, get_or}
-use Rattle.std.specs.Prelude.{IsTrue, is_some, zero, suc}
-use Rattle.std.specs.BTreeSet.{BTreeSet, contains}
-use Rattle.std.specs.Ordering.{nat_cmp}
+use Rattle.std.specs.Prelude.{is_some, zero, suc}
 use Rattle.mls_book.specs.declared.book.NodeId.{NodeId}
 use Rattle.mls_book.specs.declared.book.Node.{Node}
 use Rattle.mls_book.specs.declared.book.Node.TheVariants as node
@@ -97,6 +95,6 @@ pub record AreBelow (sources : Sources) (start : ℕ) : Type 0 where
   pub partners : (s i : ℕ) → IsNodeIn (partners_in sources s) i → i < start
   pub nothing : sources.nothing.0 < start
 
--- what is marked stands in the list
-abbrev pub HasMarked : List NodeId → BTreeSet ℕ → Type 0
-HasMarked ids marked = (i : ℕ) → IsTrue (contains nat_cmp marked i) → IsNodeIn ids i
+-- the node of this number
+abbrev pub node_id : ℕ → NodeId
+node_id n = record { 0 = n }

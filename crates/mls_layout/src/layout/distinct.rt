@@ -1,7 +1,7 @@
-//! Nodes without those that stand twice in a list.
-ghost use Rattle.std.specs.Prelude.{◌≡◌, ◌↔◌, ℕ, [], IfOk, OnOk};
+//! Nodes without those that stand twice in a list, in order.
+ghost use Rattle.std.specs.Prelude.{◌≡◌, ◌↔◌, ℕ, map, Contains, IfOk};
 ghost use Rattle.mls_layout.specs.Trees.{IsNodeIn};
-ghost use Rattle.mls_layout.specs.steps.Sources.{Gathers, HasMarked};
+ghost use Rattle.mls_layout.specs.steps.Sources.{node_id};
 
 use crate::tree::NodeIds;
 use mls_base::memory::Memory;
@@ -9,39 +9,36 @@ use mls_book::book::NodeId;
 use std::alloc::Global;
 use std::collections::BTreeSet;
 
-// Adds a node, unless it is marked, and marks it.
-fn add(ids: &mut NodeIds, marked: &mut BTreeSet<usize>, id: NodeId) -> Result<(), Memory>
-    requires { HasMarked ids.old marked.old }
-    ensures marked { OnOk result (HasMarked ids.new marked.new) }
-    ensures gathers { OnOk result (Gathers (λ i. id.0 ≡ i) ids.old ids.new) }
+// The numbers of these nodes.
+fn numbers_of(alloc: Global, ids: &NodeIds) -> Result<BTreeSet<usize>, Memory>
+    ensures { IfOk result (λ numbers. (i : ℕ) → Contains numbers.keys i ↔ IsNodeIn ids.now i) }
 {
-    if marked.contains(&id.0) {
-        return Ok(());
-    }
-    marked.insert(id.0)?;
-    ids.push(id)?;
-    Ok(())
-}
-
-// The nodes, each once, in the order in which they stand first.
-fn each_once(alloc: Global, ids: &NodeIds) -> Result<NodeIds, Memory>
-    ensures { IfOk result (λ left. (i : ℕ) → IsNodeIn left i ↔ IsNodeIn ids.now i) }
-{
-    let mut left = NodeIds::new(alloc);
-    let mut marked = BTreeSet::new(alloc);
+    let mut numbers = BTreeSet::new(alloc);
     for id in ids.as_slice() {
-        add(&mut left, &mut marked, *id)?;
+        numbers.insert(id.0)?;
     }
-    Ok(left)
+    Ok(numbers)
 }
 
-/// The nodes, each once, in the order in which they stand first.
+// The nodes of these numbers, in order.
+fn nodes_of(alloc: Global, numbers: &BTreeSet<usize>) -> Result<NodeIds, Memory>
+    ensures { IfOk result (λ ids. ids ≡ map node_id numbers.now.keys) }
+{
+    let mut ids = NodeIds::new(alloc);
+    for number in numbers {
+        ids.push(NodeId(*number))?;
+    }
+    Ok(ids)
+}
+
+/// The nodes, each once, in the order of their numbers.
 pub(crate) fn distinct(alloc: Global, ids: NodeIds) -> Result<NodeIds, Memory>
     ensures { IfOk result (λ left. (i : ℕ) → IsNodeIn left i ↔ IsNodeIn ids i) }
 {
     if ids.len() < 2 {
         return Ok(ids);
     }
-    let left = each_once(alloc, &ids)?;
+    let numbers = numbers_of(alloc, &ids)?;
+    let left = nodes_of(alloc, &numbers)?;
     Ok(left)
 }

@@ -1,7 +1,7 @@
 //! Trees whose numbers are known before they are pushed, so that nodes before them can name them.
-ghost use Rattle.std.specs.Prelude.{◌≡◌, ◌<◌, ◌+◌, [], length, All, IfOk, OnOk};
+ghost use Rattle.std.specs.Prelude.{◌≡◌, ◌<◌, ◌+◌, [], length, All, IfOk, IfSome, IsTrue, OnOk};
 ghost use Rattle.mls_layout.specs.Trees.{IsNodeIn, tree_root, tree_size};
-ghost use Rattle.mls_layout.specs.steps.Planned.{AddsPlanned, Extends, HasTree, IsRoot, end_of, with_tree};
+ghost use Rattle.mls_layout.specs.steps.Planned.{AddsPlanned, Extends, HasTree, IsRoot, end_of, planned_tree, with_tree};
 
 use crate::layout::distinct::distinct;
 use crate::tree::{NodeIds, PlannedTree, push_planned};
@@ -10,6 +10,7 @@ use mls_base::list::List;
 use mls_base::memory::Memory;
 use mls_book::book::{Book, NodeId};
 use std::alloc::Global;
+use std::collections::BTreeMap;
 use std::marker::Model;
 
 /// Trees that are to be pushed one after another onto a book. Contracts see how many nodes it has then, and the trees.
@@ -19,16 +20,18 @@ pub(crate) struct PlannedTrees {
     // The number of the node behind the trees.
     end: usize,
     trees: List<PlannedTree>,
+    // By a sum over its members, the place of a tree in the list and its number.
+    known: BTreeMap<usize, (usize, NodeId)>,
 }
 
 impl Model for PlannedTrees {
-    ghost use Rattle.mls_layout.specs.steps.Planned.{IsCounted, Planned};
+    ghost use Rattle.mls_layout.specs.steps.Planned.{AreKnown, IsCounted, Planned};
 
     ghost Value = { Planned };
 
     ghost view = { λ a. record { start = a.start; trees = a.trees } };
 
-    ghost invariant = { λ a. IsCounted a.start a.end a.trees };
+    ghost invariant = { λ a. IsCounted a.start a.end a.trees × AreKnown a.start a.end a.trees a.known };
 }
 
 /// The number that is so many higher. Where it does not fit, memory is wanting for so many nodes.
@@ -68,6 +71,25 @@ fn tree_root(start: usize, end: usize, members: &[NodeId]) -> NodeId
     }
 }
 
+// A sum over the members of a tree in their order, which differs for most trees.
+fn sum_of(polarity: Polarity, members: &[NodeId]) -> usize {
+    let mut sum: usize = match polarity {
+        Polarity::Positive => 1,
+        Polarity::Negative => 2,
+    };
+    for id in members {
+        sum = sum.wrapping_mul(1_000_003).wrapping_add(id.0);
+    }
+    sum
+}
+
+// Whether the tree is that of these members.
+fn is_tree_of(tree: &PlannedTree, polarity: Polarity, members: &[NodeId]) -> bool
+    ensures { IsTrue result → tree.now ≡ planned_tree polarity members.now }
+{
+    tree.polarity == polarity && tree.members.as_slice() == members
+}
+
 impl PlannedTrees {
     /// No tree, where the first node is to have this number.
     pub(crate) fn new(alloc: Global, start: usize) -> PlannedTrees
@@ -77,6 +99,7 @@ impl PlannedTrees {
             start,
             end: start,
             trees: List::new(alloc),
+            known: BTreeMap::new(alloc),
         }
     }
 
@@ -95,7 +118,65 @@ impl PlannedTrees {
         Ok(root)
     }
 
-    /// Plans the tree of these members, each once, and answers its number.
+    // The number of the tree of just these members, where it is found by their sum.
+    fn known_root(&self, sum: usize, polarity: Polarity, members: &[NodeId]) -> Option<NodeId>
+        ensures { IfSome result (λ id. IsRoot self.now polarity members.now id.0 × (id.0 < end_of self.now)) }
+    {
+        match self.known.get(&sum) {
+            None => None,
+            Some((place, root)) => match self.trees.as_slice().get(*place) {
+                None => None,
+                Some(tree) => {
+                    if is_tree_of(tree, polarity, members) {
+                        return Some(*root);
+                    }
+                    None
+                }
+            },
+        }
+    }
+
+    // Plans the tree of these members, which is found by their sum from then on.
+    fn add_known(
+        &mut self,
+        sum: usize,
+        polarity: Polarity,
+        members: NodeIds,
+    ) -> Result<NodeId, Memory>
+        requires { All (λ id. id.0 < end_of self.old) members }
+        ensures trees { OnOk result (self.new ≡ with_tree self.old polarity members) }
+        ensures root { IfOk result (λ id. IsRoot self.new polarity members id.0) }
+        ensures low { IfOk result (λ id. id.0 < end_of self.new) }
+    {
+        let place = self.trees.len();
+        let root = self.add(polarity, members)?;
+        self.known.insert(sum, (place, root))?;
+        Ok(root)
+    }
+
+    // The number of the tree of these members. One of several members that is planned already is not planned again.
+    fn root_of(&mut self, polarity: Polarity, members: NodeIds) -> Result<NodeId, Memory>
+        requires { All (λ id. id.0 < end_of self.old) members }
+        ensures extends { OnOk result (Extends self.old self.new) }
+        ensures root { IfOk result (λ id. IsRoot self.new polarity members id.0) }
+        ensures low { IfOk result (λ id. id.0 < end_of self.new) }
+    {
+        if members.len() < 2 {
+            let root = self.add(polarity, members)?;
+            return Ok(root);
+        }
+        let sum = sum_of(polarity, members.as_slice());
+        match self.known_root(sum, polarity, members.as_slice()) {
+            Some(root) => Ok(root),
+            None => {
+                let root = self.add_known(sum, polarity, members)?;
+                Ok(root)
+            }
+        }
+    }
+
+    /// Plans the tree of these members, each once and in the order of their numbers, unless it is planned already, and
+    /// answers its number.
     pub(crate) fn plan(
         &mut self,
         alloc: Global,
@@ -107,7 +188,7 @@ impl PlannedTrees {
         ensures tree { IfOk result (λ id. HasTree self.new polarity (IsNodeIn members) id.0) }
     {
         let once = distinct(alloc, members)?;
-        let root = self.add(polarity, once)?;
+        let root = self.root_of(polarity, once)?;
         Ok(root)
     }
 

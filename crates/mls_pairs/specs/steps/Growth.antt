@@ -1,34 +1,16 @@
 -- How the pairs are gathered that the rules name for wanted ones.
-use Rattle.std.specs.Prelude.{◌≡◌, ◌⊎◌, ℕ, ◌<◌, Bool, List, ◌++◌, length, get_or, IsTrue, Contains, Option}
-use Rattle.std.specs.BTreeSet.{BTreeSet, contains}
+use Rattle.std.specs.Prelude.{◌≡◌, ◌↔◌, ℕ, ◌<◌, Bool, List, ◌++◌, length, get_or, Contains, Option}
 use Rattle.mls_book.specs.declared.book.Node.{Node}
 use Rattle.mls_deriv.specs.declared.derivation.Mode.{Mode}
-use Rattle.mls_deriv.specs.declared.derivation.Mode.TheVariants.{Lr, Rl, Pp}
 use Rattle.mls_deriv.specs.declared.claim.Pair.{Pair}
 use Rattle.mls_deriv.specs.Pairs.{Claims}
-use Rattle.mls_deriv.specs.inner.Tables.{numbers_cmp}
+use Rattle.mls_deriv.specs.inner.Tables.{Holds, put_in}
 use Rattle.mls_pairs.specs.declared.found.Found.{Found}
-use Rattle.mls_pairs.specs.PairLists.{pair_of}
 use Rattle.mls_pairs.specs.steps.Needs.{IsPlainNode, needs_by}
 
--- the marks of a mode
-abbrev pub marks_of : Mode → Found → BTreeSet (ℕ × ℕ)
-marks_of Lr f = f.lr
-marks_of Rl f = f.rl
-marks_of Pp f = f.pp
-
--- the pair is marked
-abbrev pub IsMarked : Found → Mode → ℕ → ℕ → Type 0
-IsMarked f mode i j = IsTrue (contains numbers_cmp (marks_of mode f) (i, j))
-
--- only pairs of the list are marked
+-- the table has just the pairs of the list
 abbrev pub IsFound : Found → Type 0
-IsFound f = (mode : Mode) (i j : ℕ) → IsMarked f mode i j → Claims f.pairs mode i j
-
--- the pair alone is marked
-pub record Marks (mode : Mode) (i j : ℕ) (old new : Found) : Type 0 where
-  pub pairs : new.pairs ≡ old.pairs
-  pub marks : (m : Mode) (k l : ℕ) → IsMarked new m k l → IsMarked old m k l ⊎ (pair_of mode i j ≡ pair_of m k l)
+IsFound f = (mode : Mode) (i j : ℕ) → Holds f.table mode i j ↔ Claims f.pairs mode i j
 
 -- the list has these pairs, behind those that it had, and no others
 pub record Finds (old new : Found) (pairs : List Pair) : Type 0 where
@@ -37,6 +19,7 @@ pub record Finds (old new : Found) (pairs : List Pair) : Type 0 where
   pub behind : new.pairs ≡ old.pairs ++ more
   pub only : (pair : Pair) → Contains more pair → Contains pairs pair
   pub has : (pair : Pair) → Contains pairs pair → Contains new.pairs pair
+  pub puts : (x : ℕ) → put_in new.table x ≡ put_in old.table x
 
 -- the list has what is gathered for the pair, if it needs any
 pub record FindsNeeds (alone : Bool) (book : List Node) (put : ℕ → Option ℕ) (old new : Found) (pair : Pair) :
@@ -64,3 +47,4 @@ pub record IsGrowing (alone : Bool) (book : List Node) (put : ℕ → Option ℕ
   pub is : IsFound f
   pub has_wanted : (pair : Pair) → Contains wanted pair → Contains f.pairs pair
   pub gathered : IsGathered alone book put n f.pairs
+  pub puts : (x : ℕ) → put_in f.table x ≡ put x

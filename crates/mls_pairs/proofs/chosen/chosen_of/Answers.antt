@@ -6,8 +6,8 @@ use Rattle.mls_pairs.proofs.chosen.chosen_of.Goals as goal
 
 pub loop-next-init : goal.loop-next-init
 loop-next-init c =
-    choosing_first c.args.book.now c.args.table.now c.args.wanted.now c.in_ok-held.held c.new-chosen.result c.add_all.new.self c.new-chosen.ensures.empty c.in_ok-held.ensures
-    (subst (λ (l : List Pair). Finds c.new-chosen.result c.add_all.new.self l) c.as_slice.ensures c.in_ok-add_all.ensures)
+    choosing_first c.args.book.now c.args.table.now c.args.wanted.now c.in_ok-held.held c.in_ok-chosen.chosen c.add_all.new.self c.in_ok-chosen.ensures.empty c.in_ok-held.ensures
+    (subst (λ (l : List Pair). Finds c.in_ok-chosen.chosen c.add_all.new.self l) c.as_slice.ensures c.in_ok-add_all.ensures)
 
 pub reason_for-requires : goal.reason_for-requires
 reason_for-requires c =

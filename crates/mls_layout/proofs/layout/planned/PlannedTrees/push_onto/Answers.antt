@@ -13,7 +13,7 @@ push_planned-requires c =
     let trees : c.as_slice-tree-items.result.now ≡ plan.trees = c.as_slice-tree-items.ensures ∙ ap (λ (p : Planned). p.trees) c.self.view_is in
     let inside : k < length plan.trees = subst (λ (ts : List PlannedTree). k < length ts) trees c.loop-tree-test.true in
     let is : c.tree-item.result ≡ get_or plan.trees k c.tree-item.result = c.tree-item.is ∙ ap (λ (ts : List PlannedTree). get_or ts k c.tree-item.result) trees in
-    let low : AreLow plan.start plan.trees = subst (λ (p : Planned). AreLow p.start p.trees) c.self.view_is c.self.invariant.low in
+    let low : AreLow plan.start plan.trees = subst (λ (p : Planned). AreLow p.start p.trees) c.self.view_is c.self.invariant.0.low in
     subst (λ (tree : PlannedTree). All (λ (id : NodeId). id.0 < length c.loop-tree.book) tree.members) (sym is)
     (low_at plan.start (length c.loop-tree.book) plan.trees k c.tree-item.result inside c.loop-tree.invariant.size low)
 
