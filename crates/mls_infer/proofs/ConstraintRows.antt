@@ -42,7 +42,7 @@ pub nothing_in : {X : Type 0} (x : X) → Contains [] x → ⊥
 nothing_in x it = let low : it.0 < 0 = it.1 in absurd (omega arith)
 
 -- the meet of types of a book is one of a longer book
-meets_held : (b : List Node) → IsClosedBook b → (f : ℕ → Predicate) → ((s : ℕ) → IsTypeOf b (f s)) → (set : List ℕ) → (c : List Node) × Extends b c × IsTypeOf c (meets (map f set))
+pub meets_held : (b : List Node) → IsClosedBook b → (f : ℕ → Predicate) → ((s : ℕ) → IsTypeOf b (f s)) → (set : List ℕ) → (c : List Node) × Extends b c × IsTypeOf c (meets (map f set))
 meets_held b closed f held [] =
     let it = extended_with b node.Top closed tt tt in
     (it.0, it.1, (it.2.0, it.2.1, value-top var it.0 it.1.closed.book it.2.0 it.2.2))
@@ -173,39 +173,40 @@ module _ (a : Automaton) (closed : IsClosed a) (T : ℕ → Predicate) (model : 
   pub with_new-model : IsModel a with_new
   with_new-model = model_agree a closed T with_new (λ m low. sym (with_new-old m low)) model
 
+module _ (x : ℕ) (env : List EnvEntry) (types : ℕ → Predicate) where
+  -- entries of a binder, and of the others
+  pub entry_above : (value : ℕ → Predicate) (g : Predicate) → ((m : ℕ) → Contains (states_of x env) m → Implies g (value m))
+      → ((entry : EnvEntry) → Contains (without x env) entry → Implies (types entry.binder) (value entry.state.0))
+      → (entry : EnvEntry) → Contains env entry → Implies (with_binder types x g entry.binder) (value entry.state.0)
+  entry_above value g above others entry inside = at (eq_by_cmp nat_cmp entry.binder x) refl
+    where
+      at : (b : Bool) → eq_by_cmp nat_cmp entry.binder x ≡ b → Implies (cond b g (types entry.binder)) (value entry.state.0)
+      at true e = above entry.state.0 (Contains-map (λ (entry : EnvEntry). entry.state.0) (filter (λ (entry : EnvEntry). eq_by_cmp nat_cmp entry.binder x) env) entry (Contains-filter (λ (entry : EnvEntry). eq_by_cmp nat_cmp entry.binder x) env entry inside e))
+      at false e = others entry (Contains-filter (λ (entry : EnvEntry). not (eq_by_cmp nat_cmp entry.binder x)) env entry inside (ap not e))
+
+  pub above_states : (value : ℕ → Predicate) (g : Predicate) → ((entry : EnvEntry) → Contains env entry → Implies (with_binder types x g entry.binder) (value entry.state.0)) → (m : ℕ) → Contains (states_of x env) m → Implies g (value m)
+  above_states value g above m inside =
+      let it = Contains-mapped (λ (entry : EnvEntry). entry.state.0) (filter (λ (entry : EnvEntry). eq_by_cmp nat_cmp entry.binder x) env) m inside in
+      let here : Contains env it.0 = Contains-filtered (λ (entry : EnvEntry). eq_by_cmp nat_cmp entry.binder x) env it.0 it.1 in
+      let own : eq_by_cmp nat_cmp it.0.binder x ≡ true = passes-filtered (λ (entry : EnvEntry). eq_by_cmp nat_cmp entry.binder x) env it.0 it.1 in
+      subst (λ m. Implies g (value m)) it.2 (subst (λ b. Implies (cond b g (types it.0.binder)) (value it.0.state.0)) own (above it.0 here))
+
+  pub above_others : (value : ℕ → Predicate) (g : Predicate) → ((entry : EnvEntry) → Contains env entry → Implies (with_binder types x g entry.binder) (value entry.state.0)) → (entry : EnvEntry) → Contains (without x env) entry → Implies (types entry.binder) (value entry.state.0)
+  above_others value g above entry inside =
+      let here : Contains env entry = Contains-filtered (λ (entry : EnvEntry). not (eq_by_cmp nat_cmp entry.binder x)) env entry inside in
+      let other : eq_by_cmp nat_cmp entry.binder x ≡ false = not_true (eq_by_cmp nat_cmp entry.binder x) (passes-filtered (λ (entry : EnvEntry). not (eq_by_cmp nat_cmp entry.binder x)) env entry inside) in
+      subst (λ b. Implies (cond b g (types entry.binder)) (value entry.state.0)) other (above entry here)
+    where
+      not_true : (b : Bool) → not b ≡ true → b ≡ false
+      not_true true e = absurd (cc)
+      not_true false e = refl
+
 module _ (x : ℕ) (s : Scheme) (is : HasStates s) (types : ℕ → Predicate) (f : Predicate) where
   abbrev a : Automaton
   a = s.automaton
 
   abbrev n : ℕ
   n = size a
-
-  -- entries of a binder, and of the others
-  entry_above : (value : ℕ → Predicate) (g : Predicate) → ((m : ℕ) → Contains (states_of x s.env) m → Implies g (value m))
-      → ((entry : EnvEntry) → Contains (without x s.env) entry → Implies (types entry.binder) (value entry.state.0))
-      → (entry : EnvEntry) → Contains s.env entry → Implies (with_binder types x g entry.binder) (value entry.state.0)
-  entry_above value g above others entry inside = at (eq_by_cmp nat_cmp entry.binder x) refl
-    where
-      at : (b : Bool) → eq_by_cmp nat_cmp entry.binder x ≡ b → Implies (cond b g (types entry.binder)) (value entry.state.0)
-      at true e = above entry.state.0 (Contains-map (λ (entry : EnvEntry). entry.state.0) (filter (λ (entry : EnvEntry). eq_by_cmp nat_cmp entry.binder x) s.env) entry (Contains-filter (λ (entry : EnvEntry). eq_by_cmp nat_cmp entry.binder x) s.env entry inside e))
-      at false e = others entry (Contains-filter (λ (entry : EnvEntry). not (eq_by_cmp nat_cmp entry.binder x)) s.env entry inside (ap not e))
-
-  above_states : (value : ℕ → Predicate) (g : Predicate) → ((entry : EnvEntry) → Contains s.env entry → Implies (with_binder types x g entry.binder) (value entry.state.0)) → (m : ℕ) → Contains (states_of x s.env) m → Implies g (value m)
-  above_states value g above m inside =
-      let it = Contains-mapped (λ (entry : EnvEntry). entry.state.0) (filter (λ (entry : EnvEntry). eq_by_cmp nat_cmp entry.binder x) s.env) m inside in
-      let here : Contains s.env it.0 = Contains-filtered (λ (entry : EnvEntry). eq_by_cmp nat_cmp entry.binder x) s.env it.0 it.1 in
-      let own : eq_by_cmp nat_cmp it.0.binder x ≡ true = passes-filtered (λ (entry : EnvEntry). eq_by_cmp nat_cmp entry.binder x) s.env it.0 it.1 in
-      subst (λ m. Implies g (value m)) it.2 (subst (λ b. Implies (cond b g (types it.0.binder)) (value it.0.state.0)) own (above it.0 here))
-
-  above_others : (value : ℕ → Predicate) (g : Predicate) → ((entry : EnvEntry) → Contains s.env entry → Implies (with_binder types x g entry.binder) (value entry.state.0)) → (entry : EnvEntry) → Contains (without x s.env) entry → Implies (types entry.binder) (value entry.state.0)
-  above_others value g above entry inside =
-      let here : Contains s.env entry = Contains-filtered (λ (entry : EnvEntry). not (eq_by_cmp nat_cmp entry.binder x)) s.env entry inside in
-      let other : eq_by_cmp nat_cmp entry.binder x ≡ false = not_true (eq_by_cmp nat_cmp entry.binder x) (passes-filtered (λ (entry : EnvEntry). not (eq_by_cmp nat_cmp entry.binder x)) s.env entry inside) in
-      subst (λ b. Implies (cond b g (types entry.binder)) (value entry.state.0)) other (above entry here)
-    where
-      not_true : (b : Bool) → not b ≡ true → b ≡ false
-      not_true true e = absurd (cc)
-      not_true false e = refl
 
   -- states of binders are states of the automaton
   low_states : (m : ℕ) → Contains (states_of x s.env) m → m < n
@@ -229,7 +230,7 @@ module _ (x : ℕ) (s : Scheme) (is : HasStates s) (types : ℕ → Predicate) (
           model = h.model;
           goals = λ p n inside. absurd (nothing_in (p, n) inside);
           root = Implies-refl (h.value s.root.0);
-          env = entry_above h.value (h.value s.root.0) (λ m inside. h.goals s.root.0 m (Contains-map (λ n. (s.root.0, n)) (states_of x s.env) m inside)) h.env;
+          env = entry_above x s.env types h.value (h.value s.root.0) (λ m inside. h.goals s.root.0 m (Contains-map (λ n. (s.root.0, n)) (states_of x s.env) m inside)) h.env;
         };
         below = h.root;
       }
@@ -245,10 +246,10 @@ module _ (x : ℕ) (s : Scheme) (is : HasStates s) (types : ℕ → Predicate) (
             model = h.model;
             goals = λ p n inside.
                 let goal = Contains-mapped (λ n. (s.root.0, n)) (states_of x s.env) (p, n) inside in
-                let below : Implies (h.value s.root.0) (h.value goal.0) = Implies-trans (h.value s.root.0) it.body_type (h.value goal.0) h.root (above_states h.value it.body_type h.env goal.0 goal.1) in
+                let below : Implies (h.value s.root.0) (h.value goal.0) = Implies-trans (h.value s.root.0) it.body_type (h.value goal.0) h.root (above_states x s.env types h.value it.body_type h.env goal.0 goal.1) in
                 subst (λ (g : ℕ × ℕ). Implies (h.value g.0) (h.value g.1)) goal.2 below;
             root = Implies-trans (h.value s.root.0) it.body_type f h.root it.below;
-            env = above_others h.value it.body_type h.env;
+            env = above_others x s.env types h.value it.body_type h.env;
           }
 
   abbrev head : List ℕ → Head
@@ -277,7 +278,7 @@ module _ (x : ℕ) (s : Scheme) (is : HasStates s) (types : ℕ → Predicate) (
               model = it.0;
               goals = λ p n inside. absurd (nothing_in (p, n) inside);
               root = Implies-refl (T s.root.0);
-              env = entry_above T domain (λ m inside. meets_lower T set m ((of_binder m).1 inside)) h.env;
+              env = entry_above x s.env types T domain (λ m inside. meets_lower T set m ((of_binder m).1 inside)) h.env;
             };
             below = Implies-trans (arrow domain (T s.root.0)) (T n) f (subst (λ g. Implies g (T n)) value it.1.0) h.root;
           }
@@ -306,7 +307,7 @@ module _ (x : ℕ) (s : Scheme) (is : HasStates s) (types : ℕ → Predicate) (
           let domain_below : Implies it.domain (meets (map V (set))) =
           meets_greatest V (set) it.domain
           (All-contained (λ m. Implies it.domain (V m)) (set)
-          (λ m inside. subst (Implies it.domain) (sym (old m (low_states m ((of_binder m).0 inside)))) (above_states T it.domain h.env m ((of_binder m).0 inside)))) in
+          (λ m inside. subst (Implies it.domain) (sym (old m (low_states m ((of_binder m).0 inside)))) (above_states x s.env types T it.domain h.env m ((of_binder m).0 inside)))) in
           let value : head_value Positive V (head set) ≡ arrow (meets (map V (set))) (T s.root.0) =
           function_head-value Positive V (set) (s.root.0 ∷ []) ∙ ap (arrow (meets (map V (set)))) (set_one Positive V s.root.0 ∙ old s.root.0 is.root.in_range) in
           let inside : Implies (head_value Positive V (head set)) (V n) =
@@ -325,7 +326,7 @@ module _ (x : ℕ) (s : Scheme) (is : HasStates s) (types : ℕ → Predicate) (
                 it.below;
             env = λ entry there.
                 subst (Implies (types entry.binder)) (sym (old entry.state.0 (is.env entry (Contains-filtered (λ (entry : EnvEntry). not (eq_by_cmp nat_cmp entry.binder x)) s.env entry there)).in_range))
-                (above_others T it.domain h.env entry there);
+                (above_others x s.env types T it.domain h.env entry there);
           }
 
 -- a projection

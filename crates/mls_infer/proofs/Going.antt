@@ -28,7 +28,8 @@ use Rattle.mls_infer.specs.Merges.{AreAlike, AreMergedSchemes, HaveSameTypes}
 use Rattle.mls_infer.specs.Inference.{AreBestFor, IsKindAt}
 use Rattle.mls_infer.specs.Steps.{IsReadAs, IsSolution, IsConstraintOf}
 use Rattle.mls_infer.specs.Finished.{Finished, Has, HasEach}
-use Rattle.mls_infer.specs.Finishing.{children, IsBuilt, IsPosed, Scope, HasConstraint, HasParts, CanStep, is_copied, is_read, IsAnswer, is_named, is_solved, IsStep, IsStop, GoesOn}
+use Rattle.mls_infer.specs.Finishing.{Scope, HasConstraint, HasParts, CanStep, is_copied, is_read, IsAnswer, is_named, is_solved, IsStep, IsStop, GoesOn}
+use Rattle.mls_infer.specs.Forms.{children, IsBuilt, IsPosed}
 use Rattle.mls_infer.proofs.Inferred.{Inferred, AllInferred, all_states, automata_of, inferred_step, inferred_none}
 use Rattle.mls_infer.proofs.MergedSchemes.{merged_exists}
 use Rattle.mls_infer.proofs.NodeKinds.{kind_merged}
@@ -265,8 +266,8 @@ module _ (scope : Scope) (Fails : ℕ → SiteKind → Type 0) (Ends : Finished 
     not_global g same = let B : TermForm → Type 0 = IsBuilt in subst B same built
 
     solution_of : (s : Scheme) → IsAnswer scope node.form done s → (c : Constraint) × HasConstraint node.form done c × IsSolution c s
-    solution_of s (is_named (is_copied k i same first is_there)) = absurd (not_inner k same)
-    solution_of s (is_named (is_read g u same known_is is)) = absurd (not_global g same)
+    solution_of s (is_named t (is_copied k i same first is_there) alike) = absurd (not_inner k same)
+    solution_of s (is_named t (is_read g u same known_is is) alike) = absurd (not_global g same)
     solution_of s (is_solved c has solution) = (c, has, solution)
 
     goes : (new : Finished) (s : Scheme) → IsStep scope node.form done new s → GoesOn scope Fails Ends rest new

@@ -24,14 +24,15 @@ use Rattle.mls_infer.specs.declared.fault.SiteKind.{SiteKind}
 use Rattle.mls_infer.specs.Constraints.{Constraint, HasStates, let_constraint, no_goals}
 use Rattle.mls_infer.specs.Steps.{IsReadAs, IsSolution, HasNoTypes}
 use Rattle.mls_infer.specs.Finished.{Finished, Has, HasEach}
-use Rattle.mls_infer.specs.Finishing.{IsPosed, Scope, HasConstraint, is_copied, is_read, IsAnswer, is_named, is_solved, GoesOn}
+use Rattle.mls_infer.specs.Finishing.{Scope, HasConstraint, is_copied, is_read, IsAnswer, is_named, is_solved, GoesOn}
+use Rattle.mls_infer.specs.Forms.{IsPosed}
 use Rattle.mls_infer.proofs.Inferred.{Inferred, inferred_step, inferred_let}
 use Rattle.mls_infer.proofs.JoinedRows.{let_row}
-use Rattle.mls_infer.specs.Merges.{AreAlike}
-use Rattle.mls_infer.proofs.Going.{alike_part, read_scheme, Done, Agree, roots_between, roots_distinct, one_each, Going}
+use Rattle.mls_infer.specs.Merges.{AreAlike, HaveSameTypes}
+use Rattle.mls_infer.proofs.Going.{alike_part, read_alike, read_scheme, types_back, Done, Agree, roots_between, roots_distinct, one_each, Going}
 
 -- A constraint of a let has types: where its binders have none, all that it needs is there.
-allows_top : (t : book.Scheme) → book.IsScheme t → Allows t (λ x. bot) top
+pub allows_top : (t : book.Scheme) → book.IsScheme t → Allows t (λ x. bot) top
 allows_top t is = record {
   book = t.book;
   closed = is.book;
@@ -139,29 +140,31 @@ module _ (scope : Scope) where
       (it.root, it.automaton, it.first, it.there, it.states),
       λ m stop. absurd stop.is.is,
       λ new s step.
-          let same : s ≡ it.automaton = same_copy s it step.answer in
+          let same : HaveSameTypes (no_goals s) (no_goals it.automaton) = same_copy s it step.answer in
+          let read : IsReadAs s it.scheme = read_alike s it.automaton it.scheme same it.read in
           let part : Inferred known n (inner at k) =
-          inferred_step known n (inner at k) refl tt (no_goals it.automaton) (it.automaton, it.scheme, it.known_is, it.states, it.read, refl) it.automaton it.scheme (own_solution it.automaton it.states) it.read in
-          let A : ℕ → Type 0 = λ i. Has new i it.automaton in
-          let H : Scheme → Type 0 = λ s. Has new (length done) s in
+          inferred_step known n (inner at k) refl tt (no_goals s) (s, it.scheme, it.known_is, step.states, read, refl) s it.scheme (own_solution s step.states) read in
+          let A : ℕ → Type 0 = λ i. Has new i s in
           let here : n + before (inner at k) ≡ n = omega arith in
           going new (λ j low. step.kept j (let low' : j < length done = subst (λ n. j < n) (sym size) low in low') (λ inside. nothing_in j inside))
           (let longer : length new ≡ suc (length done) = step.longer in let longer' : length new ≡ n + suc 0 = omega arith in longer')
-          (record { part = part; there = subst A (size ∙ sym here) (subst H same step.added) }),
+          (record { part = part; there = subst A (size ∙ sym here) step.added }),
     )
       where
-        copied_same : (s : Scheme) → (it : KnowsLet known k n done) → (j i : ℕ) → form.Inner k ≡ form.Inner j → scope.first_of j ≡ Some i → Has done i s → s ≡ it.automaton
+        copied_same : (s : Scheme) → (it : KnowsLet known k n done) → (j i : ℕ) → form.Inner k ≡ form.Inner j → scope.first_of j ≡ Some i → Has done i s → it.automaton ≡ s
         copied_same s it j i same first there =
             let same_let : k ≡ j = cc in
             let here : scope.first_of k ≡ Some i = ap scope.first_of same_let ∙ first in
             let both : Some i ≡ Some it.root = sym here ∙ it.first in
             let same_root : i ≡ it.root = cc in
-            let schemes : Some (Some s) ≡ Some (Some it.automaton) = sym there ∙ (ap (slice_get done) same_root ∙ it.there) in
+            let schemes : Some (Some it.automaton) ≡ Some (Some s) = sym it.there ∙ (ap (slice_get done) (sym same_root) ∙ there) in
             cc
 
-        same_copy : (s : Scheme) (it : KnowsLet known k n done) → IsAnswer scope (form.Inner k) done s → s ≡ it.automaton
-        same_copy s it (is_named (is_copied j i same first is_there)) = copied_same s it j i same first is_there
-        same_copy s it (is_named (is_read g u same known_is is)) = absurd (cc)
+        same_copy : (s : Scheme) (it : KnowsLet known k n done) → IsAnswer scope (form.Inner k) done s → HaveSameTypes (no_goals s) (no_goals it.automaton)
+        same_copy s it (is_named t (is_copied j i same first is_there) alike) =
+            let P : Scheme → Type 0 = λ t. HaveSameTypes (no_goals t) (no_goals s) in
+            types_back (no_goals it.automaton) (no_goals s) (subst P (sym (copied_same t it j i same first is_there)) alike)
+        same_copy s it (is_named t (is_read g u same known_is is) alike) = absurd (cc)
         same_copy s it (is_solved c has solution) = absurd has.is
 
     -- a name of the environment
@@ -183,8 +186,10 @@ module _ (scope : Scope) where
     )
       where
         meaning_of : (s : Scheme) → IsAnswer scope (form.Global g) done s → (t : book.Scheme) × (slice_get scope.globals g ≡ Some t) × IsReadAs s t
-        meaning_of s (is_named (is_copied j i same first is_there)) = absurd (cc)
-        meaning_of s (is_named (is_read h t same known_is is)) = let same_number : g ≡ h = cc in (t, ap (slice_get scope.globals) same_number ∙ known_is, is)
+        meaning_of s (is_named r (is_copied j i same first is_there) alike) = absurd (cc)
+        meaning_of s (is_named r (is_read h t same known_is is) alike) =
+            let same_number : g ≡ h = cc in
+            (t, ap (slice_get scope.globals) same_number ∙ known_is, read_alike s r t (types_back (no_goals r) (no_goals s) alike) is)
         meaning_of s (is_solved c has solution) = absurd has.is
 
     -- a let, whose second part was inferred with the scheme of the first
@@ -257,8 +262,8 @@ module _ (scope : Scope) where
           whole = before_let at k e e'
 
           solution_of : (s : Scheme) → IsAnswer scope node.form done s → (c : Constraint) × HasConstraint node.form done c × IsSolution c s
-          solution_of s (is_named (is_copied q r same is there)) = absurd (cc)
-          solution_of s (is_named (is_read g t same known_is is)) = absurd (cc)
+          solution_of s (is_named u (is_copied q r same is there) alike) = absurd (cc)
+          solution_of s (is_named u (is_read g t same known_is is) alike) = absurd (cc)
           solution_of s (is_solved c has solution) = (c, has, solution)
 
           outside : (q : ℕ) → q < n → Contains (i ∷ j ∷ []) q → ⊥

@@ -14,7 +14,8 @@ use Rattle.mls_infer.specs.Constraints.{Constraint}
 use Rattle.mls_infer.specs.Joining.{part_labels}
 use Rattle.mls_infer.specs.Steps.{IsConstraintOf}
 use Rattle.mls_infer.specs.Finished.{Finished, child_of}
-use Rattle.mls_infer.specs.Finishing.{IsPosed, Scope, GoesOn, HasFirsts, HaveFirsts}
+use Rattle.mls_infer.specs.Finishing.{Scope, GoesOn, HasFirsts, HaveFirsts}
+use Rattle.mls_infer.specs.Forms.{IsPosed}
 use Rattle.mls_infer.proofs.Inferred.{second_none}
 use Rattle.mls_infer.proofs.Going.{KindAmong, kind_of_parts, kind_here, kind_later, kind_second, AllDone, Agree, agree_trans, agree_self, done_later, roots, Failing, Going, node_goes}
 use Rattle.mls_infer.proofs.GoingNames.{Ready, ready_later, ready_inside, inner_goes, global_goes, let_goes}

@@ -1,6 +1,7 @@
 -- The schemes of the environment, as automata.
 --     read_means             the automaton of a scheme that was read is read as this scheme
---     scheme_read, named_read, named_again, named_copy      a known name has its scheme
+--     scheme_read                 a known name has its scheme
+--     answer_read, answer_copied  and is answered with a copy of it
 --     reads_more             one more scheme that was read
 --     names_are              what names mean are schemes that need nothing of any binder
 use Rattle.std.proofs.Common.{◌≡◌, ◌≢◌, ◌⊎◌, inl, inr, ℕ, zero, suc, ◌<◌, List, [], ◌∷◌, map, length, get_or, All, Contains, refl, sym, ap, ◌∙◌, subst, arith, Some, slice_get}
@@ -25,14 +26,12 @@ use Rattle.mls_typetext.specs.Schemes.{scheme_of}
 use Rattle.mls_typing.proofs.Instances.{Allows-equivalent}
 use Rattle.mls_typing.proofs.Lists.{nothing_in}
 use Rattle.mls_typing.proofs.Rows.{both_ways}
-use Rattle.mls_infer.specs.declared.constraints.Open.{Open}
-use Rattle.mls_infer.specs.Constraints.{HasStates}
-use Rattle.mls_infer.specs.Posed.{scheme_in}
+use Rattle.mls_infer.specs.Constraints.{no_goals}
+use Rattle.mls_infer.specs.Merges.{HaveSameTypes}
 use Rattle.mls_infer.specs.Finished.{Finished, Has}
-use Rattle.mls_infer.specs.Finishing.{AreReads, IsRead, Scope, CanStep, IsNamedBy, is_copied, is_read, scope_of}
+use Rattle.mls_infer.specs.Finishing.{AreReads, IsAnswer, IsRead, Scope, is_copied, is_named, is_read}
 use Rattle.mls_infer.specs.Inference.{AreNames}
 use Rattle.mls_infer.specs.Steps.{IsReadAs}
-use Rattle.mls_infer.proofs.FinishedParts.{one_scheme}
 use Rattle.mls_infer.proofs.Models.{EachFound}
 use Rattle.mls_infer.proofs.Reading.{read_as}
 
@@ -86,37 +85,22 @@ scheme_read names g read s are low at is no_env equivalent =
       };
     }
 
-pub named_again : (names : Names) (firsts : BTreeMap ℕ ℕ) (done : Finished) (g : ℕ) (s copy : Scheme) → IsRead (map scheme_of names.schemes) g s → copy ≡ s → IsNamedBy (scope_of names firsts) (form.Global g) done copy
-named_again names firsts done g s copy it same = record {
-  named = is_read g it.book refl it.there (let R : Scheme → Type 0 = λ s. IsReadAs s it.book in subst R (sym same) it.read);
-  states = subst HasStates (sym same) it.states;
-}
+-- a name of the environment is answered with its types
+pub answer_read : (scope : Scope) (done : Finished) (g : ℕ) (s copy : Scheme) → IsRead scope.globals g s → HaveSameTypes (no_goals s) (no_goals copy) → IsAnswer scope (form.Global g) done copy
+answer_read scope done g s copy it same = is_named s (is_read g it.book refl it.there it.read) same
 
-pub named_read : (names : Names) (firsts : BTreeMap ℕ ℕ) (done : Finished) (g : ℕ) (read : ReadScheme) (s : Scheme) → AreNames names → g < length names.schemes → get_or names.schemes g read ≡ read → IsScheme s → s.env ≡ [] → IsEquivalentToRead read s
-    → IsNamedBy (scope_of names firsts) (form.Global g) done s
-named_read names firsts done g read s are low at is no_env equivalent = named_again names firsts done g s s (scheme_read names g read s are low at is no_env equivalent) refl
+-- and a let-bound name with those of the first part of its let
+pub answer_copied : (scope : Scope) (done : Finished) (k root : ℕ) (s copy : Scheme) → scope.first_of k ≡ Some root → Has done root s → HaveSameTypes (no_goals s) (no_goals copy) → IsAnswer scope (form.Inner k) done copy
+answer_copied scope done k root s copy first there same = is_named s (is_copied k root refl first there) same
 
 -- one more scheme that was read
-pub reads_more : (globals : List book.Scheme) (old new : BTreeMap ℕ Open) (g : ℕ) (s : Open) → AreReads globals old → get nat_cmp new g ≡ Some s → ((k : ℕ) → k ≢ g → get nat_cmp new k ≡ get nat_cmp old k) → IsRead globals g (scheme_in s) → AreReads globals new
+pub reads_more : (globals : List book.Scheme) (old new : BTreeMap ℕ Scheme) (g : ℕ) (s : Scheme) → AreReads globals old → get nat_cmp new g ≡ Some s → ((k : ℕ) → k ≢ g → get nat_cmp new k ≡ get nat_cmp old k) → IsRead globals g s → AreReads globals new
 reads_more globals old new g s are here others one k t e = go (cases_eq k g)
   where
-    go : (k ≡ g) ⊎ (k ≢ g) → IsRead globals k (scheme_in t)
+    go : (k ≡ g) ⊎ (k ≢ g) → IsRead globals k t
     go (inl same) =
         let both : Some s ≡ Some t = sym here ∙ (ap (get nat_cmp new) (sym same) ∙ e) in
         let at : s ≡ t = cc in
-        let P : ℕ → Type 0 = λ k. IsRead globals k (scheme_in t) in
-        subst P (sym same) (subst (λ (s : Open). IsRead globals g (scheme_in s)) at one)
+        let P : ℕ → Type 0 = λ k. IsRead globals k t in
+        subst P (sym same) (subst (IsRead globals g) at one)
     go (inr apart) = are k t (sym (others k apart) ∙ e)
-
--- and a copy of that of a let-bound name
-pub named_copy : (scope : Scope) (k : ℕ) (done : Finished) → CanStep scope (form.Inner k) done → (root : ℕ) (s copy : Scheme) → scope.first_of k ≡ Some root → Has done root s → copy ≡ s → IsNamedBy scope (form.Inner k) done copy
-named_copy scope k done can root s copy first there same =
-    let both : Some can.0 ≡ Some root = sym can.2 ∙ first in
-    let same_root : can.0 ≡ root = cc in
-    let H : ℕ → Type 0 = λ i. Has done i can.1 in
-    let same_scheme : can.1 ≡ s = one_scheme done root can.1 s (subst H same_root can.3) there in
-    let to_copy : s ≡ copy = sym same in
-    record {
-      named = is_copied k root refl first (let C : Scheme → Type 0 = λ s. Has done root s in subst C to_copy there);
-      states = subst HasStates to_copy (subst HasStates same_scheme can.4);
-    }

@@ -1,21 +1,24 @@
 -- The entries of one binder are a piece of the sorted ones, and give way to one entry.
---     half_merges          one entry for those of one binder, by halves
---     merged_to-next, merged_to-end     group after group
-use Rattle.std.proofs.Common.{◌≡◌, ◌≢◌, ◌⊎◌, inl, inr, ℕ, suc, ◌<◌, ◌≤◌, ◌+◌, ◌-◌, List, [], ◌∷◌, ◌++◌, length, get_or, take, drop, refl, sym, ap, ◌∙◌, subst, arith, Contains, All}
-use Rattle.std.proofs.lemmas.List.{take-append-drop, take_all, length-append, length-drop, get_or_append_left, get_or_default}
-use Rattle.std.proofs.Math.Seq.{get_or-append_seam, take-add}
-use Rattle.mls_book.proofs.LongerBooks.{below_or_more}
-use Rattle.mls_automaton.specs.Environments.{BindersRise}
+--     piece, All-piece     the members of a piece of a list
+--     one_of               a list of one
+--     merged_start, merged_next, merged_end     group after group
+use Rattle.std.proofs.Common.{◌≡◌, ◌≢◌, ◌⊎◌, inl, inr, ℕ, ◌<◌, ◌≤◌, ◌+◌, ◌-◌, ◌/◌, suc, List, [], ◌∷◌, ◌++◌, length, get_or, take, drop, refl, sym, ap, ◌∙◌, subst, arith, Contains, All}
+use Rattle.std.proofs.lemmas.List.{append-nil, append_assoc, drop-drop, drop_all, get_or-drop, get_or-take, get_or_append_left, get_or_default, length-append, length-drop, length-take-le, take-append-drop}
+use Rattle.std.proofs.Math.Seq.{get_or-append_seam}
 use Rattle.std.proofs.lemmas.List.Elements.{All-contains, Contains-get_or, Contains-append_left, Contains-append_right, Contains-append_cases}
+use Rattle.mls_book.proofs.LongerBooks.{below_or_more}
 use Rattle.mls_automaton.specs.declared.automaton.Polarity.TheVariants.{Negative}
-use Rattle.mls_automaton.specs.declared.state_set.StateId.{StateId}
 use Rattle.mls_automaton.specs.declared.scheme.EnvEntry.{EnvEntry}
-use Rattle.mls_automaton.specs.Automata.{Automaton, IsState}
-use Rattle.mls_automaton.specs.Models.{IsClosed}
-use Rattle.mls_automaton.proofs.Lists.{All-contained, Contains-here, Contains-cases}
-use Rattle.mls_infer.specs.Merges.{AreNegative, BindersAscend, HasSameMembers, IsGroup, IsMergedTo, IsMet, Merges}
+use Rattle.mls_automaton.specs.Environments.{BindersRise}
+use Rattle.mls_automaton.proofs.Lists.{All-contained, Contains-cases}
+use Rattle.mls_biunify.specs.Live.{IsLiveState, Live}
+use Rattle.mls_infer.specs.Merges.{BindersAscend, HasSameMembers, IsGroup}
+use Rattle.mls_infer.specs.Pending.{IsMeeting, IsRemade, Waits}
+use Rattle.mls_infer.specs.Regions.{TablePart}
 use Rattle.mls_infer.proofs.ConstraintRows.{nothing_in}
-use Rattle.mls_infer.proofs.Merges.{merges_append, merges_members, merges_met, merges_refl, merges_trans}
+use Rattle.mls_infer.proofs.Merges.{swapped_in}
+use Rattle.mls_infer.proofs.PartChanges.{remade_none, remade_then}
+use Rattle.mls_infer.proofs.SameParts.{remade_members, same_members, waits_members, with_lists}
 
 -- what holds of the members of a list holds of those of a piece
 module _ {X : Type 0} (xs : List X) where
@@ -43,39 +46,6 @@ one_of [] d e = absurd (omega arith)
 one_of (x ∷ []) d e = refl
 one_of (x ∷ y ∷ rest) d e = absurd (let h : suc (suc (length rest)) ≡ 1 = e in omega arith)
 
-pub one_merges : (a : Automaton) (xs : List EnvEntry) (d : EnvEntry) → IsClosed a → AreNegative a xs → length xs ≡ 1 → Merges a xs a (get_or xs 0 d ∷ [])
-one_merges a xs d closed are one = subst (Merges a xs a) (one_of xs d one) (merges_refl a xs closed are)
-
--- one entry for two halves
-module _ (a b c d : Automaton) (xs : List EnvEntry) (h binder : ℕ) (e e' : EnvEntry) (state : StateId) where
-  pub half_merges : AreNegative a xs → Merges a (take h xs) b (e ∷ []) → Merges b (take (length xs - h) (drop h xs)) c (e' ∷ []) → e.binder ≡ binder → e'.binder ≡ binder → IsMet e.state.0 e'.state.0 state.0 c d
-      → Merges a xs d (record { binder = binder; state = state } ∷ [])
-  half_merges are first second is is' met =
-      let rest : List EnvEntry = take (length xs - h) (drop h xs) in
-      let size : length (drop h xs) ≡ length xs - h = length-drop h xs in
-      let all : rest ≡ drop h xs = take_all (length xs - h) (drop h xs) (omega arith) in
-      let whole : take h xs ++ rest ≡ xs = ap (λ ys. take h xs ++ ys) all ∙ take-append-drop h xs in
-      let both : Merges a (take h xs ++ rest) c (e ∷ e' ∷ []) =
-      merges_append a b c (take h xs) rest (e ∷ []) (e' ∷ [])
-      (λ x it. are x (taken xs h x it)) (λ x it. are x (piece xs (length xs - h) h x it)) first second in
-      let is_first : IsState c Negative e.state.0 = second.states Negative e.state.0 (first.negative e (Contains-here e [])) in
-      let is_second : IsState c Negative e'.state.0 = second.negative e' (Contains-here e' []) in
-      let one : Merges c (record { binder = binder; state = e.state } ∷ record { binder = binder; state = e'.state } ∷ []) d (record { binder = binder; state = state } ∷ []) =
-      merges_met c d second.closed binder e.state.0 e'.state.0 state.0 is_first is_second met in
-      let same : e ≡ record { binder = binder; state = e.state } = λ i. record { binder = is i; state = e.state } in
-      let same' : e' ≡ record { binder = binder; state = e'.state } = λ i. record { binder = is' i; state = e'.state } in
-      let P : List EnvEntry → Type 0 = λ ys. Merges c ys d (record { binder = binder; state = state } ∷ []) in
-      let Q : List EnvEntry → Type 0 = λ ys. Merges a ys c (e ∷ e' ∷ []) in
-      merges_trans a c d xs (e ∷ e' ∷ []) (record { binder = binder; state = state } ∷ []) (subst Q whole both)
-      (subst P (sym (λ i. same i ∷ same' i ∷ [])) one)
-
--- entries that have stayed are negative in a later automaton
-pub negative_later : (a b : Automaton) (env entries xs ys : List EnvEntry) → AreNegative a env → HasSameMembers env entries → Merges a xs b ys → AreNegative b entries
-negative_later a b env entries xs ys are same m e it = m.states Negative e.state.0 (are e ((same e).1 it))
-
-pub negative_piece : (a b : Automaton) (env entries xs ys : List EnvEntry) (m n : ℕ) → AreNegative a env → HasSameMembers env entries → Merges a xs b ys → AreNegative b (take m (drop n entries))
-negative_piece a b env entries xs ys m n are same it e inside = negative_later a b env entries xs ys are same it e (piece entries m n e inside)
-
 -- a higher binder at the end
 pub rise_next : (xs : List EnvEntry) (e : EnvEntry) → BindersRise xs → All (λ (x : EnvEntry). x.binder < e.binder) xs → BindersRise (xs ++ e ∷ [])
 rise_next xs e rise all i j d less low = at (below_or_more j (length xs))
@@ -96,57 +66,144 @@ rise_next xs e rise all i j d less low = at (below_or_more j (length xs))
         subst (λ (x : EnvEntry). x.binder < (get_or (xs ++ e ∷ []) j d).binder) (sym (get_or_append_left xs (e ∷ []) d i i_old))
         (subst (λ (x : EnvEntry). (get_or xs i d).binder < x.binder) (sym new) (all i d i_old))
 
+-- the entries before this place have given way to these, whose binders are below those of the rest
+pub record IsMergedTo (old : Live) (part : TablePart) (entries : List EnvEntry) (i : ℕ) (live : Live) (states : List ℕ) (env : List EnvEntry) : Type 0 where
+  pub within : i ≤ length entries
+  pub remade : IsRemade old part live (with_lists states (env ++ drop i entries) part.root)
+  pub rise : BindersRise env
+  pub below : (e : EnvEntry) → Contains env e → (k : ℕ) (d : EnvEntry) → i ≤ k → k < length entries → e.binder < (get_or entries k d).binder
+
+pub merged_start : (live : Live) (part : TablePart) (entries : List EnvEntry) → Waits live part → HasSameMembers part.env entries → IsMergedTo live part entries 0 live part.states []
+merged_start live part entries waits same = record {
+  within = omega arith;
+  remade =
+      remade_members live live part.states part.states part.env part.env part.root part.states part.states part.env entries part.root
+      (same_members part.states) (same_members part.env) (same_members part.states) same (remade_none live part waits);
+  rise = λ i j d less low. absurd (omega arith);
+  below = λ e it. absurd (nothing_in e it);
+}
+
 -- group after group
-module _ (a b : Automaton) (env entries merged : List EnvEntry) (i : ℕ) (is : IsMergedTo a entries i b merged) where
-  module _ (low : i < length entries) (entry default : EnvEntry) (binder_is : entry.binder ≡ (get_or entries i default).binder) where
+module _ (old live : Live) (part : TablePart) (entries : List EnvEntry) (i : ℕ) (states : List ℕ) (env : List EnvEntry) (is : IsMergedTo old part entries i live states env)
+    (end : ℕ) (group : IsGroup entries i end) (default : EnvEntry) where
+  abbrev group_of : List EnvEntry
+  group_of = take (end - i) (drop i entries)
+
+  abbrev rest : List EnvEntry
+  rest = drop end entries
+
+  low : i < length entries
+  low = let more : i < end = group.some in let all : end ≤ length entries = group.within in omega arith
+
+  group_length : length group_of ≡ end - i
+  group_length =
+      let more : i < end = group.some in
+      let all : end ≤ length entries = group.within in
+      let size : length (drop i entries) ≡ length entries - i = length-drop i entries in
+      length-take-le (end - i) (drop i entries) (omega arith)
+
+  pub group_some : 0 < length group_of
+  group_some = let more : i < end = group.some in let size : length group_of ≡ end - i = group_length in omega arith
+
+  group_at : (k : ℕ) (d : EnvEntry) → k < length group_of → get_or group_of k d ≡ get_or entries (i + k) d
+  group_at k d k_low =
+      let size : length group_of ≡ end - i = group_length in
+      get_or-take (end - i) (drop i entries) k d (omega arith) ∙ get_or-drop i entries k d
+
+  pub group_binder : All (λ (e : EnvEntry). e.binder ≡ (get_or entries i default).binder) group_of
+  group_binder k d k_low =
+      let size : length group_of ≡ end - i = group_length in
+      ap (λ (e : EnvEntry). e.binder) (group_at k d k_low)
+      ∙ (group.same (i + k) d (omega arith) (omega arith) ∙ ap (λ (e : EnvEntry). e.binder) (get_or_default entries i d default low))
+
+  rest_is : drop i entries ≡ group_of ++ rest
+  rest_is =
+      let more : i < end = group.some in
+      let at_end : i + (end - i) ≡ end = omega arith in
+      sym (take-append-drop (end - i) (drop i entries)) ∙ ap (λ (xs : List EnvEntry). group_of ++ xs) (drop-drop (end - i) i entries ∙ ap (λ n. drop n entries) at_end)
+
+  waits : Waits live (with_lists states (env ++ (group_of ++ rest)) part.root)
+  waits = subst (λ (xs : List EnvEntry). Waits live (with_lists states (env ++ xs) part.root)) rest_is is.remade.waits
+
+  pub group_states : All (λ (e : EnvEntry). IsLiveState live Negative e.state.0) group_of
+  group_states =
+      All-contained (λ (e : EnvEntry). IsLiveState live Negative e.state.0) group_of (λ e it.
+      let inside : Contains (env ++ (group_of ++ rest)) e = Contains-append_right env (group_of ++ rest) e (Contains-append_left group_of rest e it) in
+      record { there = waits.there e.state.0 (waits.part.env_in e inside); polarity = waits.part.env_negative e inside })
+
+  module _ (new : Live) (more : List ℕ) (entry : EnvEntry) (env' : List EnvEntry) (meeting : IsMeeting live states group_of new more entry) (env_is : env' ≡ env ++ entry ∷ []) (ascend : BindersAscend entries) where
     binder_at : (d : EnvEntry) → entry.binder ≡ (get_or entries i d).binder
-    binder_at d = binder_is ∙ ap (λ (e : EnvEntry). e.binder) (get_or_default entries i default d low)
+    binder_at d =
+        let e : EnvEntry = get_or group_of 0 d in
+        sym (meeting.binder e (Contains-get_or group_of 0 d group_some))
+        ∙ (group_binder 0 d group_some ∙ ap (λ (e : EnvEntry). e.binder) (get_or_default entries i default d low))
 
-    pub binders_below : (k : ℕ) (d : EnvEntry) → k < length merged → (get_or merged k d).binder < entry.binder
-    binders_below k d k_low =
-        subst (λ n. (get_or merged k d).binder < n) (sym (binder_at d)) (is.below (get_or merged k d) (Contains-get_or merged k d k_low) i d (let h : i ≤ i = omega arith in h) low)
+    -- the part with the entry in place of the group
+    remade : IsRemade old part new (with_lists more ((env ++ entry ∷ []) ++ rest) part.root)
+    remade =
+        let before : List EnvEntry = env ++ (group_of ++ rest) in
+        let moved : List EnvEntry = group_of ++ (env ++ rest) in
+        let met : List EnvEntry = entry ∷ (env ++ rest) in
+        let after : List EnvEntry = env ++ (entry ∷ rest) in
+        let step : IsRemade live (with_lists states moved part.root) new (with_lists more met part.root) =
+        meeting.remade (env ++ rest) part.root (waits_members states states (same_members states) before moved (swapped_in env group_of rest) part.root live waits) in
+        let back : IsRemade live (with_lists states before part.root) new (with_lists more after part.root) =
+        remade_members live new states states moved before part.root more more met after part.root
+        (same_members states) (swapped_in group_of env rest) (same_members more) (swapped_in (entry ∷ []) env rest) step in
+        let own : IsRemade live (with_lists states (env ++ drop i entries) part.root) new (with_lists more after part.root) =
+        subst (λ (xs : List EnvEntry). IsRemade live (with_lists states (env ++ xs) part.root) new (with_lists more after part.root)) (sym rest_is) back in
+        let whole : IsRemade old part new (with_lists more after part.root) =
+        remade_then old part live (with_lists states (env ++ drop i entries) part.root) new (with_lists more after part.root) is.remade own in
+        subst (λ (xs : List EnvEntry). IsRemade old part new (with_lists more xs part.root)) (sym (append_assoc env (entry ∷ []) rest)) whole
 
-    module _ (c : Automaton) (end : ℕ) (merged' : List EnvEntry) (are : AreNegative a env) (same : HasSameMembers env entries) (ascend : BindersAscend entries) (group_is : IsGroup entries i end) (merges : Merges b (take (end - i) (drop i entries)) c (entry ∷ [])) (merged_is : merged' ≡ merged ++ entry ∷ []) where
-      abbrev part : List EnvEntry
-      part = take (end - i) (drop i entries)
+    new_below : (k : ℕ) (d : EnvEntry) → end ≤ k → k < length entries → entry.binder < (get_or entries k d).binder
+    new_below k d le k_low =
+        let some : i < end = group.some in
+        let first : (get_or entries i d).binder ≤ (get_or entries end d).binder = ascend i end d (omega arith) (omega arith) in
+        let other : (get_or entries end d).binder ≢ (get_or entries i d).binder = group.other d (omega arith) in
+        let later : (get_or entries end d).binder ≤ (get_or entries k d).binder = ascend end k d le k_low in
+        let at : entry.binder ≡ (get_or entries i d).binder = binder_at d in
+        let strict : (get_or entries i d).binder < (get_or entries end d).binder = strictly (get_or entries i d).binder (get_or entries end d).binder first other in
+        omega arith
+      where
+        strictly : (m n : ℕ) → m ≤ n → n ≢ m → m < n
+        strictly m n le unlike = omega arith
 
-      whole : Merges a (take end entries) c (merged ++ entry ∷ [])
-      whole =
-          let more : i < end = group_is.some in
-          let at_end : i + (end - i) ≡ end = omega arith in
-          let parts : take end entries ≡ take i entries ++ part = ap (λ n. take n entries) (sym at_end) ∙ take-add i (end - i) entries in
-          let P : List EnvEntry → Type 0 = λ xs. Merges a xs c (merged ++ entry ∷ []) in
-          subst P (sym parts)
-          (merges_append a b c (take i entries) part merged (entry ∷ [])
-          (λ x it. are x ((same x).1 (taken entries i x it))) (λ x it. are x ((same x).1 (piece entries (end - i) i x it))) is.merges merges)
+    below : (e : EnvEntry) → Contains env e ⊎ Contains (entry ∷ []) e → (k : ℕ) (d : EnvEntry) → end ≤ k → k < length entries → e.binder < (get_or entries k d).binder
+    below e (inl earlier) k d le k_low = let some : i < end = group.some in is.below e earlier k d (omega arith) k_low
+    below e (inr one) k d le k_low = elim (Contains-cases entry [] e one) [
+      | inl same ↦ subst (λ (e : EnvEntry). e.binder < (get_or entries k d).binder) same (new_below k d le k_low)
+      | inr none ↦ absurd (nothing_in e none)
+    ]
 
-      new_below : (k : ℕ) (d : EnvEntry) → end ≤ k → k < length entries → entry.binder < (get_or entries k d).binder
-      new_below k d le k_low =
-          let more : i < end = group_is.some in
-          let first : (get_or entries i d).binder ≤ (get_or entries end d).binder = ascend i end d (omega arith) (omega arith) in
-          let other : (get_or entries end d).binder ≢ (get_or entries i d).binder = group_is.other d (omega arith) in
-          let later : (get_or entries end d).binder ≤ (get_or entries k d).binder = ascend end k d le k_low in
-          let at : entry.binder ≡ (get_or entries i d).binder = binder_at d in
-          let strict : (get_or entries i d).binder < (get_or entries end d).binder = strictly (get_or entries i d).binder (get_or entries end d).binder first other in
-          omega arith
-        where
-          strictly : (m n : ℕ) → m ≤ n → n ≢ m → m < n
-          strictly m n le unlike = omega arith
+    lower : All (λ (e : EnvEntry). e.binder < entry.binder) env
+    lower =
+        All-contained (λ (e : EnvEntry). e.binder < entry.binder) env
+        (λ e it. subst (λ n. e.binder < n) (sym (binder_at default)) (is.below e it i default (omega arith) low))
 
-      below : (e : EnvEntry) → Contains merged e ⊎ Contains (entry ∷ []) e → (k : ℕ) (d : EnvEntry) → end ≤ k → k < length entries → e.binder < (get_or entries k d).binder
-      below e (inl old) k d le k_low = let more : i < end = group_is.some in is.below e old k d (omega arith) k_low
-      below e (inr new) k d le k_low = one e (Contains-cases entry [] e new) k d le k_low
-        where
-          one : (e : EnvEntry) → (entry ≡ e) ⊎ Contains [] e → (k : ℕ) (d : EnvEntry) → end ≤ k → k < length entries → e.binder < (get_or entries k d).binder
-          one e (inl same) k d le k_low = subst (λ (e : EnvEntry). e.binder < (get_or entries k d).binder) same (new_below k d le k_low)
-          one e (inr none) k d le k_low = absurd (nothing_in e none)
+    pub merged_next : IsMergedTo old part entries end new more env'
+    merged_next =
+        subst (IsMergedTo old part entries end new more) (sym env_is)
+        (record {
+          within = group.within;
+          remade = remade;
+          rise = rise_next env entry is.rise lower;
+          below = λ e it. below e (Contains-append_cases env (entry ∷ []) e it);
+        })
 
-      pub merged_to-next : IsMergedTo a entries end c merged'
-      merged_to-next =
-          subst (IsMergedTo a entries end c) (sym merged_is)
-          (record { within = group_is.within; merges = whole; rise = rise_next merged entry is.rise binders_below; below = λ e it. below e (Contains-append_cases merged (entry ∷ []) e it) })
+pub merged_end : (old live : Live) (part : TablePart) (entries : List EnvEntry) (i : ℕ) (states : List ℕ) (env : List EnvEntry) → IsMergedTo old part entries i live states env → length entries ≤ i
+    → IsRemade old part live (with_lists states env part.root)
+merged_end old live part entries i states env is all =
+    subst (λ (xs : List EnvEntry). IsRemade old part live (with_lists states xs part.root))
+    (ap (λ (xs : List EnvEntry). env ++ xs) (drop_all i entries all) ∙ append-nil env) is.remade
 
-  pub merged_to-end : IsClosed a → AreNegative a env → HasSameMembers env entries → length entries ≤ i → Merges a env b merged
-  merged_to-end closed are same all =
-      let P : List EnvEntry → Type 0 = λ xs. Merges a xs b merged in
-      merges_trans a a b env entries merged (merges_members a env entries closed are same) (subst P (take_all i entries all) is.merges)
+-- both halves of more than one have some
+pub halves_some : {X : Type 0} (xs : List X) → 0 < length xs → length xs ≢ 1 → (0 < length (take (length xs / 2) xs)) × (0 < length (take (length xs - length xs / 2) (drop (length xs / 2) xs)))
+halves_some xs some more =
+    let low : 0 < length xs / 2 = omega arith in
+    let high : length xs / 2 < length xs = omega arith in
+    let rest : length (drop (length xs / 2) xs) ≡ length xs - length xs / 2 = length-drop (length xs / 2) xs in
+    let one : length (take (length xs / 2) xs) ≡ length xs / 2 = length-take-le (length xs / 2) xs (omega arith) in
+    let other : length (take (length xs - length xs / 2) (drop (length xs / 2) xs)) ≡ length xs - length xs / 2 =
+    length-take-le (length xs - length xs / 2) (drop (length xs / 2) xs) (omega arith) in
+    (omega arith, omega arith)

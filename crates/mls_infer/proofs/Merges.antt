@@ -54,6 +54,9 @@ module _ {X : Type 0} where
     ]
   ]
 
+  pub swapped_in : (xs ys zs : List X) → HasSameMembers (xs ++ (ys ++ zs)) (ys ++ (xs ++ zs))
+  swapped_in xs ys zs x = (swap_in xs ys zs x, swap_in ys xs zs x)
+
   both_in : (P : X → Type 0) (xs ys : List X) → ((x : X) → Contains xs x → P x) → ((x : X) → Contains ys x → P x) → (x : X) → Contains (xs ++ ys) x → P x
   both_in P xs ys first second x it = elim (Contains-append_cases xs ys x it) [ inl one ↦ first x one | inr other ↦ second x other ]
 

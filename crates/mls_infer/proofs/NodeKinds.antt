@@ -6,7 +6,7 @@ use Rattle.mls_term.specs.declared.term.TermForm.{TermForm}
 use Rattle.mls_term.specs.declared.term.TermForm.TheVariants as form
 use Rattle.mls_infer.specs.declared.fault.SiteKind.{SiteKind}
 use Rattle.mls_infer.specs.Constraints.{Constraint, apply_constraint, choice_constraint, fix_constraint, project_constraint, turned_constraint}
-use Rattle.mls_infer.specs.Finishing.{IsPosed}
+use Rattle.mls_infer.specs.Forms.{IsPosed}
 use Rattle.mls_infer.specs.Merges.{AreMergedSchemes}
 use Rattle.mls_infer.specs.Solved.{GoalsOf, IsFirstKind}
 use Rattle.mls_infer.proofs.MergedKinds.{apply_merged, choice_merged, fix_merged, no_first_kind, project_merged, turned_merged}

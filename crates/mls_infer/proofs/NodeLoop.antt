@@ -9,6 +9,7 @@ use Rattle.std.proofs.Math.Seq.{drop-cons}
 use Rattle.std.proofs.lemmas.List.{length-map}
 use Rattle.mls_automaton.specs.declared.scheme.Scheme.{Scheme}
 use Rattle.mls_automaton.specs.Schemes.{IsScheme, IsSchemeOf}
+use Rattle.mls_book.specs.Predicates.{bot}
 use Rattle.mls_book.specs.Schemes as book
 use Rattle.mls_term.specs.declared.term.TermNode.{TermNode}
 use Rattle.mls_term.specs.Terms.{TermTree, before, postorder}
@@ -17,22 +18,27 @@ use Rattle.mls_term.specs.WellFormed.{IsScoped, IsTerm, IsFirstNone}
 use Rattle.mls_term.proofs.TreesOfTerms.{one_term_tree}
 use Rattle.mls_typing.specs.InferenceLaws.{at_start}
 use Rattle.mls_typing.proofs.PartNodes.{length-postorder}
+use Rattle.mls_typing.proofs.Rows.{both_ways}
 use Rattle.mls_typetext.specs.declared.scheme.Names.{Names}
 use Rattle.mls_typetext.specs.Schemes.{scheme_of}
 use Rattle.mls_infer.specs.declared.fault.SiteKind.{SiteKind}
 use Rattle.mls_infer.specs.Finished.{Finished, Has}
-use Rattle.mls_infer.specs.Finishing.{Scope, CanStep, GoesOnIn, IsAnswerBy, IsInferred, IsStop, KeepsOthers, first_in, scope_of, without_env}
+use Rattle.mls_infer.specs.Constraints.{no_goals}
+use Rattle.mls_infer.specs.Finishing.{Scope, CanStep, GoesOnIn, IsAnswerBy, IsInferred, IsStop, KeepsBut, first_in, scope_of, without_env}
+use Rattle.mls_infer.specs.Forms.{children}
 use Rattle.mls_infer.specs.Inference.{AreNames, IsKindAt}
-use Rattle.mls_infer.proofs.FinishedParts.{one_scheme}
+use Rattle.mls_infer.specs.Merges.{HaveSameTypes}
+use Rattle.mls_infer.proofs.ConstraintRows.{nothing_in}
 use Rattle.mls_infer.proofs.FirstParts.{firsts_are}
 use Rattle.mls_infer.proofs.KnownSchemes.{names_are}
-use Rattle.mls_infer.proofs.WholeTerms.{starts, without_env_is}
+use Rattle.mls_infer.proofs.Going.{read_alike}
+use Rattle.mls_infer.proofs.Merges.{types_trans}
+use Rattle.mls_infer.proofs.Models.{EachFound}
+use Rattle.mls_infer.proofs.Reading.{read_as}
+use Rattle.mls_infer.proofs.Told.{cleared, cleared_other, cleared_size, get_end}
+use Rattle.mls_infer.proofs.WholeTerms.{starts, types_same}
 
--- at the end of a list, and before it
-get_end : {X : Type 0} (xs : List X) (x : X) → slice_get (xs ++ x ∷ []) (length xs) ≡ Some x
-get_end [] x = refl
-get_end (y ∷ xs) x = get_end xs x
-
+-- before the end of a list
 get_before : {X : Type 0} (xs : List X) (x : X) (k : ℕ) → k < length xs → slice_get (xs ++ x ∷ []) k ≡ slice_get xs k
 get_before [] x k low = absurd (omega arith)
 get_before (y ∷ xs) x zero low = refl
@@ -62,9 +68,10 @@ module _ (scope : Scope) (nodes : List TermNode) (i : ℕ) (done : Finished) (go
     pub stops_here : (m : SiteKind) → IsStop node.form done m → (t : TermTree) → nodes ≡ postorder 0 t → IsFirstNone scope.globals t (length done) × IsKindAt scope.globals t (length done) m
     stops_here m stop t nodes_are = (at_node t nodes_are).1 m stop
 
-    pub goes_further : (mid : Finished) (s : Scheme) → IsAnswerBy scope node.form done s → KeepsOthers node.form done mid → GoesFrom scope nodes (suc i) (mid ++ Some s ∷ [])
-    goes_further mid s answer keeps t nodes_are =
-        let size : length mid ≡ length done = keeps.size in
+    pub goes_further : (s : Scheme) → IsAnswerBy scope node.form done s → GoesFrom scope nodes (suc i) (cleared (children node.form) done ++ Some s ∷ [])
+    goes_further s answer t nodes_are =
+        let mid : Finished = cleared (children node.form) done in
+        let size : length mid ≡ length done = cleared_size (children node.form) done in
         let P : ℕ → Type 0 = λ k. Has (mid ++ Some s ∷ []) k s in
         (at_node t nodes_are).2 (mid ++ Some s ∷ []) s
         (record {
@@ -72,7 +79,7 @@ module _ (scope : Scope) (nodes : List TermNode) (i : ℕ) (done : Finished) (go
           states = answer.states;
           longer = let both : length (mid ++ Some s ∷ []) ≡ length mid + 1 = length-append mid (Some s ∷ []) in omega arith;
           added = subst P size (get_end mid (Some s));
-          kept = λ j low' out. get_before mid (Some s) j (omega arith) ∙ keeps.kept j out;
+          kept = λ j low' out. get_before mid (Some s) j (omega arith) ∙ cleared_other (children node.form) done j out;
         })
 
   -- behind the last node
@@ -106,8 +113,23 @@ module _ (names : Names) (firsts : BTreeMap ℕ ℕ) (nodes : List TermNode) (bi
 pub last_node : (nodes : List TermNode) (t : TermTree) → nodes ≡ postorder 0 t → length nodes ≡ suc (before t)
 last_node nodes t nodes_are = ap length nodes_are ∙ length-postorder t 0
 
--- the scheme that is taken there, without its environment
-pub whole_answer : (globals : List book.Scheme) (t : TermTree) (done : Finished) → IsInferred globals t done → (s : Scheme) → Has done (before t) s → IsScheme (without_env s) × ((u : book.Scheme) → IsSchemeOf (without_env s) u → IsBest (at_start globals) t u)
-whole_answer globals t done it s there =
-    let P : Scheme → Type 0 = λ s. IsScheme (without_env s) × ((u : book.Scheme) → IsSchemeOf (without_env s) u → IsBest (at_start globals) t u) in
-    subst P (one_scheme done (before t) it.scheme s it.there there) (without_env_is it.scheme it.is, it.best)
+-- without their environments schemes with the same types have the same types
+pub same_closed : (s t : Scheme) → HaveSameTypes (no_goals s) (no_goals t) → HaveSameTypes (no_goals (without_env s)) (no_goals (without_env t))
+same_closed s t same types f =
+    let one = types_same types f s in
+    both_ways (one.1, one.0) (both_ways (same (λ x. bot) f) (types_same types f t))
+
+-- a scheme with the types of that which is known at the end, without its environment, is a most general one
+pub whole_answer : (globals : List book.Scheme) (t : TermTree) (told known : Finished) → IsInferred globals t told → KeepsBut [] told known → (r : Scheme) → IsScheme r → r.env ≡ []
+    → ((s : Scheme) → Has known (before t) s → HaveSameTypes (no_goals (without_env s)) (no_goals r)) → (u : book.Scheme) → IsSchemeOf r u → IsBest (at_start globals) t u
+whole_answer globals t told known it keeps r is no_env same u is_u =
+    let s = keeps.kept (before t) it.scheme (λ none. nothing_in (before t) none) it.there in
+    let each : EachFound r.env = subst EachFound (sym no_env) (λ entry inside. absurd (nothing_in entry inside)) in
+    it.best u
+    (read_alike (without_env it.scheme) r u
+    (types_trans (no_goals (without_env it.scheme)) (no_goals (without_env s.0)) (no_goals r) (same_closed it.scheme s.0 s.2) (same s.0 s.1))
+    (read_as r is each u is_u))
+
+-- the scheme of the root is known then
+pub whole_known : (globals : List book.Scheme) (t : TermTree) (told known : Finished) → IsInferred globals t told → KeepsBut [] told known → (s : Scheme) × Has known (before t) s
+whole_known globals t told known it keeps = let s = keeps.kept (before t) it.scheme (λ none. nothing_in (before t) none) it.there in (s.0, s.1)

@@ -24,7 +24,7 @@ first_there e rest = at (e.binder == e.binder) (eq-eqb e.binder e.binder refl)
     at true is = refl
     at false is = absurd (cc)
 
-no_entries : (env : List EnvEntry) → ((x : ℕ) → false ≡ is_some (state_of env x)) → env ≡ []
+pub no_entries : (env : List EnvEntry) → ((x : ℕ) → false ≡ is_some (state_of env x)) → env ≡ []
 no_entries [] none = refl
 no_entries (e ∷ rest) none = let no : false ≡ true = none e.binder ∙ first_there e rest in absurd (cc)
 

@@ -42,7 +42,7 @@ use Rattle.mls_infer.proofs.Solving.{clash_no_types, solved_solution}
 use Rattle.mls_infer.proofs.Stepping.{solution_equivalent}
 
 -- more goals relate more
-related_more : (a : Automaton) (R S : ℕ → ℕ → Type 0) → ((p n : ℕ) → R p n → S p n) → (p n : ℕ) → IsRelated a R p n → IsRelated a S p n
+pub related_more : (a : Automaton) (R S : ℕ → ℕ → Type 0) → ((p n : ℕ) → R p n → S p n) → (p n : ℕ) → IsRelated a R p n → IsRelated a S p n
 related_more a R S more p n (goal it) = goal (more p n it)
 related_more a R S more p n (domain {p = q} {n = m} it from to) = domain (related_more a R S more q m it) from to
 related_more a R S more p n (codomain {p = q} {n = m} it from to) = codomain (related_more a R S more q m it) from to

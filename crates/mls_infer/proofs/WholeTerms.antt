@@ -11,7 +11,7 @@ use Rattle.mls_book.specs.Passes.{passes_by}
 use Rattle.mls_book.specs.Schemes as book
 use Rattle.mls_book.specs.Schemes.{binder_passes}
 use Rattle.mls_automaton.specs.declared.scheme.Scheme.{Scheme}
-use Rattle.mls_automaton.specs.Schemes.{IsScheme, IsSchemeOf}
+use Rattle.mls_automaton.specs.Schemes.{IsScheme}
 use Rattle.mls_term.specs.declared.term.TermNode.{TermNode}
 use Rattle.mls_term.specs.Terms.{TermTree, before, postorder}
 use Rattle.mls_term.specs.Derivations.{Known, IsBest}
@@ -29,7 +29,6 @@ use Rattle.mls_infer.specs.Inference.{IsKindAt}
 use Rattle.mls_infer.specs.Finishing.{Scope, GoesOnIn, HasFirsts, without_env, IsInferred}
 use Rattle.mls_infer.proofs.Going.{Done}
 use Rattle.mls_infer.proofs.GoingTrees.{goes_tree}
-use Rattle.mls_infer.proofs.Reading.{read_as}
 
 -- a scheme over a book without its environment
 abbrev closed : book.Scheme → book.Scheme
@@ -53,7 +52,7 @@ module _ (types : ℕ → Predicate) (f : Predicate) where
     },
   )
 
-  types_same : (s : Scheme) → HasTypes (no_goals s) (λ x. bot) f ↔ HasTypes (no_goals (without_env s)) types f
+  pub types_same : (s : Scheme) → HasTypes (no_goals s) (λ x. bot) f ↔ HasTypes (no_goals (without_env s)) types f
   types_same s = (
     λ h. record { nodes = h.nodes; closed = h.closed; value = h.value; held = h.held; model = h.model; goals = h.goals; root = h.root; env = λ entry inside. absurd (nothing_in entry inside) },
     λ h. record { nodes = h.nodes; closed = h.closed; value = h.value; held = h.held; model = h.model; goals = h.goals; root = h.root; env = λ entry inside q k. absurd (cc) },
@@ -89,9 +88,8 @@ module _ (globals : List book.Scheme) (whole : TermTree) (all : AllSchemes globa
       env = λ x i e. let nothing : finmap.get (finmap.empty {X = ℕ} {R = nat_cmp}) x ≡ None = get-empty nat_cmp x in absurd (cc);
     }
 
-    each_best : (u : book.Scheme) → IsSchemeOf (without_env s) u → IsBest start whole u
-    each_best u is_book =
-        let read : IsReadAs (without_env s) u = read_as (without_env s) (without_env_is s it.part.states) (λ entry inside. absurd (nothing_in entry inside)) u is_book in
+    each_best : (u : book.Scheme) → IsReadAs (without_env s) u → IsBest start whole u
+    each_best u read =
         (best_allows_types start whole u start_schemes read.is).1
         (λ types f.
         both_ways ((best_allows_types start whole (closed r) start_schemes closed_is).0 closed_best types f)

@@ -1,17 +1,11 @@
 -- The schemes of finished parts.
-use Rattle.std.specs.Prelude.{◌≡◌, ℕ, List, [], ◌∷◌, map, option_map, slice_get, Option, Some}
+use Rattle.std.specs.Prelude.{◌≡◌, ℕ, List, [], ◌∷◌, slice_get, Option, Some}
 use Rattle.mls_automaton.specs.declared.scheme.Scheme.{Scheme}
 use Rattle.mls_term.specs.declared.term.Part.{Part}
-use Rattle.mls_infer.specs.declared.constraints.Open.{Open}
-use Rattle.mls_infer.specs.Posed.{scheme_in}
 
 -- The schemes of finished parts, each under the number of its root, until the node above takes it.
 abbrev pub Finished : Type 0
 Finished = List (Option Scheme)
-
--- the schemes of parts, as the program keeps them
-abbrev pub schemes_in : List (Option Open) → Finished
-schemes_in parts = map (option_map scheme_in) parts
 
 -- the scheme of the part with this root is there
 abbrev pub Has : Finished → ℕ → Scheme → Type 0

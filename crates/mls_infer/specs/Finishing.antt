@@ -1,12 +1,11 @@
 -- The loop over the nodes in postorder: what a node takes of the schemes of finished parts, and what it answers.
-use Rattle.std.specs.Prelude.{◌≡◌, ◌≢◌, ℕ, suc, ◌+◌, ◌<◌, List, [], ◌∷◌, length, map, slice_get, All, Contains, cond}
+use Rattle.std.specs.Prelude.{◌≡◌, ◌≢◌, ℕ, suc, ◌+◌, ◌<◌, List, [], ◌∷◌, length, slice_get, All, Contains, cond}
 use Rattle.std.specs.Prelude.{Option, Some, None}
 use Rattle.std.specs.BTreeMap.{BTreeMap, get}
 use Rattle.std.specs.Ordering.{nat_cmp, eq_by_cmp}
 use Rattle.std.specs.List.{AllPairs}
 use Rattle.mls_book.specs.Schemes as book
 use Rattle.mls_automaton.specs.declared.scheme.Scheme.{Scheme}
-use Rattle.mls_automaton.specs.Schemes.{IsSchemeOf}
 use Rattle.mls_term.specs.declared.term.TermForm.{TermForm}
 use Rattle.mls_term.specs.declared.term.TermForm.TheVariants as form
 use Rattle.mls_term.specs.declared.term.TermNode.{TermNode}
@@ -19,55 +18,15 @@ use Rattle.mls_typetext.specs.declared.scheme.Names.{Names}
 use Rattle.mls_infer.specs.declared.fault.InferFault.{InferFault}
 use Rattle.mls_infer.specs.declared.fault.InferFault.TheVariants as fault
 use Rattle.mls_infer.specs.declared.fault.SiteKind.{SiteKind}
-use Rattle.mls_infer.specs.declared.constraints.Constraints.{Constraints}
-use Rattle.mls_infer.specs.declared.constraints.Open.{Open}
-use Rattle.mls_infer.specs.declared.node.Source.{Source}
-use Rattle.mls_infer.specs.declared.node.Source.TheVariants as source
 use Rattle.mls_infer.specs.declared.solve.NoSolution.{NoSolution}
 use Rattle.mls_infer.specs.declared.solve.NoSolution.TheVariants as no_solution
-use Rattle.mls_infer.specs.Constraints.{Constraint, HasStates, int_head, bool_head, bound_constraint}
-use Rattle.mls_infer.specs.Constraints.{AreStatesOf, HasOneState, IsApplied, literal_constraint, fun_constraint}
-use Rattle.mls_infer.specs.Constraints.{fix_constraint, project_constraint, choice_constraint}
-use Rattle.mls_infer.specs.Merges.{AreAlike}
-use Rattle.mls_infer.specs.Constraints.{let_constraint}
-use Rattle.mls_infer.specs.Finished.{Finished, Has, HasEach, child_of}
+use Rattle.mls_infer.specs.Constraints.{Constraint, HasStates, no_goals}
+use Rattle.mls_infer.specs.Merges.{AreAlike, HaveSameTypes}
+use Rattle.mls_infer.specs.Finished.{Finished, Has, HasEach}
+use Rattle.mls_infer.specs.Forms.{IsBuilt, IsPosed, children}
 use Rattle.mls_infer.specs.Inference.{IsKindAt, schemes_in}
-use Rattle.mls_infer.specs.Joining.{part_labels}
-use Rattle.mls_infer.specs.Posed.{IsMadeOf, IsGoalOf, constraint_of, scheme_in}
 use Rattle.mls_infer.specs.Solved.{TellsFirstClash}
 use Rattle.mls_infer.specs.Steps.{IsReadAs, IsSolution, HasNoTypes}
-
--- the roots of the parts of a node, in the order of the text
-abbrev pub children : TermForm → List ℕ
-children (form.Fun x e) = e ∷ []
-children (form.Apply f a) = f ∷ a ∷ []
-children (form.Make parts) = map child_of parts
-children (form.Project e label) = e ∷ []
-children (form.If c e f) = c ∷ e ∷ f ∷ []
-children (form.Let k e f) = e ∷ f ∷ []
-children (form.Rec x e) = e ∷ []
-children _ = []
-
--- the node is no known name, and as a record it has no label twice
-abbrev pub IsBuilt : TermForm → Type 0
-IsBuilt (form.Inner k) = ⊥
-IsBuilt (form.Global g) = ⊥
-IsBuilt (form.Make parts) = AllPairs (λ x y. x ≢ y) (part_labels parts)
-IsBuilt _ = Unit {0}
-
--- the constraint of a node, over the schemes of its parts; a known name has none
-abbrev pub IsPosed : TermForm → List Scheme → Constraint → Type 0
-IsPosed (form.Bound x) [] c = c ≡ bound_constraint x
-IsPosed (form.Number value) [] c = c ≡ literal_constraint int_head
-IsPosed (form.Truth value) [] c = c ≡ literal_constraint bool_head
-IsPosed (form.Fun x e) (s ∷ []) c = (domain : List ℕ) × AreStatesOf x s domain × (c ≡ fun_constraint domain x s)
-IsPosed (form.Apply f a) (s ∷ t ∷ []) c = IsApplied s t c
-IsPosed (form.Make parts) ss c = IsMadeOf (part_labels parts) ss c
-IsPosed (form.Project e label) (s ∷ []) c = c ≡ project_constraint label s
-IsPosed (form.If c e f) (r ∷ s ∷ t ∷ []) d = d ≡ choice_constraint r s t
-IsPosed (form.Let k e f) (s ∷ t ∷ []) c = c ≡ let_constraint s t
-IsPosed (form.Rec x e) (s ∷ []) c = HasOneState x s × (c ≡ fix_constraint x s)
-IsPosed _ ss c = ⊥
 
 -- Schemes of the names that are in scope: those of the environment, and for each let the root of its first part.
 pub record Scope : Type 0 where
@@ -102,15 +61,16 @@ pub data IsNamed (scope : Scope) (node : TermForm) (done : Finished) (s : Scheme
   is_read : (g : ℕ) (t : book.Scheme) → node ≡ form.Global g → slice_get scope.globals g ≡ Some t → IsReadAs s t
       → IsNamed scope node done s
 
--- the scheme of a node: that of a known name, or a solution of its constraint
+-- the scheme of a node: one with the types of a known name, or a solution of its constraint
 pub data IsAnswer (scope : Scope) (node : TermForm) (done : Finished) (s : Scheme) : Type 0 where
-  is_named : IsNamed scope node done s → IsAnswer scope node done s
+  is_named : (t : Scheme) → IsNamed scope node done t → HaveSameTypes (no_goals t) (no_goals s) → IsAnswer scope node done s
   is_solved : (c : Constraint) → HasConstraint node done c → IsSolution c s → IsAnswer scope node done s
 
--- nothing but the parts of a node is taken
-pub record KeepsOthers (node : TermForm) (old new : Finished) : Type 0 where
+-- schemes that were taken are gone; each other one is there, or another one with the same types
+pub record KeepsBut (gone : List ℕ) (old new : Finished) : Type 0 where
   pub size : length new ≡ length old
-  pub kept : (j : ℕ) → (Contains (children node) j → ⊥) → slice_get new j ≡ slice_get old j
+  pub kept : (j : ℕ) (s : Scheme) → (Contains gone j → ⊥) → Has old j s
+      → (t : Scheme) × Has new j t × HaveSameTypes (no_goals s) (no_goals t)
 
 -- the scheme of a node is added behind the others, and its parts alone may be gone
 pub record IsStep (scope : Scope) (node : TermForm) (old new : Finished) (s : Scheme) : Type 0 where
@@ -183,7 +143,7 @@ pub record IsInferred (globals : List book.Scheme) (whole : TermTree) (done : Fi
   pub scheme : Scheme
   pub there : Has done (before whole) scheme
   pub is : HasStates scheme
-  pub best : (u : book.Scheme) → IsSchemeOf (without_env scheme) u → IsBest (at_start globals) whole u
+  pub best : (u : book.Scheme) → IsReadAs (without_env scheme) u → IsBest (at_start globals) whole u
 
 -- the loop goes on with these nodes of an expression
 abbrev pub GoesOnIn : Scope → TermTree → List TermNode → Finished → Type 0
@@ -197,17 +157,6 @@ GoesOnIn scope whole =
 abbrev pub scope_of : Names → BTreeMap ℕ ℕ → Scope
 scope_of names firsts = record { globals = schemes_in names; first_of = get nat_cmp firsts }
 
--- the constraint of a node, with goals from positive states to negative ones
-pub record IsPosedBy (node : TermForm) (done : Finished) (c : Constraints) : Type 0 where
-  pub is : HasConstraint node done (constraint_of c)
-  pub states : HasStates (constraint_of c).scheme
-  pub goals : All (IsGoalOf c.automaton) c.goals
-
--- the scheme of a known name
-pub record IsNamedBy (scope : Scope) (node : TermForm) (done : Finished) (s : Scheme) : Type 0 where
-  pub named : IsNamed scope node done s
-  pub states : HasStates s
-
 -- each of these is the scheme of the name of this number
 pub record IsRead (globals : List book.Scheme) (g : ℕ) (s : Scheme) : Type 0 where
   pub book : book.Scheme
@@ -215,13 +164,8 @@ pub record IsRead (globals : List book.Scheme) (g : ℕ) (s : Scheme) : Type 0 w
   pub read : IsReadAs s book
   pub states : HasStates s
 
-abbrev pub AreReads : List book.Scheme → BTreeMap ℕ Open → Type 0
-AreReads globals reads = (g : ℕ) (part : Open) → get nat_cmp reads g ≡ Some part → IsRead globals g (scheme_in part)
-
--- a node was made the scheme of a known name, or a constraint
-abbrev pub IsPosedAs : Scope → TermForm → Finished → Source → Type 0
-IsPosedAs scope node done (source.Named part) = IsNamedBy scope node done (scheme_in part)
-IsPosedAs scope node done (source.Built c) = IsPosedBy node done c
+abbrev pub AreReads : List book.Scheme → BTreeMap ℕ Scheme → Type 0
+AreReads globals reads = (g : ℕ) (s : Scheme) → get nat_cmp reads g ≡ Some s → IsRead globals g s
 
 -- the scheme of a node is known, and it is not yet among the others
 pub record IsAnswerBy (scope : Scope) (node : TermForm) (done : Finished) (s : Scheme) : Type 0 where

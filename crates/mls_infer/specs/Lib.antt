@@ -7,3 +7,9 @@ pub mod Merges
 pub mod Posed
 pub mod Solved
 pub mod Steps
+pub mod Regions
+pub mod TableRows
+pub mod Meets
+pub mod Forms
+pub mod Pending
+pub mod Doing

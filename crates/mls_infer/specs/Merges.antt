@@ -1,5 +1,5 @@
 -- Constraints whose binders have fewer states, with the same types.
-use Rattle.std.specs.Prelude.{◌≡◌, ◌≢◌, ◌↔◌, ℕ, ◌<◌, ◌≤◌, List, [], ◌∷◌, ◌++◌, length, get_or, take, Contains}
+use Rattle.std.specs.Prelude.{◌≡◌, ◌≢◌, ◌↔◌, ℕ, ◌<◌, ◌≤◌, List, [], ◌∷◌, ◌++◌, length, get_or, Contains}
 use Rattle.mls_book.specs.Predicates.{Predicate}
 use Rattle.mls_automaton.specs.declared.automaton.Polarity.{Polarity}
 use Rattle.mls_automaton.specs.declared.automaton.Polarity.TheVariants.{Positive, Negative}
@@ -86,12 +86,3 @@ pub record IsGroup (env : List EnvEntry) (start end : ℕ) : Type 0 where
   pub within : end ≤ length env
   pub same : (k : ℕ) (d : EnvEntry) → start ≤ k → k < end → (get_or env k d).binder ≡ (get_or env start d).binder
   pub other : (d : EnvEntry) → end < length env → (get_or env end d).binder ≢ (get_or env start d).binder
-
--- the entries before this place have given way to these, whose binders are below those of the rest
-pub record IsMergedTo (a : Automaton) (entries : List EnvEntry) (i : ℕ) (b : Automaton)
-    (merged : List EnvEntry) : Type 0 where
-  pub within : i ≤ length entries
-  pub merges : Merges a (take i entries) b merged
-  pub rise : BindersRise merged
-  pub below : (e : EnvEntry) → Contains merged e → (k : ℕ) (d : EnvEntry) → i ≤ k → k < length entries
-      → e.binder < (get_or entries k d).binder

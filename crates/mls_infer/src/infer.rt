@@ -1,34 +1,40 @@
 //! Inference of a whole expression.
-ghost use Rattle.std.specs.Prelude.{◌≡◌, [], All, IfErr, IfOk, OnOk, length};
+ghost use Rattle.std.specs.Prelude.{◌≡◌, ◌<◌, ◌++◌, ◌∷◌, [], List, length, map, IfErr, IfOk, OnOk, Some};
 ghost use Rattle.std.specs.BTreeMap.{get};
 ghost use Rattle.std.specs.Ordering.{nat_cmp};
 ghost use Rattle.mls_automaton.specs.declared.scheme.Scheme.{Scheme};
 ghost use Rattle.mls_automaton.specs.Schemes.{IsScheme};
-ghost use Rattle.mls_infer.specs.Constraints.{Constraint, HasStates};
-ghost use Rattle.mls_infer.specs.Posed.{IsGoalOf, constraint_of, scheme_in};
-ghost use Rattle.mls_infer.specs.Solved.{IsClashWithout, TellsFirstClash};
-ghost use Rattle.mls_infer.specs.Steps.{IsSolution};
 ghost use Rattle.mls_shape.specs.Simplified.{IsSimplified};
-ghost use Rattle.mls_term.specs.WellFormed.{IsTerm};
+ghost use Rattle.mls_term.specs.declared.term.TermForm.{TermForm};
+ghost use Rattle.mls_term.specs.declared.term.TermForm.TheVariants as form;
 ghost use Rattle.mls_term.specs.Terms.{postorder};
-ghost use Rattle.mls_infer.specs.Finishing.{AreReads, CanStep, FailsIn, GoesOnIn, HasKindIn, IsAnswerBy, IsInferred};
-ghost use Rattle.mls_infer.specs.Finishing.{KeepsOthers};
-ghost use Rattle.mls_infer.specs.Finishing.{StopsAt, first_in, scope_of};
+ghost use Rattle.mls_term.specs.WellFormed.{IsTerm};
+ghost use Rattle.mls_infer.specs.Constraints.{HasStates};
+ghost use Rattle.mls_infer.specs.Doing.{HasTaken, IsBeside, IsBuiltOf, IsCopyOf, IsDone, IsPartIn, IsPartOf, IsTold};
+ghost use Rattle.mls_infer.specs.Doing.{finished_in};
+ghost use Rattle.mls_infer.specs.Finished.{Finished, Has, child_of};
+ghost use Rattle.mls_infer.specs.Finishing.{AreReads, CanStep, FailsIn, GoesOnIn, HasKindIn, HasParts, IsInferred};
+ghost use Rattle.mls_infer.specs.Finishing.{IsRead, KeepsBut, Scope, StopsAt, scope_of};
 ghost use Rattle.mls_infer.specs.Inference.{AreNames, IsBestFor, IsFirstWithout, TellsKindOf, schemes_in};
+ghost use Rattle.mls_infer.specs.Joining.{part_labels};
+ghost use Rattle.mls_infer.specs.Pending.{AreRowsOf, part_in};
+ghost use Rattle.mls_infer.specs.Regions.{TablePart, scheme_at};
 
-use crate::constraints::{Constraints, Open};
+use crate::done::{Done, trimmed};
 use crate::fault::{InferFault, Site};
-use crate::finished::Finished;
 use crate::firsts::firsts_of;
-use crate::merge::{merged, opened};
-use crate::node::{Source, posed};
+use crate::forms::{
+    Rows, application, bound, conditional, function, number, projection, record, recursion, truth,
+};
+use crate::pending::{Pending, copied};
 use crate::reads::{Reads, reads_of};
-use crate::solve::{NoSolution, solve};
-use crate::walks::{Walk, Walks};
-use mls_automaton::scheme::{Env, Scheme};
+use crate::solve::NoSolution;
+use mls_automaton::scheme::Scheme;
 use mls_base::memory::Memory;
+use mls_book::name::Name;
+use mls_scheme::read::scheme_of_read;
 use mls_shape::simplify::simplify;
-use mls_term::term::{Term, TermForm, TermNode};
+use mls_term::term::{Part, Term, TermForm, TermNode};
 pub use mls_typetext::scheme::Names;
 use std::alloc::Global;
 use std::collections::{BTreeMap, BTreeSet};
@@ -69,41 +75,33 @@ fn infer_whole(alloc: Global, names: &Names, term: &Term) -> Result<Scheme, Infe
     let firsts = firsts_of(alloc, nodes)?;
     let reads = reads_of(alloc, names, nodes)?;
     let mut done = infer_nodes(alloc, names, &reads, &firsts, nodes)?;
-    let whole = done.take(nodes.len() - 1);
-    Ok(Scheme {
-        automaton: whole.automaton,
-        env: Env::new(alloc),
-        root: whole.root,
-    })
+    let whole = done.whole(alloc, nodes.len() - 1)?;
+    Ok(whole)
 }
 
-// Infers one node after another. At last the scheme of the root is there.
+// Infers one node after another. At last the part of the root is there.
 fn infer_nodes(
     alloc: Global,
     names: &Names,
     reads: &Reads,
     firsts: &BTreeMap<usize, usize>,
     nodes: &[TermNode],
-) -> Result<Finished, InferFault>
+) -> Result<Done, InferFault>
     requires names { AreNames names.now }
     requires reads { AreReads (schemes_in names.now) reads.now }
     requires goes { (t : _) × (nodes.now ≡ postorder 0 t) × GoesOnIn (scope_of names.now firsts.now) t nodes.now [] }
-    ensures ok { IfOk result (λ done. (t : _) → nodes.now ≡ postorder 0 t → IsInferred (schemes_in names.now) t done) }
+    ensures done { IfOk result IsDone }
+    ensures ok { IfOk result (λ done. (t : _) → nodes.now ≡ postorder 0 t
+        → (told : _) × IsTold told done × IsInferred (schemes_in names.now) t told) }
     ensures err { IfErr result (λ fault. (t : _) → nodes.now ≡ postorder 0 t → FailsIn (schemes_in names.now) t fault) }
     ensures kind { IfErr result (λ fault. (t : _) → nodes.now ≡ postorder 0 t
         → HasKindIn (schemes_in names.now) t fault) }
 {
-    let mut done = Finished::new(alloc);
-    let mut walks = Walks::new(alloc);
+    let mut done = Done::new(alloc);
     let named = named_parts(alloc, nodes)?;
     for i in 0..nodes.len() {
-        let node = &nodes[i].form;
-        let mut walk = walks.walk_of(node, is_among(&named, i));
-        match part_of(alloc, names, reads, firsts, &mut done, node, &mut walk) {
-            Ok(part) => {
-                walks.note(walk)?;
-                done.push(part)?;
-            }
+        match part_of(alloc, names, reads, firsts, &mut done, &nodes[i].form) {
+            Ok(part) => push(alloc, &mut done, part, named.contains(&i))?,
             Err(NoSolution::Clash(kind)) => {
                 return Err(InferFault::NoScheme(Site { node: i, kind }));
             }
@@ -113,83 +111,291 @@ fn infer_nodes(
     Ok(done)
 }
 
-// The part of a node. That of a let's first part is simplified, as each use of the let's name copies it.
+// Adds the part of the next node, which stands apart where it is the first part of a let.
+fn push(alloc: Global, done: &mut Done, part: Pending, is_named: bool) -> Result<(), Memory>
+    requires done { IsDone done.old }
+    requires beside { IsBeside done.old (part_in part ∷ []) }
+    ensures done { OnOk result (IsDone done.new) }
+    ensures added { OnOk result (KeepsBut []
+        (finished_in done.old ++ Some (scheme_at done.old.live.table (part_in part)) ∷ []) (finished_in done.new)) }
+{
+    let i = done.count();
+    done.push(part)?;
+    if is_named {
+        done.name(alloc, i)?;
+    }
+    Ok(())
+}
+
+// The part of a node, without the states that are not reached where these are many.
 fn part_of(
     alloc: Global,
     names: &Names,
     reads: &Reads,
     firsts: &BTreeMap<usize, usize>,
-    done: &mut Finished,
+    done: &mut Done,
     node: &TermForm,
-    walk: &mut Walk,
-) -> Result<Open, NoSolution>
+) -> Result<Pending, NoSolution>
     requires names { AreNames names.now }
     requires reads { AreReads (schemes_in names.now) reads.now }
-    requires can { CanStep (scope_of names.now firsts.now) node.now done.old }
-    ensures answer { IfOk result (λ part. IsAnswerBy (scope_of names.now firsts.now) node.now done.old
-        (scheme_in part)) }
-    ensures others { OnOk result (KeepsOthers node.now done.old done.new) }
-    ensures stops { IfErr result (StopsAt node.now done.old) }
+    requires done { IsDone done.old }
+    requires can { CanStep (scope_of names.now firsts.now) node.now (finished_in done.old) }
+    ensures part { IfOk result (λ part. IsPartOf (scope_of names.now firsts.now) node.now done.old done.new
+        (part_in part)) }
+    ensures stops { IfErr result (StopsAt node.now (finished_in done.old)) }
 {
-    match posed(alloc, names, reads, firsts, done, node, walk.is_turned)? {
-        Source::Named(part) => {
-            walk.weigh(&part.automaton);
-            Ok(part)
-        }
-        Source::Built(c) => solved(alloc, c, walk),
+    let part = answered(alloc, names, reads, firsts, done, node)?;
+    if is_name(node) {
+        return Ok(part);
     }
+    let fitting = fit(alloc, done, part)?;
+    Ok(fitting)
 }
 
-// The part with just the types of the constraints, simplified or not.
-fn solved(alloc: Global, c: Constraints, walk: &mut Walk) -> Result<Open, NoSolution>
-    requires states { HasStates (constraint_of c).scheme }
-    requires goals { All (IsGoalOf c.automaton) c.goals }
-    ensures solution { IfOk result (λ part. IsSolution (constraint_of c) (scheme_in part)) }
-    ensures none { IfErr result (IsClashWithout (constraint_of c)) }
-    ensures first { IfErr result (TellsFirstClash (constraint_of c)) }
+fn is_name(node: &TermForm) -> bool {
+    matches!(node, TermForm::Inner(_) | TermForm::Global(_))
+}
+
+// The part, without the states that are not reached where these are many.
+fn fit(alloc: Global, done: &mut Done, part: Pending) -> Result<Pending, Memory>
+    requires done { IsDone done.old }
+    requires beside { IsBeside done.old (part_in part ∷ []) }
+    ensures { IfOk result (λ other. (scope : Scope) (node : TermForm) (first : Finished)
+        → IsPartIn scope node first done.old.live done.old.nodes.items (part_in part)
+        → IsPartIn scope node first done.new.live done.new.nodes.items (part_in other)) }
 {
-    let part = solve(alloc, c)?;
-    if walk.simplifies {
-        let simple = simplified(alloc, part, walk)?;
-        return Ok(simple);
-    }
-    if walk.is_due() {
-        let kept = trimmed(alloc, part, walk)?;
+    if part.region.size.is_due() {
+        let kept = trimmed(alloc, &mut done.live, part)?;
         return Ok(kept);
     }
     Ok(part)
 }
 
-// The part, simplified, with one state for each binder.
-fn simplified(alloc: Global, part: Open, walk: &mut Walk) -> Result<Open, Memory>
-    requires { HasStates (scheme_in part) }
-    ensures { IfOk result (λ simple. (c : Constraint) → IsSolution c (scheme_in part)
-        → IsSolution c (scheme_in simple)) }
+// The part of a node: a copy of the scheme of a known name, or what is built of the parts below it.
+fn answered(
+    alloc: Global,
+    names: &Names,
+    reads: &Reads,
+    firsts: &BTreeMap<usize, usize>,
+    done: &mut Done,
+    node: &TermForm,
+) -> Result<Pending, NoSolution>
+    requires names { AreNames names.now }
+    requires reads { AreReads (schemes_in names.now) reads.now }
+    requires done { IsDone done.old }
+    requires can { CanStep (scope_of names.now firsts.now) node.now (finished_in done.old) }
+    ensures part { IfOk result (λ part. IsPartOf (scope_of names.now firsts.now) node.now done.old done.new
+        (part_in part)) }
+    ensures stops { IfErr result (StopsAt node.now (finished_in done.old)) }
 {
-    let scheme = merged(alloc, part)?;
-    let simple = simplify(alloc, &scheme)?;
-    simple.env.as_slice();
-    walk.done(&simple.automaton);
-    let part = opened(alloc, simple)?;
+    match node {
+        TermForm::Inner(k) => Ok(of_inner(alloc, firsts, done, *k)?),
+        TermForm::Global(g) => Ok(of_global(alloc, names, reads, done, *g)?),
+        TermForm::Bound(x) => Ok(of_bound(alloc, done, *x)?),
+        TermForm::Number(value) => Ok(of_number(alloc, done, *value)?),
+        TermForm::Truth(value) => Ok(of_truth(alloc, done, *value)?),
+        TermForm::Fun(x, e) => Ok(of_function(alloc, done, *x, *e)?),
+        TermForm::Rec(x, e) => of_recursion(alloc, done, *x, *e),
+        TermForm::Project(e, label) => of_projection(alloc, done, *e, label),
+        TermForm::Apply(f, a) => of_application(alloc, done, *f, *a),
+        TermForm::If(c, e, f) => of_conditional(alloc, done, *c, *e, *f),
+        TermForm::Make(parts) => Ok(of_record(alloc, done, parts.as_slice())?),
+        TermForm::Let(_, e, f) => Ok(done.end_let(alloc, *e, *f)?),
+    }
+}
+
+// A copy of the scheme of a let-bound name.
+fn of_inner(
+    alloc: Global,
+    firsts: &BTreeMap<usize, usize>,
+    done: &mut Done,
+    k: usize,
+) -> Result<Pending, Memory>
+    requires done { IsDone done.old }
+    requires can { (i : _) × (get nat_cmp firsts.now k ≡ Some i) × (s : Scheme) × Has (finished_in done.old) i s }
+    ensures { IfOk result (λ part. (i : _) (s : Scheme) → get nat_cmp firsts.now k ≡ Some i → Has (finished_in done.old) i s
+        → IsCopyOf s done.old done.new (part_in part)) }
+{
+    match firsts.get(&k).copied() {
+        Some(root) => {
+            let part = done.copy_named(alloc, root)?;
+            Ok(part)
+        }
+        None => unreachable!(),
+    }
+}
+
+// A copy of the scheme of a name of the environment, which was read before or is read now.
+fn of_global(
+    alloc: Global,
+    names: &Names,
+    reads: &Reads,
+    done: &mut Done,
+    g: usize,
+) -> Result<Pending, Memory>
+    requires names { AreNames names.now }
+    requires reads { AreReads (schemes_in names.now) reads.now }
+    requires there { g < length (schemes_in names.now) }
+    requires done { IsDone done.old }
+    ensures { IfOk result (λ part. (s : Scheme) × IsRead (schemes_in names.now) g s
+        × IsCopyOf s done.old done.new (part_in part)) }
+{
+    match reads.get(&g) {
+        Some(scheme) => {
+            let part = copy_of(alloc, done, scheme)?;
+            Ok(part)
+        }
+        None => {
+            let scheme = scheme_of_read(alloc, &names.schemes.as_slice()[g])?;
+            let part = copy_of(alloc, done, &scheme)?;
+            Ok(part)
+        }
+    }
+}
+
+fn copy_of(alloc: Global, done: &mut Done, scheme: &Scheme) -> Result<Pending, Memory>
+    requires done { IsDone done.old }
+    requires states { HasStates scheme.now }
+    ensures { IfOk result (λ part. IsCopyOf scheme.now done.old done.new (part_in part)) }
+{
+    let part = copied(alloc, &mut done.live, scheme)?;
+    let _copied = done.live.ready();
     Ok(part)
 }
 
-// The part over the states alone that are reached, with one state for each binder.
-fn trimmed(alloc: Global, part: Open, walk: &mut Walk) -> Result<Open, Memory>
-    requires { HasStates (scheme_in part) }
-    ensures { IfOk result (λ kept. (c : Constraint) → IsSolution c (scheme_in part)
-        → IsSolution c (scheme_in kept)) }
+// Of a binder: what goes in comes out.
+fn of_bound(alloc: Global, done: &mut Done, x: usize) -> Result<Pending, Memory>
+    requires { IsDone done.old }
+    ensures { IfOk result (λ part. IsBuiltOf (form.Bound x) done.old done.new (part_in part)) }
 {
-    let scheme = merged(alloc, part)?;
-    let kept = scheme.keep_reachable()?;
-    kept.env.as_slice();
-    walk.done(&kept.automaton);
-    let part = opened(alloc, kept)?;
+    let part = bound(alloc, &mut done.live, x)?;
+    let _made = done.live.ready();
     Ok(part)
 }
 
-fn is_among(named: &BTreeSet<usize>, i: usize) -> bool {
-    named.contains(&i)
+// Of a number, whatever it is.
+fn of_number(alloc: Global, done: &mut Done, value: u64) -> Result<Pending, Memory>
+    requires { IsDone done.old }
+    ensures { IfOk result (λ part. IsBuiltOf (form.Number value) done.old done.new (part_in part)) }
+{
+    let part = number(alloc, &mut done.live)?;
+    let _made = done.live.ready();
+    Ok(part)
+}
+
+// Of a truth value, whichever it is.
+fn of_truth(alloc: Global, done: &mut Done, value: bool) -> Result<Pending, Memory>
+    requires { IsDone done.old }
+    ensures { IfOk result (λ part. IsBuiltOf (form.Truth value) done.old done.new (part_in part)) }
+{
+    let part = truth(alloc, &mut done.live)?;
+    let _made = done.live.ready();
+    Ok(part)
+}
+
+// Of a function: from the states of its binder to the root of its body.
+fn of_function(alloc: Global, done: &mut Done, x: usize, e: usize) -> Result<Pending, Memory>
+    requires done { IsDone done.old }
+    requires parts { HasParts (form.Fun x e) (finished_in done.old) }
+    ensures { IfOk result (λ part. IsBuiltOf (form.Fun x e) done.old done.new (part_in part)) }
+{
+    let body = done.take(alloc, e)?;
+    let part = function(alloc, &mut done.live, x, body)?;
+    let _made = done.live.ready();
+    Ok(part)
+}
+
+// Of a recursion: the root of its body is below the state of its binder.
+fn of_recursion(alloc: Global, done: &mut Done, x: usize, e: usize) -> Result<Pending, NoSolution>
+    requires done { IsDone done.old }
+    requires parts { HasParts (form.Rec x e) (finished_in done.old) }
+    ensures part { IfOk result (λ part. IsBuiltOf (form.Rec x e) done.old done.new (part_in part)) }
+    ensures stops { IfErr result (StopsAt (form.Rec x e) (finished_in done.old)) }
+{
+    let body = done.take(alloc, e)?;
+    let part = recursion(alloc, &mut done.live, x, body)?;
+    let _made = done.live.ready();
+    Ok(part)
+}
+
+// Of a projection: the root of its body is below the records with the field.
+fn of_projection(
+    alloc: Global,
+    done: &mut Done,
+    e: usize,
+    label: &Name,
+) -> Result<Pending, NoSolution>
+    requires done { IsDone done.old }
+    requires parts { HasParts (form.Project e label.now) (finished_in done.old) }
+    ensures part { IfOk result (λ part. IsBuiltOf (form.Project e label.now) done.old done.new (part_in part)) }
+    ensures stops { IfErr result (StopsAt (form.Project e label.now) (finished_in done.old)) }
+{
+    let body = done.take(alloc, e)?;
+    let part = projection(alloc, &mut done.live, label, body)?;
+    let _made = done.live.ready();
+    Ok(part)
+}
+
+// Of an application: the root of the function is below the functions from the root of the argument.
+fn of_application(alloc: Global, done: &mut Done, f: usize, a: usize) -> Result<Pending, NoSolution>
+    requires done { IsDone done.old }
+    requires parts { HasParts (form.Apply f a) (finished_in done.old) }
+    ensures part { IfOk result (λ part. IsBuiltOf (form.Apply f a) done.old done.new (part_in part)) }
+    ensures stops { IfErr result (StopsAt (form.Apply f a) (finished_in done.old)) }
+{
+    let first = done.take(alloc, f)?;
+    let second = done.take(alloc, a)?;
+    let part = application(alloc, &mut done.live, first, second)?;
+    let _made = done.live.ready();
+    Ok(part)
+}
+
+// Of a conditional: the root of the condition is below `bool`, those of the branches below one new state.
+fn of_conditional(
+    alloc: Global,
+    done: &mut Done,
+    c: usize,
+    e: usize,
+    f: usize,
+) -> Result<Pending, NoSolution>
+    requires done { IsDone done.old }
+    requires parts { HasParts (form.If c e f) (finished_in done.old) }
+    ensures part { IfOk result (λ part. IsBuiltOf (form.If c e f) done.old done.new (part_in part)) }
+    ensures stops { IfErr result (StopsAt (form.If c e f) (finished_in done.old)) }
+{
+    let condition = done.take(alloc, c)?;
+    let first = done.take(alloc, e)?;
+    let second = done.take(alloc, f)?;
+    let part = conditional(alloc, &mut done.live, condition, first, second)?;
+    let _made = done.live.ready();
+    Ok(part)
+}
+
+// Of a record: its fields are the roots of its parts.
+fn of_record(alloc: Global, done: &mut Done, parts: &[Part]) -> Result<Pending, Memory>
+    requires done { IsDone done.old }
+    requires parts { HasParts (form.Make parts.now) (finished_in done.old) }
+    ensures { IfOk result (λ part. IsBuiltOf (form.Make parts.now) done.old done.new (part_in part)) }
+{
+    let rows = rows_of(alloc, done, parts)?;
+    let part = record(alloc, &mut done.live, rows)?;
+    let _made = done.live.ready();
+    Ok(part)
+}
+
+// Takes the parts of a record.
+fn rows_of(alloc: Global, done: &mut Done, parts: &[Part]) -> Result<Rows, Memory>
+    requires done { IsDone done.old }
+    requires parts { HasParts (form.Make parts.now) (finished_in done.old) }
+    ensures { IfOk result (λ rows. (taken : List TablePart)
+        × HasTaken done.old (map child_of parts.now) done.new taken × AreRowsOf (part_labels parts.now) taken rows) }
+{
+    let mut rows = Rows::new(alloc);
+    for part in parts {
+        let body = done.take(alloc, part.child)?;
+        rows = rows.with(&part.label, body)?;
+    }
+    Ok(rows)
 }
 
 // The roots of the first parts of lets.

@@ -1,18 +1,17 @@
-//! Inference: the constraints of each form of expressions, over the automata of its parts, and how they are solved.
+//! Inference: the most general scheme of an expression, or its first node that has none.
 #![tactic(auto)]
 
+mod clash;
 pub mod constraints;
+mod done;
 pub mod fault;
-mod finished;
 mod firsts;
+mod forms;
+mod heads;
 pub mod infer;
-mod merge;
-pub mod node;
+mod meets;
+mod pending;
 mod reads;
+mod region;
 mod rows;
 pub mod solve;
-#[cfg(test)]
-mod tests;
-#[cfg(test)]
-mod tests_of_terms;
-mod walks;

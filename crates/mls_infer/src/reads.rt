@@ -3,8 +3,7 @@ ghost use Rattle.std.specs.Prelude.{IfOk, OnOk};
 ghost use Rattle.mls_infer.specs.Finishing.{AreReads};
 ghost use Rattle.mls_infer.specs.Inference.{AreNames, schemes_in};
 
-use crate::constraints::Open;
-use crate::merge::without_binders;
+use mls_automaton::scheme::Scheme;
 use mls_base::memory::Memory;
 use mls_scheme::read::scheme_of_read;
 use mls_term::term::{TermForm, TermNode};
@@ -13,7 +12,7 @@ use std::alloc::Global;
 use std::collections::{BTreeMap, BTreeSet};
 
 /// Schemes by the numbers of their names.
-pub(crate) type Reads = BTreeMap<usize, Open>;
+pub(crate) type Reads = BTreeMap<usize, Scheme>;
 
 /// The schemes of the names that are used twice or more, each read once.
 pub(crate) fn reads_of(alloc: Global, names: &Names, nodes: &[TermNode]) -> Result<Reads, Memory>
@@ -61,7 +60,6 @@ fn read(alloc: Global, names: &Names, reads: &mut Reads, g: usize) -> Result<(),
         return Ok(());
     }
     let scheme = scheme_of_read(alloc, &schemes[g])?;
-    let part = without_binders(alloc, scheme);
-    reads.insert(g, part)?;
+    reads.insert(g, scheme)?;
     Ok(())
 }

@@ -1,118 +1,25 @@
 //! The constraints of each form of expressions, over the schemes of its parts.
-ghost use Rattle.std.specs.Prelude.{◌≡◌, ◌≢◌, ◌↔◌, ◌⊎◌, ℕ, ◌+◌, ◌<◌, ◌≤◌, ◌++◌, ◌∷◌, [], suc, List, length};
-ghost use Rattle.std.specs.Prelude.{get_or, map, option_map, All, Contains, IfOk, OnOk, None};
-ghost use Rattle.std.specs.BTreeMap.{IsOrdered};
-ghost use Rattle.std.specs.List.{AllPairs};
-ghost use Rattle.std.specs.Ordering.{nat_cmp};
-ghost use Rattle.std.specs.Cmp.Lexicographic.{slice_cmp};
-ghost use Rattle.mls_automaton.specs.Schemes.{state_of};
+ghost use Rattle.std.specs.Prelude.{◌≡◌, ◌+◌, ◌≤◌, ◌++◌, ◌∷◌, [], suc, length, map, option_map, All, IfOk, OnOk};
 ghost use Rattle.mls_automaton.specs.declared.state_set.StateId.{StateId};
-ghost use Rattle.mls_infer.specs.Constraints.{HasStates, bool_head, int_head, function_head, joined, record_head};
-ghost use Rattle.mls_infer.specs.Constraints.{size, states_of, without};
-ghost use Rattle.mls_infer.specs.Constraints.{bound_constraint, literal_constraint, fun_constraint, fix_constraint};
-ghost use Rattle.mls_infer.specs.Constraints.{application_over, apply_constraint, turned_constraint, IsApplied};
-ghost use Rattle.mls_infer.specs.Constraints.{project_constraint, choice_constraint, let_constraint};
-ghost use Rattle.mls_infer.specs.Constraints.{AreStatesOf, HasOneState};
 ghost use Rattle.mls_automaton.specs.Automata.{HasTrueFlows};
 ghost use Rattle.mls_automaton.specs.Embeddings.{appended};
-ghost use Rattle.mls_infer.specs.Posed.{constraint_of, goal_pair, scheme_in, IsGoalOf, IsMadeOf};
-ghost use Rattle.mls_infer.specs.Joining.{field_of, listed, raised_entries, with_passage};
-ghost use Rattle.mls_infer.specs.Joining.{AreRows, number_of, part_labels, row_field};
+ghost use Rattle.mls_automaton.specs.Schemes.{state_of};
+ghost use Rattle.mls_infer.specs.Constraints.{HasOneState, HasStates, application_over, apply_constraint};
+ghost use Rattle.mls_infer.specs.Constraints.{choice_constraint, fix_constraint, project_constraint, size, states_of};
+ghost use Rattle.mls_infer.specs.Joining.{listed, raised_entries, with_passage};
+ghost use Rattle.mls_infer.specs.Posed.{constraint_of, goal_pair, scheme_in, IsGoalOf};
 
 use crate::constraints::{Constraints, Open};
-use mls_automaton::automaton::{Arms, Automaton, FieldSet, FieldSets, Head, Polarity};
+use crate::heads::{bool_head, field_head, function_head};
+use crate::pending::without;
+use mls_automaton::automaton::{Automaton, Head, Polarity};
 use mls_automaton::scheme::EnvEntry;
 use mls_automaton::state_set::{StateId, StateSet};
 use mls_base::list::List;
 use mls_base::memory::Memory;
 use mls_biunify::goal::Goal;
 use mls_book::name::Name;
-use mls_term::term::{Part, Parts};
 use std::alloc::Global;
-use std::collections::BTreeMap;
-
-/// Of a binder: what goes in comes out.
-pub(crate) fn bound(alloc: Global, binder: usize) -> Result<Constraints, Memory>
-    ensures constraint { IfOk result (λ c. constraint_of c ≡ bound_constraint binder) }
-    ensures states { IfOk result (λ c. HasStates (constraint_of c).scheme) }
-    ensures goals { IfOk result (λ c. All (IsGoalOf c.automaton) c.goals) }
-{
-    let mut automaton = Automaton::new(alloc);
-    let (negative, positive) = add_passage(&mut automaton)?;
-    let mut env = List::new(alloc);
-    env.push(EnvEntry {
-        binder,
-        state: negative,
-    })?;
-    Ok(Constraints {
-        automaton,
-        env,
-        root: positive,
-        goals: List::new(alloc),
-    })
-}
-
-/// Of a number.
-pub(crate) fn number(alloc: Global) -> Result<Constraints, Memory>
-    ensures constraint { IfOk result (λ c. constraint_of c ≡ literal_constraint int_head) }
-    ensures states { IfOk result (λ c. HasStates (constraint_of c).scheme) }
-    ensures goals { IfOk result (λ c. All (IsGoalOf c.automaton) c.goals) }
-{
-    let mut head = Head::empty();
-    head.integer = true;
-    literal(alloc, head)
-}
-
-/// Of a truth value.
-pub(crate) fn truth(alloc: Global) -> Result<Constraints, Memory>
-    ensures constraint { IfOk result (λ c. constraint_of c ≡ literal_constraint bool_head) }
-    ensures states { IfOk result (λ c. HasStates (constraint_of c).scheme) }
-    ensures goals { IfOk result (λ c. All (IsGoalOf c.automaton) c.goals) }
-{
-    let mut head = Head::empty();
-    head.boolean = true;
-    literal(alloc, head)
-}
-
-fn literal(alloc: Global, head: Head) -> Result<Constraints, Memory>
-    requires function { head.function ≡ None }
-    requires fields { head.fields ≡ None }
-    ensures constraint { IfOk result (λ c. constraint_of c ≡ literal_constraint head) }
-    ensures states { IfOk result (λ c. HasStates (constraint_of c).scheme) }
-    ensures goals { IfOk result (λ c. All (IsGoalOf c.automaton) c.goals) }
-{
-    let mut automaton = Automaton::new(alloc);
-    let root = automaton.state(Polarity::Positive, head)?;
-    Ok(Constraints {
-        automaton,
-        env: List::new(alloc),
-        root,
-        goals: List::new(alloc),
-    })
-}
-
-/// Of a function: from the states of its binder to the root of its body.
-pub(crate) fn function(alloc: Global, binder: usize, body: Open) -> Result<Constraints, Memory>
-    requires { HasStates (scheme_in body) }
-    ensures constraint { IfOk result (λ c. (domain : List ℕ) × AreStatesOf binder (scheme_in body) domain
-        × (constraint_of c ≡ fun_constraint domain binder (scheme_in body))) }
-    ensures states { IfOk result (λ c. HasStates (constraint_of c).scheme) }
-    ensures goals { IfOk result (λ c. All (IsGoalOf c.automaton) c.goals) }
-{
-    let domain = states_of(alloc, body.env.as_slice(), binder)?;
-    let codomain = StateSet::one(alloc, body.root)?;
-    let env = without(alloc, body.env.as_slice(), binder)?;
-    let mut automaton = body.automaton;
-    let mut head = Head::empty();
-    head.function = Some(Arms { domain, codomain });
-    let root = automaton.state(Polarity::Positive, head)?;
-    Ok(Constraints {
-        automaton,
-        env,
-        root,
-        goals: List::new(alloc),
-    })
-}
 
 /// Of a recursion: the root of its body is below the state of its binder, if it has one.
 pub(crate) fn recursion(alloc: Global, binder: usize, body: Open) -> Result<Constraints, Memory>
@@ -123,7 +30,7 @@ pub(crate) fn recursion(alloc: Global, binder: usize, body: Open) -> Result<Cons
     ensures goals { IfOk result (λ c. All (IsGoalOf c.automaton) c.goals) }
 {
     let goals = goals_to(alloc, body.root, state_of(body.env.as_slice(), binder))?;
-    let env = without(alloc, body.env.as_slice(), binder)?;
+    let env = without(alloc, body.env, binder)?;
     Ok(Constraints {
         automaton: body.automaton,
         env,
@@ -133,9 +40,9 @@ pub(crate) fn recursion(alloc: Global, binder: usize, body: Open) -> Result<Cons
 }
 
 /// Of a projection: the root of its body is below the records with the field.
-pub(crate) fn projection(alloc: Global, label: Name, body: Open) -> Result<Constraints, Memory>
+pub(crate) fn projection(alloc: Global, label: &Name, body: Open) -> Result<Constraints, Memory>
     requires { HasStates (scheme_in body) }
-    ensures constraint { IfOk result (λ c. constraint_of c ≡ project_constraint label (scheme_in body)) }
+    ensures constraint { IfOk result (λ c. constraint_of c ≡ project_constraint label.now (scheme_in body)) }
     ensures states { IfOk result (λ c. HasStates (constraint_of c).scheme) }
     ensures goals { IfOk result (λ c. All (IsGoalOf c.automaton) c.goals) }
 {
@@ -152,30 +59,13 @@ pub(crate) fn projection(alloc: Global, label: Name, body: Open) -> Result<Const
     })
 }
 
-/// Of an application: the root of the function is below the functions from the root of the argument. One of the two
-/// automata stays in its place, that of the argument where this is wanted; the other is copied behind it.
+/// Of an application: the root of the function is below the functions from the root of the argument. The automaton of
+/// the function stays in its place; that of the argument is copied behind it.
 pub(crate) fn application(
     alloc: Global,
     function: Open,
-    argument: Open,
-    is_turned: bool,
+    argument: &Open,
 ) -> Result<Constraints, Memory>
-    requires function { HasStates (scheme_in function) }
-    requires argument { HasStates (scheme_in argument) }
-    ensures constraint { IfOk result (λ c. IsApplied (scheme_in function) (scheme_in argument) (constraint_of c)) }
-    ensures states { IfOk result (λ c. HasStates (constraint_of c).scheme) }
-    ensures goals { IfOk result (λ c. All (IsGoalOf c.automaton) c.goals) }
-{
-    if is_turned {
-        let turned = turned(alloc, &function, argument)?;
-        return Ok(turned);
-    }
-    let applied = applied(alloc, function, &argument)?;
-    Ok(applied)
-}
-
-// The automaton of the function in front.
-fn applied(alloc: Global, function: Open, argument: &Open) -> Result<Constraints, Memory>
     requires function { HasStates (scheme_in function) }
     requires argument { HasStates (scheme_in argument.now) }
     ensures constraint { IfOk result (λ c. constraint_of c
@@ -186,22 +76,6 @@ fn applied(alloc: Global, function: Open, argument: &Open) -> Result<Constraints
     let function_root = function.root;
     let mut both = Joint::one(function);
     let argument_root = both.add(argument)?;
-    let posed = application_of(alloc, both, function_root, argument_root)?;
-    Ok(posed)
-}
-
-// The automaton of the argument in front.
-fn turned(alloc: Global, function: &Open, argument: Open) -> Result<Constraints, Memory>
-    requires function { HasStates (scheme_in function.now) }
-    requires argument { HasStates (scheme_in argument) }
-    ensures constraint { IfOk result (λ c. constraint_of c
-        ≡ turned_constraint (scheme_in function.now) (scheme_in argument)) }
-    ensures states { IfOk result (λ c. HasStates (constraint_of c).scheme) }
-    ensures goals { IfOk result (λ c. All (IsGoalOf c.automaton) c.goals) }
-{
-    let argument_root = argument.root;
-    let mut both = Joint::one(argument);
-    let function_root = both.add(function)?;
     let posed = application_of(alloc, both, function_root, argument_root)?;
     Ok(posed)
 }
@@ -219,7 +93,8 @@ fn application_of(
 {
     let mut automaton = both.automaton;
     let (codomain, root) = add_passage(&mut automaton)?;
-    let head = function_head(alloc, argument, codomain)?;
+    let domain = StateSet::one(alloc, argument)?;
+    let head = function_head(alloc, domain, codomain)?;
     let demand = automaton.state(Polarity::Negative, head)?;
     let goals = one_goal(alloc, function, demand)?;
     Ok(Constraints {
@@ -250,9 +125,7 @@ pub(crate) fn conditional(
     let first_root = all.add(first)?;
     let second_root = all.add(second)?;
     let mut automaton = all.automaton;
-    let mut head = Head::empty();
-    head.boolean = true;
-    let boolean = automaton.state(Polarity::Negative, head)?;
+    let boolean = automaton.state(Polarity::Negative, bool_head())?;
     let (either, root) = add_passage(&mut automaton)?;
     let mut goals = one_goal(alloc, condition_root, boolean)?;
     add_goal(&mut goals, first_root, either)?;
@@ -265,73 +138,6 @@ pub(crate) fn conditional(
     })
 }
 
-/// Of a record: its fields are the roots of its parts.
-pub(crate) fn record(alloc: Global, parts: &Parts, schemes: &[Open]) -> Result<Constraints, Memory>
-    requires schemes { All HasStates (map scheme_in schemes.now) }
-    requires each { length parts.now ≡ length schemes.now }
-    requires labels { AllPairs (λ x y. x ≢ y) (part_labels parts.now) }
-    ensures constraint { IfOk result (λ c. IsMadeOf (part_labels parts.now) (map scheme_in schemes.now)
-        (constraint_of c)) }
-    ensures states { IfOk result (λ c. HasStates (constraint_of c).scheme) }
-    ensures goals { IfOk result (λ c. All (IsGoalOf c.automaton) c.goals) }
-{
-    let (all, roots) = side_by_side(alloc, schemes)?;
-    let named = parts.as_slice();
-    let places = roots.as_slice();
-    let rows = rows_of(alloc, named, places)?;
-    let fields = fields_of(alloc, &rows)?;
-    let head = fields_head(fields);
-    let mut automaton = all.automaton;
-    let root = automaton.state(Polarity::Positive, head)?;
-    Ok(Constraints {
-        automaton,
-        env: all.env,
-        root,
-        goals: List::new(alloc),
-    })
-}
-
-/// Of a record of one part: the automaton of the part with one more state.
-pub(crate) fn record_of_one(alloc: Global, parts: &Parts, part: Open) -> Result<Constraints, Memory>
-    requires part { HasStates (scheme_in part) }
-    requires one { length parts.now ≡ 1 }
-    requires labels { AllPairs (λ x y. x ≢ y) (part_labels parts.now) }
-    ensures constraint { IfOk result (λ c. IsMadeOf (part_labels parts.now) (scheme_in part ∷ []) (constraint_of c)) }
-    ensures states { IfOk result (λ c. HasStates (constraint_of c).scheme) }
-    ensures goals { IfOk result (λ c. All (IsGoalOf c.automaton) c.goals) }
-{
-    let named = parts.as_slice();
-    let rows = rows_of(alloc, named, &[part.root])?;
-    let fields = fields_of(alloc, &rows)?;
-    let head = fields_head(fields);
-    let mut automaton = part.automaton;
-    let root = automaton.state(Polarity::Positive, head)?;
-    Ok(Constraints {
-        automaton,
-        env: part.env,
-        root,
-        goals: List::new(alloc),
-    })
-}
-
-/// Of a let: the second part, and what the first part needs.
-pub(crate) fn let_in(alloc: Global, bound: Open, body: &Open) -> Result<Constraints, Memory>
-    requires bound { HasStates (scheme_in bound) }
-    requires body { HasStates (scheme_in body.now) }
-    ensures constraint { IfOk result (λ c. constraint_of c ≡ let_constraint (scheme_in bound) (scheme_in body.now)) }
-    ensures states { IfOk result (λ c. HasStates (constraint_of c).scheme) }
-    ensures goals { IfOk result (λ c. All (IsGoalOf c.automaton) c.goals) }
-{
-    let mut both = Joint::one(bound);
-    let root = both.add(body)?;
-    Ok(Constraints {
-        automaton: both.automaton,
-        env: both.env,
-        root,
-        goals: List::new(alloc),
-    })
-}
-
 // Schemes side by side, without their roots.
 #[derive(Drop)]
 pub(crate) struct Joint {
@@ -340,17 +146,6 @@ pub(crate) struct Joint {
 }
 
 impl Joint {
-    // No scheme.
-    fn new(alloc: Global) -> Joint
-        ensures automaton { result.automaton ≡ record { states = []; flows = [] } }
-        ensures env { result.env ≡ [] }
-    {
-        Joint {
-            automaton: Automaton::new(alloc),
-            env: List::new(alloc),
-        }
-    }
-
     // One scheme.
     fn one(scheme: Open) -> Joint
         ensures automaton { result.automaton ≡ scheme.automaton }
@@ -373,81 +168,6 @@ impl Joint {
         add_raised(&mut self.env, other.env.as_slice(), up)?;
         raised(other.root, up)
     }
-}
-
-// All schemes side by side, and where their roots are.
-fn side_by_side(alloc: Global, schemes: &[Open]) -> Result<(Joint, List<StateId>), Memory>
-    ensures automaton { IfOk result (λ all. all.0.automaton ≡ (joined (map scheme_in schemes.now)).automaton) }
-    ensures env { IfOk result (λ all. all.0.env ≡ (joined (map scheme_in schemes.now)).env) }
-    ensures roots { IfOk result (λ all. map number_of all.1 ≡ (joined (map scheme_in schemes.now)).roots) }
-{
-    let mut all = Joint::new(alloc);
-    let mut roots = List::new(alloc);
-    for scheme in schemes {
-        roots.push(all.add(scheme)?)?;
-    }
-    Ok((all, roots))
-}
-
-// The roots by the labels of the parts.
-fn rows_of(
-    alloc: Global,
-    parts: &[Part],
-    roots: &[StateId],
-) -> Result<BTreeMap<Name, StateId>, Memory>
-    requires each { length parts.now ≡ length roots.now }
-    requires labels { AllPairs (λ x y. x ≢ y) (part_labels parts.now) }
-    ensures { IfOk result (λ rows. AreRows (length parts.now) (part_labels parts.now) (map number_of roots.now) rows) }
-{
-    let mut rows = BTreeMap::new(alloc);
-    for i in 0..parts.len() {
-        let label = label_at(parts, i)?;
-        let root = root_at(roots, i);
-        rows.insert(label, root)?;
-    }
-    Ok(rows)
-}
-
-fn label_at(parts: &[Part], i: usize) -> Result<Name, Memory>
-    requires { i < length parts.now }
-    ensures { IfOk result (λ label. (d : _) → label ≡ (get_or parts.now i d).label) }
-{
-    let label = parts[i].label.clone()?;
-    Ok(label)
-}
-
-fn root_at(roots: &[StateId], i: usize) -> StateId
-    requires { i < length roots.now }
-    ensures { (d : _) → result ≡ get_or roots.now i d }
-{
-    roots[i]
-}
-
-// The fields of these labels, in their order, each with its state.
-fn fields_of(alloc: Global, rows: &BTreeMap<Name, StateId>) -> Result<FieldSets, Memory>
-    ensures fields { IfOk result (λ fields. fields ≡ map row_field rows.now.entries) }
-    ensures ordered { IsOrdered (slice_cmp nat_cmp) rows.now }
-{
-    let mut fields = FieldSets::new(alloc);
-    for (label, root) in rows.iter() {
-        add_field(alloc, &mut fields, label, *root)?;
-    }
-    Ok(fields)
-}
-
-fn add_field(
-    alloc: Global,
-    fields: &mut FieldSets,
-    label: &Name,
-    root: StateId,
-) -> Result<(), Memory>
-    ensures { OnOk result (fields.new ≡ fields.old ++ map row_field ((label.now, root) ∷ [])) }
-{
-    fields.push(FieldSet {
-        label: label.clone()?,
-        set: StateSet::one(alloc, root)?,
-    })?;
-    Ok(())
 }
 
 // Adds entries whose states have numbers that are higher by this.
@@ -484,36 +204,6 @@ fn add_passage(automaton: &mut Automaton) -> Result<(StateId, StateId), Memory>
     Ok((negative, positive))
 }
 
-fn function_head(alloc: Global, domain: StateId, codomain: StateId) -> Result<Head, Memory>
-    ensures { IfOk result (λ head. head ≡ function_head (domain.0 ∷ []) (codomain.0 ∷ [])) }
-{
-    let domain = StateSet::one(alloc, domain)?;
-    let codomain = StateSet::one(alloc, codomain)?;
-    let mut head = Head::empty();
-    head.function = Some(Arms { domain, codomain });
-    Ok(head)
-}
-
-// The head of the records with this field.
-fn field_head(alloc: Global, label: Name, state: StateId) -> Result<Head, Memory>
-    ensures { IfOk result (λ head. head ≡ record_head (field_of label state.0 ∷ [])) }
-{
-    let mut fields = FieldSets::new(alloc);
-    fields.push(FieldSet {
-        label,
-        set: StateSet::one(alloc, state)?,
-    })?;
-    Ok(fields_head(fields))
-}
-
-fn fields_head(fields: FieldSets) -> Head
-    ensures { result ≡ record_head fields }
-{
-    let mut head = Head::empty();
-    head.fields = Some(fields);
-    head
-}
-
 fn one_goal(alloc: Global, positive: StateId, negative: StateId) -> Result<List<Goal>, Memory>
     ensures { IfOk result (λ goals. map goal_pair goals ≡ (positive.0, negative.0) ∷ []) }
 {
@@ -529,31 +219,8 @@ fn add_goal(goals: &mut List<Goal>, positive: StateId, negative: StateId) -> Res
     Ok(())
 }
 
-// The states of a binder.
-fn states_of(alloc: Global, env: &[EnvEntry], binder: usize) -> Result<StateSet, Memory>
-    ensures { IfOk result (λ set. (n : ℕ) → Contains set n ↔ Contains (states_of binder env.now) n) }
-{
-    let mut set = StateSet::new(alloc);
-    for entry in env {
-        add_state(&mut set, entry, binder)?;
-    }
-    Ok(set)
-}
-
-// Adds the state of an entry, where it is one of this binder.
-fn add_state(set: &mut StateSet, entry: &EnvEntry, binder: usize) -> Result<(), Memory>
-    ensures { OnOk result ((n : ℕ) → Contains set.new n ↔ ((entry.now.binder ≡ binder) × (n ≡ entry.now.state.0))
-        ⊎ Contains set.old n) }
-{
-    if entry.binder == binder {
-        set.insert(entry.state)?;
-        return Ok(());
-    }
-    Ok(())
-}
-
-// The only state of a binder, if it has one.
-fn state_of(env: &[EnvEntry], binder: usize) -> Option<StateId>
+/// The only state of a binder, if it has one.
+pub(crate) fn state_of(env: &[EnvEntry], binder: usize) -> Option<StateId>
     requires { length (states_of binder env.now) ≤ 1 }
     ensures { listed result ≡ states_of binder env.now }
 {
@@ -582,17 +249,4 @@ fn goals_to(
         Some(negative) => one_goal(alloc, positive, negative),
         None => Ok(List::new(alloc)),
     }
-}
-
-// The entries of the other binders.
-fn without(alloc: Global, env: &[EnvEntry], binder: usize) -> Result<List<EnvEntry>, Memory>
-    ensures { IfOk result (λ others. others ≡ without binder env.now) }
-{
-    let mut others = List::new(alloc);
-    for entry in env {
-        if entry.binder != binder {
-            others.push(*entry)?;
-        }
-    }
-    Ok(others)
 }

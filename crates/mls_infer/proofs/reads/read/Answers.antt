@@ -1,8 +1,7 @@
-use Rattle.std.proofs.Common.{◌≡◌, ◌≢◌, ◌<◌, ℕ, List, length, get_or, rules, subst, sym, Some}
+use Rattle.std.proofs.Common.{◌≡◌, ◌≢◌, ◌<◌, ℕ, List, length, get_or, rules, Some}
 use Rattle.std.specs.BTreeMap.{get}
 use Rattle.std.specs.Ordering.{nat_cmp}
 use Rattle.mls_typetext.specs.declared.scheme.ReadScheme.{ReadScheme}
-use Rattle.mls_infer.specs.Finishing.{IsRead}
 use Rattle.mls_infer.specs.Inference.{schemes_in}
 use Rattle.mls_infer.proofs.KnownSchemes.{scheme_read, reads_more}
 use Rattle.mls_infer.proofs.reads.read.Goals as goal
@@ -13,8 +12,7 @@ returns c =
     let one : ReadScheme = c.index-schemes-g.result in
     let low : c.args.g < length schemes = search rules in
     let at : get_or schemes c.args.g one ≡ one = search rules in
-    let here : get nat_cmp c.insert.new.self c.args.g ≡ Some c.without_binders-part.result = search rules in
+    let here : get nat_cmp c.insert.new.self c.args.g ≡ Some c.in_ok-scheme.scheme = search rules in
     let others : (k : ℕ) → k ≢ c.args.g → get nat_cmp c.insert.new.self k ≡ get nat_cmp c.args.reads.now k = search rules in
-    reads_more (schemes_in c.args.names.now) c.args.reads.now c.insert.new.self c.args.g c.without_binders-part.result c.requires.reads here others
-    (subst (IsRead (schemes_in c.args.names.now) c.args.g) (sym c.without_binders-part.ensures)
-    (scheme_read c.args.names.now c.args.g one c.in_ok-scheme.scheme c.requires.names low at c.in_ok-scheme.ensures.scheme c.in_ok-scheme.ensures.env c.in_ok-scheme.ensures.equivalent))
+    reads_more (schemes_in c.args.names.now) c.args.reads.now c.insert.new.self c.args.g c.in_ok-scheme.scheme c.requires.reads here others
+    (scheme_read c.args.names.now c.args.g one c.in_ok-scheme.scheme c.requires.names low at c.in_ok-scheme.ensures.scheme c.in_ok-scheme.ensures.env c.in_ok-scheme.ensures.equivalent)

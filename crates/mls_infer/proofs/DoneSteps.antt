@@ -1,0 +1,347 @@
+-- The steps on what is known of nodes.
+--     take_waiting, take_named      a part is taken
+--     named_done, named_keeps       a part is set apart
+--     copy_in                       a copy of a scheme comes
+--     pushed_done, pushed_schemes   a part is added
+--     made_in                       parts give way to that of a node
+--     stops_in                      or do not, since the constraint has no types
+--     trimmed_in                    a part is trimmed
+use Rattle.std.proofs.Common.{◌≡◌, ◌≢◌, ◌⊎◌, inl, inr, ℕ, zero, suc, List, [], ◌∷◌, ◌++◌, length, refl, sym, ap, ◌∙◌, subst, arith, Some, slice_get, slice_set, Contains}
+use Rattle.std.specs.List.{AllPairs}
+use Rattle.std.proofs.lemmas.Bool.{cases_eq}
+use Rattle.std.proofs.lemmas.List.{map-append}
+use Rattle.std.proofs.lemmas.List.Elements.{Contains-append_left, Contains-append_right}
+use Rattle.mls_automaton.specs.declared.scheme.Scheme.{Scheme}
+use Rattle.mls_automaton.proofs.Lists.{Contains-cases, Contains-here}
+use Rattle.mls_biunify.specs.Live.{IsLive, Live}
+use Rattle.mls_term.specs.declared.term.TermForm.{TermForm}
+use Rattle.mls_infer.specs.declared.done.Known.{Known}
+use Rattle.mls_infer.specs.declared.done.Known.TheVariants as known
+use Rattle.mls_infer.specs.declared.pending.Pending.{Pending}
+use Rattle.mls_infer.specs.declared.solve.NoSolution.{NoSolution}
+use Rattle.mls_infer.specs.declared.solve.NoSolution.TheVariants as no_solution
+use Rattle.mls_infer.specs.Constraints.{Constraint, HasStates, no_goals}
+use Rattle.mls_infer.specs.Doing.{AreBeside, AreDone, AreTaken, IsBuiltIn, IsCopyIn, IsPartIn, IsTakenOut, Stands, scheme_known, schemes_known, states_known}
+use Rattle.mls_infer.specs.Finished.{Finished, Has, HasEach}
+use Rattle.mls_infer.specs.Finishing.{HasConstraint, HasParts, IsAnswer, KeepsBut, Scope, StopsAt, is_named, is_solved}
+use Rattle.mls_infer.specs.Forms.{IsBuilt, IsPosed, children}
+use Rattle.mls_infer.specs.Merges.{AreAlike, HaveSameTypes}
+use Rattle.mls_infer.specs.Pending.{IsCopied, IsMade, IsPosedOver, IsRemade, StopsOver, Waits, all_states, part_in}
+use Rattle.mls_infer.specs.Regions.{AreApart, TablePart, scheme_at, schemes_at}
+use Rattle.mls_infer.proofs.ConstraintRows.{nothing_in}
+use Rattle.mls_infer.proofs.DoneNodes.{alike_snoc, alike_then, beside_on, done_on, each_split, hand_on, has_known, held_too, keeps_after, keeps_on, known_states, one_held, own_types, set_apart, set_cases, set_done, set_has, set_here, set_size, then_types}
+use Rattle.mls_infer.proofs.FinishedParts.{one_scheme}
+use Rattle.mls_infer.proofs.SolvedConstraints.{solution_after}
+use Rattle.mls_infer.proofs.TableSolutions.{part_states}
+
+nothing_known : (states : List ℕ) (s : ℕ) → Contains [] s → Contains states s → ⊥
+nothing_known states s none here = nothing_in s none
+
+-- Nothing waits in place of a part that was taken.
+module _ (live : Live) (nodes : List Known) (done : AreDone live nodes) (i : ℕ) where
+  abbrev pub left : List Known
+  left = slice_set nodes i known.Taken
+
+  pub left_done : AreDone live left
+  left_done = set_done live nodes i known.Taken done tt (λ j k other at. nothing_known (states_known k))
+
+  pub left_apart : (states : List ℕ) → ((j : ℕ) (k : Known) → slice_get nodes j ≡ Some k → AreApart states (states_known k)) → (j : ℕ) (k : Known) → slice_get left j ≡ Some k → AreApart states (states_known k)
+  left_apart states apart = set_apart live nodes i known.Taken states apart (λ s it none. nothing_in s none)
+
+  -- the part is apart from what is left
+  pub own_apart : (p : Pending) → slice_get nodes i ≡ Some (known.Waiting p) → (j : ℕ) (k : Known) → slice_get left j ≡ Some k → AreApart (part_in p).states (states_known k)
+  own_apart p at j k at' = elim (set_cases nodes i j known.Taken k at') [
+    | inl here ↦ let P : Known → Type 0 = λ k. AreApart (part_in p).states (states_known k) in subst P (sym here.1) (λ s it none. nothing_in s none)
+    | inr other ↦ done.apart i j (known.Waiting p) k (λ same. other.0 (sym same)) at other.1
+  ]
+
+  -- the scheme that was known
+  pub the_scheme : (k : Known) (s t : Scheme) → slice_get nodes i ≡ Some k → scheme_known live k ≡ Some s → Has (schemes_known live nodes) i t → t ≡ s
+  the_scheme k s t at is has = one_scheme (schemes_known live nodes) i t s has (has_known live nodes i k s at is)
+
+module _ (first : Finished) (gone : List ℕ) (live : Live) (nodes : List Known) (parts : List TablePart) (taken : AreTaken first gone live nodes parts) (i : ℕ) (fresh : Contains gone i → ⊥) where
+  abbrev rest : List Known
+  rest = left live nodes taken.done i
+
+  rest_done : AreDone live rest
+  rest_done = left_done live nodes taken.done i
+
+  rest_keeps : KeepsBut (gone ++ i ∷ []) first (schemes_known live rest)
+  rest_keeps = record {
+    size = set_size live nodes i known.Taken ∙ taken.keeps.size;
+    kept = λ j s out has.
+        let it = taken.keeps.kept j s (λ inside. out (Contains-append_left gone (i ∷ []) j inside)) has in
+        let C : ℕ → Type 0 = Contains (i ∷ []) in
+        let other : j ≢ i = λ same. out (Contains-append_right gone (i ∷ []) j (subst C (sym same) (Contains-here i []))) in
+        (it.0, set_has live nodes i known.Taken j it.0 other it.1, it.2);
+  }
+
+  -- the scheme at the place, which has the types of one that was known at first
+  as_known : (k : Known) (s t : Scheme) → slice_get nodes i ≡ Some k → scheme_known live k ≡ Some s → Has first i t → HaveSameTypes (no_goals t) (no_goals s)
+  as_known k s t at is has =
+      let it = taken.keeps.kept i t fresh has in
+      let P : Scheme → Type 0 = λ s. HaveSameTypes (no_goals t) (no_goals s) in
+      subst P (the_scheme live nodes taken.done i k s it.0 at is it.1) it.2
+
+  -- schemes of the parts, and of one more
+  alike_more : (new : Live) (part : TablePart) → ((ss : List Scheme) → HasEach first gone ss → AreAlike ss (schemes_at new.table parts)) → HasStates (scheme_at new.table part)
+      → ((t : Scheme) → Has first i t → HaveSameTypes (no_goals t) (no_goals (scheme_at new.table part)))
+      → (ss : List Scheme) → HasEach first (gone ++ i ∷ []) ss → AreAlike ss (schemes_at new.table (parts ++ part ∷ []))
+  alike_more new part before states own ss each =
+      let it = each_split first gone i ss each in
+      let P : List Scheme → Type 0 = λ ss. AreAlike ss (schemes_at new.table (parts ++ part ∷ [])) in
+      let Q : List Scheme → Type 0 = λ ts. AreAlike (it.0 ++ it.1 ∷ []) ts in
+      subst P (sym it.2)
+      (subst Q (sym (map-append (scheme_at new.table) parts (part ∷ [])))
+      (alike_snoc it.0 (schemes_at new.table parts) it.1 (scheme_at new.table part) (before it.0 it.3) states (own it.1 it.4)))
+
+  pub take_waiting : (p : Pending) → slice_get nodes i ≡ Some (known.Waiting p) → AreTaken first (gone ++ i ∷ []) live rest (parts ++ part_in p ∷ [])
+  take_waiting p at =
+      let part : TablePart = part_in p in
+      let waits : Waits live part = taken.done.stand i (known.Waiting p) at in
+      record {
+        done = rest_done;
+        beside =
+            held_too live rest parts part (record { waiting = taken.beside.waiting; beside = left_apart live nodes taken.done i (all_states parts) taken.beside.beside }) waits
+            (taken.beside.beside i (known.Waiting p) at) (own_apart live nodes taken.done i p at);
+        alike =
+            alike_more live part taken.alike (known_states live taken.done.is_live (known.Waiting p) (scheme_at live.table part) waits refl)
+            (λ t has. as_known (known.Waiting p) (scheme_at live.table part) t at refl has);
+        keeps = rest_keeps;
+      }
+
+  pub take_named : (s : Scheme) → slice_get nodes i ≡ Some (known.Named s) → (new : Live) → IsLive new → (part : TablePart) → IsCopied s live new part → AreTaken first (gone ++ i ∷ []) new rest (parts ++ part ∷ [])
+  take_named s at new is_new part copy =
+      let is_live : IsLive live = taken.done.is_live in
+      let none : (j : ℕ) (k : Known) → slice_get rest j ≡ Some k → AreApart [] (states_known k) = λ j k at. nothing_known (states_known k) in
+      let hand = hand_on [] live new part.states copy.changes is_live is_new parts taken.beside.waiting (nothing_known (all_states parts)) in
+      record {
+        done = done_on [] live new part.states copy.changes is_live is_new rest rest_done none;
+        beside =
+            held_too new rest parts part (record { waiting = hand.0; beside = left_apart live nodes taken.done i (all_states parts) taken.beside.beside }) copy.waits
+            (λ s it here. hand.1 s here it) (beside_on [] live new part.states copy.changes is_live is_new rest rest_done none);
+        alike =
+            alike_more new part (λ ss each. alike_then ss (schemes_at live.table parts) (schemes_at new.table parts) (taken.alike ss each) hand.2)
+            (part_states new is_new part.states copy.waits.there part.env part.root copy.waits.part)
+            (λ t has. then_types t s (scheme_at new.table part) (as_known (known.Named s) s t at refl has) copy.alike);
+        keeps = keeps_after (gone ++ i ∷ []) first (schemes_known live rest) (schemes_known new rest) rest_keeps (keeps_on [] live new part.states copy.changes is_live is_new rest rest_done none);
+      }
+
+-- A part is set apart.
+module _ (live : Live) (nodes : List Known) (done : AreDone live nodes) (i : ℕ) (p : Pending) (at : slice_get nodes i ≡ Some (known.Waiting p)) (new : Live) (s : Scheme) (out : IsTakenOut live (part_in p) new s) where
+  abbrev others : List Known
+  others = left live nodes done i
+
+  abbrev named : List Known
+  named = slice_set others i (known.Named s)
+
+  pub named_here : slice_get named i ≡ Some (known.Named s)
+  named_here = set_here others i (known.Named s) known.Taken (set_here nodes i known.Taken (known.Waiting p) at)
+
+  pub named_done : AreDone new named
+  named_done =
+      set_done new others i (known.Named s)
+      (done_on (part_in p).states live new [] out.changes done.is_live out.is_live others (left_done live nodes done i) (own_apart live nodes done i p at))
+      (out.scheme, out.rise) (λ j k other at. nothing_known (states_known k))
+
+  pub named_keeps : KeepsBut [] (schemes_known live nodes) (schemes_known new named)
+  named_keeps =
+      let on : KeepsBut [] (schemes_known live others) (schemes_known new others) =
+      keeps_on (part_in p).states live new [] out.changes done.is_live out.is_live others (left_done live nodes done i) (own_apart live nodes done i p at) in
+      record {
+        size = set_size new others i (known.Named s) ∙ (on.size ∙ set_size live nodes i known.Taken);
+        kept = λ j t none has. go on j t none has (cases_eq j i);
+      }
+    where
+      go : KeepsBut [] (schemes_known live others) (schemes_known new others) → (j : ℕ) (t : Scheme) → (Contains [] j → ⊥) → Has (schemes_known live nodes) j t → (j ≡ i) ⊎ (j ≢ i) → (u : Scheme) × Has (schemes_known new named) j u × HaveSameTypes (no_goals t) (no_goals u)
+      go on j t none has (inl same) =
+          let H : ℕ → Type 0 = λ j. Has (schemes_known live nodes) j t in
+          let N : ℕ → Type 0 = λ j. Has (schemes_known new named) j s in
+          let S : Scheme → Type 0 = λ t. HaveSameTypes (no_goals t) (no_goals s) in
+          let is : t ≡ scheme_at live.table (part_in p) = the_scheme live nodes done i (known.Waiting p) (scheme_at live.table (part_in p)) t at refl (subst H same has) in
+          (s, subst N (sym same) (has_known new named i (known.Named s) s named_here refl), subst S (sym is) out.alike)
+      go on j t none has (inr other) =
+          let it = on.kept j t none (set_has live nodes i known.Taken j t other has) in
+          (it.0, set_has new others i (known.Named s) j it.0 other it.1, it.2)
+
+-- what was there is put back
+pub set_back : (nodes : List Known) (i : ℕ) (x y : Known) → slice_get nodes i ≡ Some x → slice_set (slice_set nodes i y) i x ≡ nodes
+set_back [] i x y at = refl
+set_back (z ∷ zs) zero x y at = let same : z ≡ x = cc in ap (λ x. x ∷ zs) (sym same)
+set_back (z ∷ zs) (suc i) x y at = ap (λ xs. z ∷ xs) (set_back zs i x y at)
+
+-- A copy of a scheme comes.
+pub copy_in : (s : Scheme) (first : Finished) (live new : Live) (nodes : List Known) (part : TablePart) → AreDone live nodes → KeepsBut [] first (schemes_known live nodes) → IsLive new → IsCopied s live new part → IsCopyIn s first new nodes part
+copy_in s first live new nodes part done keeps is_new copy =
+    let none : (j : ℕ) (k : Known) → slice_get nodes j ≡ Some k → AreApart [] (states_known k) = λ j k at. nothing_known (states_known k) in
+    record {
+      done = done_on [] live new part.states copy.changes done.is_live is_new nodes done none;
+      beside = one_held new nodes part copy.waits (beside_on [] live new part.states copy.changes done.is_live is_new nodes done none);
+      alike = copy.alike;
+      keeps = keeps_after [] first (schemes_known live nodes) (schemes_known new nodes) keeps (keeps_on [] live new part.states copy.changes done.is_live is_new nodes done none);
+    }
+
+-- a copy of what is apart at a place has the types of what was known there
+pub copied_as : (r s : Scheme) (first : Finished) (live new : Live) (nodes : List Known) (part : TablePart) (i : ℕ) → AreDone live nodes → KeepsBut [] first (schemes_known live nodes) → IsLive new → slice_get nodes i ≡ Some (known.Named s) → Has first i r → IsCopied s live new part → IsCopyIn r first new nodes part
+copied_as r s first live new nodes part i done keeps is_new at has copy =
+    let it = copy_in s first live new nodes part done keeps is_new copy in
+    let t = keeps.kept i r (λ none. nothing_in i none) has in
+    let P : Scheme → Type 0 = λ s. HaveSameTypes (no_goals r) (no_goals s) in
+    record {
+      done = it.done;
+      beside = it.beside;
+      alike = then_types r s (scheme_at new.table part) (subst P (the_scheme live nodes done i (known.Named s) s t.0 at refl t.1) t.2) copy.alike;
+      keeps = it.keeps;
+    }
+
+-- A part is added.
+snoc_cases : (xs : List Known) (x : Known) (j : ℕ) (k : Known) → slice_get (xs ++ x ∷ []) j ≡ Some k → (slice_get xs j ≡ Some k) ⊎ ((j ≡ length xs) × (k ≡ x))
+snoc_cases [] x zero k at = inr (refl, (cc))
+snoc_cases [] x (suc j) k at = absurd (cc)
+snoc_cases (y ∷ ys) x zero k at = inl at
+snoc_cases (y ∷ ys) x (suc j) k at = elim (snoc_cases ys x j k at) [ inl old ↦ inl old | inr new ↦ inr (ap suc new.0, new.1) ]
+
+module _ (live : Live) (nodes : List Known) (p : Pending) where
+  pub pushed_done : AreDone live nodes → AreBeside live nodes (part_in p ∷ []) → AreDone live (nodes ++ known.Waiting p ∷ [])
+  pushed_done done beside = record {
+    is_live = done.is_live;
+    stand = λ j k at. elim (snoc_cases nodes (known.Waiting p) j k at) [
+      | inl old ↦ done.stand j k old
+      | inr new ↦ let P : Known → Type 0 = Stands live in subst P (sym new.1) beside.waiting.0
+    ];
+    apart = λ j m k l distinct at at'. both j m k l distinct (snoc_cases nodes (known.Waiting p) j k at) (snoc_cases nodes (known.Waiting p) m l at');
+  }
+    where
+      own : (j : ℕ) (k : Known) → slice_get nodes j ≡ Some k → AreApart (part_in p).states (states_known k)
+      own j k at s it here = beside.beside j k at s (Contains-append_left (part_in p).states [] s it) here
+
+      both : (j m : ℕ) (k l : Known) → j ≢ m → (slice_get nodes j ≡ Some k) ⊎ ((j ≡ length nodes) × (k ≡ known.Waiting p)) → (slice_get nodes m ≡ Some l) ⊎ ((m ≡ length nodes) × (l ≡ known.Waiting p)) → AreApart (states_known k) (states_known l)
+      both j m k l distinct (inl old) (inl old') = done.apart j m k l distinct old old'
+      both j m k l distinct (inl old) (inr new) =
+          let P : Known → Type 0 = λ l. AreApart (states_known k) (states_known l) in
+          subst P (sym new.1) (λ s it mine. own j k old s mine it)
+      both j m k l distinct (inr new) (inl old) = let P : Known → Type 0 = λ k. AreApart (states_known k) (states_known l) in subst P (sym new.1) (own m l old)
+      both j m k l distinct (inr new) (inr new') = absurd (distinct (new.0 ∙ sym new'.0))
+
+  pub pushed_schemes : schemes_known live (nodes ++ known.Waiting p ∷ []) ≡ schemes_known live nodes ++ Some (scheme_at live.table (part_in p)) ∷ []
+  pushed_schemes = map-append (scheme_known live) nodes (known.Waiting p ∷ [])
+
+-- Nothing was taken yet.
+pub none_taken : (live : Live) (nodes : List Known) → AreDone live nodes → AreTaken (schemes_known live nodes) [] live nodes []
+none_taken live nodes done = record {
+  done = done;
+  beside = record { waiting = tt; beside = λ i k at. nothing_known (states_known k) };
+  alike = none_alike;
+  keeps = record { size = refl; kept = λ j s out has. (s, has, own_types s) };
+}
+  where
+    none_alike : (ss : List Scheme) → HasEach (schemes_known live nodes) [] ss → AreAlike ss []
+    none_alike [] each = tt
+    none_alike (s ∷ ss) each = absurd each
+
+-- The parts of a node give way to its own.
+module _ (node : TermForm) (first : Finished) (mid new : Live) (nodes : List Known) (parts : List TablePart) (taken : AreTaken first (children node) mid nodes parts) (has : HasParts node first) where
+  -- the constraint is over schemes with the types of those that were known
+  over_known : (c : Constraint) → IsPosedOver node (schemes_at mid.table parts) c → HasConstraint node first c
+  over_known c posed = record {
+    schemes = has.schemes;
+    each = has.each;
+    taken = posed.taken;
+    alike = alike_then has.schemes (schemes_at mid.table parts) posed.taken (taken.alike has.schemes has.each) posed.alike;
+    is = posed.is;
+  }
+
+  pub made_in : (part : TablePart) → IsLive new → IsMade node mid parts new part → IsBuiltIn node first new nodes part
+  made_in part is_new made = record {
+    done = done_on (all_states parts) mid new part.states made.changes taken.done.is_live is_new nodes taken.done taken.beside.beside;
+    beside = one_held new nodes part made.waits (beside_on (all_states parts) mid new part.states made.changes taken.done.is_live is_new nodes taken.done taken.beside.beside);
+    constraint = made.constraint;
+    posed = over_known made.constraint made.posed;
+    solution = made.solution;
+    keeps =
+        keeps_after (children node) first (schemes_known mid nodes) (schemes_known new nodes) taken.keeps
+        (keeps_on (all_states parts) mid new part.states made.changes taken.done.is_live is_new nodes taken.done taken.beside.beside);
+  }
+
+  pub stops_in : (e : NoSolution) → StopsOver node mid parts e → StopsAt node first e
+  stops_in (no_solution.Clash m) stop = record { constraint = stop.constraint; is = over_known stop.constraint stop.posed; none = stop.none; first = stop.first }
+  stops_in no_solution.Memory stop = tt
+
+-- a form over other numbers
+pub made_as : (node other : TermForm) (old new : Live) (parts : List TablePart) (part : TablePart) → ((ss : List Scheme) (c : Constraint) → IsPosed node ss c → IsPosed other ss c) → IsMade node old parts new part → IsMade other old parts new part
+made_as node other old new parts part same made = record {
+  waits = made.waits;
+  changes = made.changes;
+  constraint = made.constraint;
+  posed = record { taken = made.posed.taken; alike = made.posed.alike; is = same made.posed.taken made.constraint made.posed.is };
+  solution = made.solution;
+}
+
+pub stops_as : (node other : TermForm) (live : Live) (parts : List TablePart) → ((ss : List Scheme) (c : Constraint) → IsPosed node ss c → IsPosed other ss c) → (e : NoSolution) → StopsOver node live parts e → StopsOver other live parts e
+stops_as node other live parts same (no_solution.Clash m) stop = record {
+  constraint = stop.constraint;
+  posed = record { taken = stop.posed.taken; alike = stop.posed.alike; is = same stop.posed.taken stop.constraint stop.posed.is };
+  none = stop.none;
+  first = stop.first;
+}
+stops_as node other live parts same no_solution.Memory stop = tt
+
+-- what is built is the part of its node
+pub built_part : (scope : Scope) (node : TermForm) (first : Finished) (live : Live) (nodes : List Known) (part : TablePart) → IsBuiltIn node first live nodes part → IsPartIn scope node first live nodes part
+built_part scope node first live nodes part built = record {
+  done = built.done;
+  beside = built.beside;
+  answer = record { answer = is_solved built.constraint built.posed built.solution; states = built.solution.states };
+  keeps = built.keeps;
+}
+
+-- an answer with the same types
+pub answer_alike : (scope : Scope) (node : TermForm) (first : Finished) (s t : Scheme) → IsAnswer scope node first s → HasStates t → HaveSameTypes (no_goals s) (no_goals t) → IsAnswer scope node first t
+answer_alike scope node first s t (is_named r named alike) states same = is_named r named (then_types r s t alike same)
+answer_alike scope node first s t (is_solved c posed solution) states same = is_solved c posed (solution_after c s t solution (record { states = states; just = same }))
+
+-- A part is trimmed.
+pub trimmed_in : (scope : Scope) (node : TermForm) (first : Finished) (live new : Live) (nodes : List Known) (part other : TablePart) → IsLive new → IsRemade live part new other → IsPartIn scope node first live nodes part → IsPartIn scope node first new nodes other
+trimmed_in scope node first live new nodes part other is_new remade it =
+    let apart : (j : ℕ) (k : Known) → slice_get nodes j ≡ Some k → AreApart part.states (states_known k) = λ j k at s own here. it.beside.beside j k at s (Contains-append_left part.states [] s own) here in
+    let states : HasStates (scheme_at new.table other) = part_states new is_new other.states remade.waits.there other.env other.root remade.waits.part in
+    record {
+      done = done_on part.states live new other.states remade.changes it.done.is_live is_new nodes it.done apart;
+      beside = one_held new nodes other remade.waits (beside_on part.states live new other.states remade.changes it.done.is_live is_new nodes it.done apart);
+      answer = record { answer = answer_alike scope node first (scheme_at live.table part) (scheme_at new.table other) it.answer.answer states remade.alike; states = states };
+      keeps = keeps_after (children node) first (schemes_known live nodes) (schemes_known new nodes) it.keeps (keeps_on part.states live new other.states remade.changes it.done.is_live is_new nodes it.done apart);
+    }
+
+-- One part is taken, and then others.
+pub take_one : (live : Live) (nodes : List Known) → AreDone live nodes → (i : ℕ) (mid : Live) (later : List Known) (part : TablePart)
+    → ((first : Finished) (gone : List ℕ) (parts : List TablePart) → AreTaken first gone live nodes parts → (Contains gone i → ⊥) → AreTaken first (gone ++ i ∷ []) mid later (parts ++ part ∷ []))
+    → AreTaken (schemes_known live nodes) (i ∷ []) mid later (part ∷ [])
+take_one live nodes done i mid later part takes = takes (schemes_known live nodes) [] [] (none_taken live nodes done) (λ none. nothing_in i none)
+
+pub still_there : (first : Finished) (gone : List ℕ) (live : Live) (nodes : List Known) (parts : List TablePart) → AreTaken first gone live nodes parts → (i : ℕ) → (Contains gone i → ⊥) → (s : Scheme) × Has first i s → (t : Scheme) × Has (schemes_known live nodes) i t
+still_there first gone live nodes parts taken i fresh one = let it = taken.keeps.kept i one.0 fresh one.1 in (it.0, it.1)
+
+pub fresh_second : (i j : ℕ) (more : List ℕ) → AllPairs (λ i j. i ≢ j) (i ∷ j ∷ more) → Contains (i ∷ []) j → ⊥
+fresh_second i j more distinct inside = elim (Contains-cases i [] j inside) [
+  | inl same ↦ distinct 0 1 i (omega arith) (omega arith) same
+  | inr none ↦ nothing_in j none
+]
+
+pub fresh_third : (i j k : ℕ) → AllPairs (λ i j. i ≢ j) (i ∷ j ∷ k ∷ []) → Contains (i ∷ j ∷ []) k → ⊥
+fresh_third i j k distinct inside = elim (Contains-cases i (j ∷ []) k inside) [
+  | inl same ↦ distinct 0 2 i (omega arith) (omega arith) same
+  | inr later ↦ elim (Contains-cases j [] k later) [
+    | inl same ↦ distinct 1 2 i (omega arith) (omega arith) same
+    | inr none ↦ nothing_in k none
+  ]
+]
+
+-- a node without parts
+pub no_parts : (node : TermForm) (first : Finished) → children node ≡ [] → IsBuilt node → HasParts node first
+no_parts node first none built = record {
+  schemes = [];
+  each = let P : List ℕ → Type 0 = λ is. HasEach first is [] in subst P (sym none) tt;
+  are = λ k d low. absurd (omega arith);
+  distinct = let P : List ℕ → Type 0 = AllPairs (λ i j. i ≢ j) in subst P (sym none) (λ i j d less low. absurd (omega arith));
+  built = built;
+}

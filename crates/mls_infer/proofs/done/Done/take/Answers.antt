@@ -1,0 +1,37 @@
+use Rattle.std.proofs.Common.{◌≡◌, ◌++◌, ◌∷◌, [], List, subst, sym, slice_get, slice_set, Some}
+use Rattle.mls_infer.specs.declared.done.Known.{Known}
+use Rattle.mls_infer.specs.declared.done.Known.TheVariants as known
+use Rattle.mls_infer.specs.Doing.{AreTaken}
+use Rattle.mls_infer.specs.Pending.{part_in}
+use Rattle.mls_infer.proofs.DonePlaces.{found_at, none_at}
+use Rattle.mls_infer.proofs.DoneSteps.{take_named, take_waiting}
+use Rattle.mls_infer.proofs.OneState.{scheme_states}
+use Rattle.mls_infer.proofs.done.Done.take.Goals as goal
+
+pub copied-requires : goal.copied-requires
+copied-requires c =
+    let at : slice_get c.args.self.now.nodes.items c.args.i ≡ Some (known.Named c.in-Named.scheme) =
+    found_at c.args.self.now.live c.args.self.now.nodes.items c.args.i c.requires.there.0 c.requires.there.1 (known.Named c.in-Named.scheme) c.index_mut.result.now c.in-Named.ensures.value c.index_mut.ensures.value in
+    let stands = c.requires.done.stand c.args.i (known.Named c.in-Named.scheme) at in
+    scheme_states c.in-Named.scheme stands.0 stands.1
+
+pub unreachable-requires : goal.unreachable-requires
+unreachable-requires c =
+    none_at c.args.self.now.live c.args.self.now.nodes.items c.args.i c.requires.there.0 c.requires.there.1
+    (found_at c.args.self.now.live c.args.self.now.nodes.items c.args.i c.requires.there.0 c.requires.there.1 known.Taken c.index_mut.result.now c.in-Taken.ensures.value c.index_mut.ensures.value)
+
+pub returns-in-Waiting : goal.returns-in-Waiting
+returns-in-Waiting c = λ first gone parts taken fresh.
+    let nodes : List Known = c.args.self.now.nodes.items in
+    let at : slice_get nodes c.args.i ≡ Some (known.Waiting c.in-Waiting.part) =
+    found_at c.args.self.now.live nodes c.args.i c.requires.there.0 c.requires.there.1 (known.Waiting c.in-Waiting.part) c.index_mut.result.now c.in-Waiting.ensures.value c.index_mut.ensures.value in
+    subst (λ (k : Known). AreTaken first (gone ++ c.args.i ∷ []) c.args.self.now.live (slice_set nodes c.args.i k) (parts ++ part_in c.in-Waiting.part ∷ [])) (sym c.replace.ensures.after)
+    (take_waiting first gone c.args.self.now.live nodes parts taken c.args.i fresh c.in-Waiting.part at)
+
+pub returns-in_ok-part-in-Named : goal.returns-in_ok-part-in-Named
+returns-in_ok-part-in-Named c = λ first gone parts taken fresh.
+    let nodes : List Known = c.args.self.now.nodes.items in
+    let at : slice_get nodes c.args.i ≡ Some (known.Named c.in-Named.scheme) =
+    found_at c.args.self.now.live nodes c.args.i c.requires.there.0 c.requires.there.1 (known.Named c.in-Named.scheme) c.index_mut.result.now c.in-Named.ensures.value c.index_mut.ensures.value in
+    subst (λ (k : Known). AreTaken first (gone ++ c.args.i ∷ []) c.copied.new.live (slice_set nodes c.args.i k) (parts ++ part_in c.in_ok-part-in-Named.part ∷ [])) (sym c.replace.ensures.after)
+    (take_named first gone c.args.self.now.live nodes parts taken c.args.i fresh c.in-Named.scheme at c.copied.new.live c.ready-copied.ensures.live (part_in c.in_ok-part-in-Named.part) c.in_ok-part-in-Named.ensures)

@@ -1,0 +1,2 @@
+pub mod TestRegions
+pub mod TestTerms
