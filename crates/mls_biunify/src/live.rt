@@ -227,7 +227,7 @@ impl Live {
     }
 
     /// Takes out those of some states that heads do not reach from the roots, with their edges, and answers those that
-    /// stay, in the order of their numbers. Edges are not followed. It goes over these states alone.
+    /// stay. Edges are not followed. It goes over these states alone.
     ///
     /// # Errors
     ///

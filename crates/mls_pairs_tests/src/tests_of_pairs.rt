@@ -42,11 +42,31 @@ fn small_book(alloc: Global) -> Result<Book, Memory> {
     Ok(book)
 }
 
+// Two chains of eight functions, of which one ends in `bool` and the other one in this node.
+fn chains(alloc: Global, last: Node) -> Result<Book, Memory> {
+    let mut book = Book::new(alloc);
+    push(&mut book, Node::Bool)?;
+    push(&mut book, last)?;
+    for k in 0..16 {
+        push(&mut book, Node::Arrow(NodeId(0), NodeId(k)))?;
+    }
+    Ok(book)
+}
+
 // How many pairs the list for this pair has, and whether it is there.
 fn listed(alloc: Global, puts: &[Put], pair: Pair) -> Result<(usize, bool), Memory> {
     let book = small_book(alloc)?;
+    listed_in(alloc, &book, puts, pair)
+}
+
+fn listed_in(
+    alloc: Global,
+    book: &Book,
+    puts: &[Put],
+    pair: Pair,
+) -> Result<(usize, bool), Memory> {
     let wanted = vec![in alloc; pair]?;
-    let pairs = pair_list(alloc, &book, puts, wanted.as_slice())?;
+    let pairs = pair_list(alloc, book, puts, wanted.as_slice())?;
     let has = pairs.as_slice().iter().any(|other| *other == pair);
     Ok((pairs.len(), has))
 }
@@ -100,5 +120,20 @@ fn lists_what_a_pair_needs_where_variables_stand_for_themselves(
         let pair = Pair { mode, left, right };
         assert_eq!(rt; listed(alloc, &[], pair)?, found);
     }
+    Ok(())
+}
+
+#[test]
+fn takes_out_a_chain_of_which_the_last_pair_fails(rt: HostRuntime) -> Result<(), Fail> {
+    let alloc = rt.alloc();
+    let pair = Pair {
+        mode: Mode::Pp,
+        left: 16,
+        right: 17,
+    };
+    let fails = chains(alloc, Node::Int)?;
+    assert_eq!(rt; listed_in(alloc, &fails, &[], pair)?, (1, false));
+    let holds = chains(alloc, Node::Bool)?;
+    assert_eq!(rt; listed_in(alloc, &holds, &[], pair)?, (10, true));
     Ok(())
 }
