@@ -42,6 +42,18 @@ impl<T: Drop> List<T> {
         Ok(())
     }
 
+    /// Makes room for so many more items, which then come without moving those that are there.
+    ///
+    /// # Errors
+    ///
+    /// `Memory` where memory is wanting.
+    pub fn reserve(&mut self, more: usize) -> Result<(), Memory>
+        ensures { self.new ≡ self.old }
+    {
+        self.items.reserve_exact(more)?;
+        Ok(())
+    }
+
     /// Turns the order around.
     pub fn reverse(&mut self)
         ensures { self.new ≡ reverse self.old }
@@ -88,6 +100,7 @@ mod tests {
     #[test]
     fn holds_items_in_order(rt: HostRuntime) -> Result<(), Fail> {
         let mut list = List::new(rt.alloc());
+        list.reserve(2)?;
         assert!(rt; list.is_empty());
         list.push(3)?;
         list.push(5)?;
