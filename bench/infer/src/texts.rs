@@ -18,6 +18,7 @@ fn texts_of_inference() -> Vec<(&'static str, String)> {
     let parameters = joined(150, "", |number| format!("fun a{number} -> "));
     let their_fields = joined(6_000, " + ", |number| format!("a{}.l{}", number % 150, number / 150));
     let their_uses = joined(8_000, " ", |number| format!("a{}", number % 150));
+    let uses = joined(60_000, ", ", |number| format!("l{number} = x{}", if number % 2 == 0 { "" } else { ".l" }));
     let arguments = joined(2_000, " ", |number| format!("r.l{number}"));
     let choices = joined(2_000, " + ", |number| format!("(if r.b{number} then r.l{number} else 1)"));
     let numerals = joined(3_000, "\n", |number| match number {
@@ -40,6 +41,7 @@ fn texts_of_inference() -> Vec<(&'static str, String)> {
         ("fields_of_parameter", format!("let a = fun r -> {projections}")),
         ("fields_of_parameters", format!("let a = {parameters}{their_fields}")),
         ("uses_of_parameters", format!("let a = {parameters}{their_uses}")),
+        ("record_of_uses", format!("let a = fun x -> {{{uses}}}")),
         ("arguments_of_fields", format!("let a = fun f -> fun r -> f {arguments}")),
         ("choices_of_fields", format!("let a = fun r -> {choices}")),
         ("operands", format!("let a = 1{}", "+1".repeat(249_999))),

@@ -1,5 +1,5 @@
 -- What a search has found, as marks below a limit.
-use Rattle.std.proofs.Common.{◌≡◌, ◌↔◌, ◌⊎◌, inl, inr, ℕ, ◌+◌, ◌<◌, ◌≤◌, ◌==◌, not, Bool, true, false, List, [], ◌∷◌, ◌++◌, take, refl, sym, ap, ◌∙◌, subst, arith, length, get_or, Contains}
+use Rattle.std.proofs.Common.{IsTrue, ◌≡◌, ◌↔◌, ◌⊎◌, inl, inr, ℕ, ◌+◌, ◌<◌, ◌≤◌, ◌==◌, not, Bool, true, false, List, [], ◌∷◌, ◌++◌, take, refl, sym, ap, ◌∙◌, subst, arith, length, get_or, Contains}
 use Rattle.std.specs.List.{range_with_len}
 use Rattle.std.specs.BTreeSet.{BTreeSet, contains, Updates}
 use Rattle.std.specs.Ordering.{nat_cmp}
@@ -19,7 +19,7 @@ use Rattle.mls_automaton.proofs.Lists.{Contains-cases, Contains-here, Contains-l
 use Rattle.mls_automaton.proofs.Searches.{grows-both, grows-nothing, grows-one, grows-same, next-cases, next-last, next-more}
 use Rattle.mls_biunify.specs.declared.reach.Search.{Search}
 use Rattle.mls_biunify.specs.steps.Among.{is_among}
-use Rattle.mls_biunify.specs.steps.Keeping.{Finds, found_of, InRoots, marks_below}
+use Rattle.mls_biunify.specs.steps.Keeping.{Finds, found_of, InRoots, WasFound, marks_below}
 use Rattle.mls_biunify.proofs.Settling.{inserted}
 
 pub among-contains : (xs : List ℕ) (x : ℕ) → is_among xs x ≡ true → Contains xs x
@@ -144,6 +144,9 @@ finds-below old new P n finds low before j it =
     ]
 
 -- what a set holds, by its test
+pub found-iff : (set : BTreeSet ℕ) (x : ℕ) → IsTrue (contains nat_cmp set x) ↔ WasFound set.keys x
+found-iff set x = let iff = btree_set_contains_iff nat_cmp_total exact_unsigned set x in (λ it. record { is = iff.0 it }, λ found. iff.1 found.is)
+
 pub held : (set : BTreeSet ℕ) (x : ℕ) → contains nat_cmp set x ≡ true → Contains set.keys x
 held set x it = (btree_set_contains_iff nat_cmp_total exact_unsigned set x).0 it
 

@@ -44,6 +44,7 @@ pub mod SettledHeads
 pub mod SettledEdges
 pub mod SettledLinks
 pub mod StoredHeads
+pub mod CutSets
 pub mod SettledTables
 pub mod Numbers
 pub mod Copied

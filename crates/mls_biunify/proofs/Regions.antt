@@ -2,7 +2,7 @@
 use Rattle.std.proofs.Common.{◌≡◌, ◌↔◌, ℕ, Bool, true, false, List, [], ◌∷◌, ◌++◌, All, Contains, get_or, refl, ap, ◌∙◌}
 use Rattle.std.proofs.lemmas.List.Elements.{All-contains, All-map}
 use Rattle.mls_automaton.specs.declared.state_set.StateId.{StateId}
-use Rattle.mls_automaton.specs.Automata.{Automaton}
+use Rattle.mls_automaton.specs.Automata.{Automaton, HasFlow}
 use Rattle.mls_automaton.specs.Reached.{Names}
 use Rattle.mls_automaton.proofs.Lists.{All-contained}
 use Rattle.mls_biunify.specs.Live.{IsRegion, numbers_in}
@@ -18,11 +18,8 @@ numbers-more old new s e = ap numbers_in e ∙ go old
 pub numbers-there : (there : List Bool) (states : List StateId) (list : List ℕ) → list ≡ numbers_in states → All (λ (s : StateId). get_or there s.0 false ≡ true) states → All (λ s. get_or there s false ≡ true) list
 numbers-there there states list same all = rw same (All-map (λ s. get_or there s false ≡ true) (λ (s : StateId). s.0) states all)
 
--- and so are roots among them
-pub roots-there : (there : List Bool) (states : List StateId) (roots : List StateId) → All (λ (s : StateId). get_or there s.0 false ≡ true) states → All (λ (root : StateId). Contains (numbers_in states) root.0) roots → All (λ (root : StateId). get_or there root.0 false ≡ true) roots
-roots-there there states roots all among =
-    All-contained (λ (root : StateId). get_or there root.0 false ≡ true) roots
-    (λ root it. All-contains (λ s. get_or there s false ≡ true) (numbers_in states) root.0 (numbers-there there states (numbers_in states) refl all) (All-contains (λ (r : StateId). Contains (numbers_in states) r.0) roots root among it))
-
 pub region-heads : (a : Automaton) (states list : List ℕ) → list ≡ states → IsRegion a states → (s t : ℕ) → Names a s t → Contains list s ↔ Contains list t
 region-heads a states list same region = rw same region.heads
+
+pub region-flows : (a : Automaton) (states list : List ℕ) → list ≡ states → IsRegion a states → (n p : ℕ) → HasFlow a n p → Contains list n ↔ Contains list p
+region-flows a states list same region = rw same region.flows

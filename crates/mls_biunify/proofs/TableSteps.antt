@@ -1,5 +1,5 @@
 -- States under numbers that change.
-use Rattle.std.proofs.Common.{◌≡◌, ◌≢◌, ◌↔◌, ◌⊎◌, inl, inr, ℕ, zero, suc, ◌<◌, Bool, true, false, List, [], ◌∷◌, map, length, get_or, Option, Some, None, Result, Ok, Err, OnOk, OnErr, is_some, refl, sym, ap, ◌∙◌, subst, arith}
+use Rattle.std.proofs.Common.{◌≡◌, ◌≢◌, ◌↔◌, ◌⊎◌, inl, inr, ℕ, zero, suc, ◌<◌, Bool, true, false, List, [], ◌∷◌, map, length, get_or, Contains, Option, Some, None, Result, Ok, Err, OnOk, OnErr, is_some, refl, sym, ap, ◌∙◌, subst, arith}
 use Rattle.std.proofs.lemmas.Bool.{cases_eq}
 use Rattle.std.proofs.lemmas.List.{get_or_default, get_or_past, length-map, length-set, same_lists}
 use Rattle.slab.specs.Slab.{Slab, get, with_value, Updates}
@@ -14,8 +14,8 @@ use Rattle.mls_automaton.specs.Reached.{Names}
 use Rattle.mls_automaton.proofs.Passing.{states_more}
 use Rattle.mls_automaton.proofs.KeptSchemes.{Both, named-both}
 use Rattle.mls_biunify.specs.Live.{IsStateIn, IsTable, free_state}
-use Rattle.mls_biunify.specs.steps.TwoWay.{TwoWay, HasPair, AddsPair, RemovesPair, IsSamePairs, IsGrown}
-use Rattle.mls_biunify.specs.steps.Tables.{Numbered, IsNumbered, InsertsState, RemovesFlow, RemovesState, SetsHead, numbered_of, state_in}
+use Rattle.mls_biunify.specs.steps.TwoWay.{TwoWay, AreCuts, HasPair, AddsPair, LeavesPairs, RemovesPair, IsSamePairs, IsGrown}
+use Rattle.mls_biunify.specs.steps.Tables.{Numbered, CutsEdges, IsNumbered, InsertsState, RemovesFlow, RemovesState, SetsHead, numbered_of, state_in}
 use Rattle.mls_biunify.proofs.TwoWays.{flows-pairs}
 
 pub map-at : {X Y : Type 0} (f : X → Y) (xs : List X) (i : ℕ) (d : X) → get_or (map f xs) i (f d) ≡ f (get_or xs i d)
@@ -412,6 +412,44 @@ module _ (states : Slab State) (old_flows new_flows : TwoWay) (is : IsNumbered (
 
   pub flow-gone : IsNumbered (numbered_of states new_flows)
   flow-gone = edges-numbered states old_flows new_flows is removes.same_length (λ i j it. inl ((removes.pairs i j).0 it).0)
+
+-- edges that go together
+module _ (states : Slab State) (old_flows new_flows : TwoWay) (is : IsNumbered (numbered_of states old_flows)) (gone : List ℕ) (leaves : LeavesPairs gone old_flows new_flows) where
+  pub flows-cut : CutsEdges (numbered_of states old_flows) gone (numbered_of states new_flows)
+  flows-cut = record {
+    states = refl;
+    there = refl;
+    limit = leaves.same_length;
+    flows = λ i j. (
+      λ edge. let left = (leaves.pairs i j).0 ((flow-in states new_flows i j).0 edge) in ((flow-in states old_flows i j).1 left.0, left.1, left.2),
+      λ edge. (flow-in states new_flows i j).1 ((leaves.pairs i j).1 ((flow-in states old_flows i j).0 edge.0, edge.1, edge.2)),
+    );
+  }
+
+  pub flows-cut_is : IsNumbered (numbered_of states new_flows)
+  flows-cut_is = edges-numbered states old_flows new_flows is leaves.same_length (λ i j it. inl ((leaves.pairs i j).0 it).0)
+
+-- what the pairs of a table lose is what its edges do
+module _ (states : Slab State) (flows : TwoWay) (gone : List ℕ) where
+  pub cuts-after : (cuts : List (ℕ × List ℕ)) → AreCuts gone (numbered_of states flows).limit (HasFlow (numbered_of states flows).automaton) cuts → AreCuts gone (length flows.forward) (HasPair flows) cuts
+  cuts-after cuts are = record {
+    low = are.low;
+    listed = λ s set it j. (
+      λ there. let left = (are.listed s set it j).0 there in ((flow-in states flows s j).0 left.0, left.1),
+      λ left. (are.listed s set it j).1 ((flow-in states flows s j).1 left.0, left.1),
+    );
+    others = λ s j stays none pair. are.others s j stays none ((flow-in states flows s j).1 pair);
+  }
+
+  pub cuts-before : (cuts : List (ℕ × List ℕ)) → AreCuts gone (numbered_of states flows).limit (λ p n. HasFlow (numbered_of states flows).automaton n p) cuts → AreCuts gone (length flows.forward) (λ p n. HasPair flows n p) cuts
+  cuts-before cuts are = record {
+    low = are.low;
+    listed = λ s set it j. (
+      λ there. let left = (are.listed s set it j).0 there in ((flow-in states flows j s).0 left.0, left.1),
+      λ left. (are.listed s set it j).1 ((flow-in states flows j s).1 left.0, left.1),
+    );
+    others = λ s j stays none pair. are.others s j stays none ((flow-in states flows j s).1 pair);
+  }
 
 -- a head that is written
 module _ (states : Slab State) (flows : TwoWay) (is : IsNumbered (numbered_of states flows)) (key : ℕ) (old : State) (h : Head) (value : get states key ≡ Some old) where

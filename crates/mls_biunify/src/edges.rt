@@ -1,7 +1,8 @@
 //! Pairs of numbers, found from both of their ends.
-ghost use Rattle.std.specs.Prelude.{ℕ, ◌≡◌, ◌↔◌, ◌⊎◌, ◌<◌, ◌≤◌, [], length, get_or, Contains, OnOk, OnErr, IsTrue};
+ghost use Rattle.std.specs.Prelude.{ℕ, ◌≡◌, ◌↔◌, ◌⊎◌, ◌<◌, ◌≤◌, List, [], length, get_or, All, Contains, OnOk, OnErr, IsTrue};
 ghost use Rattle.mls_automaton.specs.Sets.{Rises};
-ghost use Rattle.mls_biunify.specs.steps.TwoWay.{AddsPair, HasPair, IsCleared, IsGrown, IsSamePairs, RemovesPair};
+ghost use Rattle.mls_biunify.specs.steps.TwoWay.{AddsPair, AreCuts, HasPair, IsCleared, IsGrown, IsSamePairs, LeavesPairs};
+ghost use Rattle.mls_biunify.specs.steps.TwoWay.{EmptiesSets, RemovesPair, StoresSets};
 
 use mls_automaton::state_set::{StateId, StateSet};
 use mls_base::memory::Memory;
@@ -104,6 +105,25 @@ impl Edges {
         self.backward[p].remove(StateId(n));
     }
 
+    // Takes out all pairs with one of these numbers, where the lists have the sets that are left of those that lose a
+    // member. Each set is stored at once.
+    pub fn cut(
+        &mut self,
+        gone: &[usize],
+        after: Vec<(usize, StateSet)>,
+        before: Vec<(usize, StateSet)>,
+    )
+        requires low { All (λ s. s < length self.old.forward) gone.now }
+        requires after { AreCuts gone.now (length self.old.forward) (HasPair self.old) after.items }
+        requires before { AreCuts gone.now (length self.old.forward) (λ p n. HasPair self.old n p) before.items }
+        ensures { LeavesPairs gone.now self.old self.new }
+    {
+        store_sets(&mut self.forward, after);
+        store_sets(&mut self.backward, before);
+        empty_sets(&mut self.forward, gone);
+        empty_sets(&mut self.backward, gone);
+    }
+
     // The second numbers of the pairs that begin with this one.
     pub fn after(&self, n: usize) -> &StateSet
         requires { n < length self.now.forward }
@@ -154,6 +174,27 @@ fn clear_second(sets: &mut Vec<StateSet>, pairs: &[(usize, usize)])
 {
     for pair in pairs {
         clear_set(sets, pair.1);
+    }
+}
+
+// Gives numbers these sets.
+fn store_sets(sets: &mut Vec<StateSet>, changes: Vec<(usize, StateSet)>)
+    requires { (s : ℕ) (set : List ℕ) → Contains changes.items (s, set) → s < length sets.old.items }
+    ensures { StoresSets sets.old.items changes.items sets.new.items }
+{
+    let mut changes = changes;
+    while let Some(change) = changes.pop() {
+        sets[change.0] = change.1;
+    }
+}
+
+// Makes the sets of these numbers empty.
+fn empty_sets(sets: &mut Vec<StateSet>, numbers: &[usize])
+    requires { All (λ s. s < length sets.old.items) numbers.now }
+    ensures { EmptiesSets sets.old.items numbers.now sets.new.items }
+{
+    for s in numbers {
+        clear_set(sets, *s);
     }
 }
 

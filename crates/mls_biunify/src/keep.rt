@@ -1,19 +1,19 @@
 //! Tables of which the states alone stay that heads reach from some.
 ghost use Rattle.std.specs.Prelude.{◌≡◌, ◌⊎◌, ◌↔◌, ℕ, true, false, get_or, All, Contains, IfOk};
-ghost use Rattle.std.specs.Prelude.{OnErr, OnOk};
+ghost use Rattle.std.specs.Prelude.{IsTrue, OnErr, OnOk};
 ghost use Rattle.mls_automaton.specs.declared.state_set.StateId.{StateId};
+ghost use Rattle.mls_automaton.specs.Automata.{HasFlow};
 ghost use Rattle.mls_automaton.specs.Reached.{Names};
 ghost use Rattle.mls_biunify.specs.Live.{IsReachedFrom, numbers_in};
 ghost use Rattle.mls_biunify.specs.steps.Absorbing.{AreLoose, RemovesStates};
-ghost use Rattle.mls_biunify.specs.steps.Keeping.{EmptiesHeads, IsEdgeAtOne, IsUnfound, KeepsStates, StaysAmong};
-ghost use Rattle.mls_biunify.specs.steps.Settlement.{GivenBy};
+ghost use Rattle.mls_biunify.specs.steps.Keeping.{AddsCut, AreShortened, EmptiesHeads, IsUnfound, KeepsStates, StaysAmong};
+ghost use Rattle.mls_biunify.specs.steps.Keeping.{WasFound};
 ghost use Rattle.mls_biunify.specs.steps.Tables.{IsNumbered};
 
 use crate::reach::reached;
-use crate::settlement::{push_edges, unlink_all};
 use crate::table::Table;
 use mls_automaton::automaton::Head;
-use mls_automaton::state_set::StateId;
+use mls_automaton::state_set::{StateId, StateSet};
 use mls_base::memory::Memory;
 use std::alloc::Global;
 use std::collections::BTreeSet;
@@ -31,7 +31,7 @@ pub fn keep_reached(table: &mut Table, alloc: Global, roots: &[StateId]) -> Resu
 }
 
 // Takes out those of these states that heads do not reach from the roots, and answers all that are reached. It goes
-// over these states alone, and over those that are reached.
+// over these states alone, and over the heads and the edges of those that are reached.
 pub fn keep_among(
     table: &mut Table,
     alloc: Global,
@@ -39,8 +39,9 @@ pub fn keep_among(
     roots: &[StateId],
 ) -> Result<Vec<StateId>, Memory>
     requires states { All (λ s. get_or table.old.there s false ≡ true) states.now }
-    requires roots { All (λ (root : StateId). get_or table.old.there root.0 false ≡ true) roots.now }
+    requires roots { All (λ (root : StateId). Contains states.now root.0) roots.now }
     requires heads { (s t : ℕ) → Names table.old.automaton s t → Contains states.now s ↔ Contains states.now t }
+    requires flows { (n p : ℕ) → HasFlow table.old.automaton n p → Contains states.now n ↔ Contains states.now p }
     ensures ok { OnOk result (KeepsStates table.old (StaysAmong table.old states.now roots.now) table.new) }
     ensures kept { IfOk result (λ kept. (s : ℕ) → Contains (numbers_in kept.items) s
         ↔ IsReachedFrom table.old.automaton roots.now s) }
@@ -50,8 +51,9 @@ pub fn keep_among(
     let found = reached(alloc, table, roots)?;
     let kept = states_of(alloc, &found)?;
     let gone = unfound(alloc, states, &found)?;
-    let edges = edges_at_all(alloc, table, gone.as_slice())?;
-    unlink_all(table, edges.as_slice());
+    let after = cuts_after(alloc, table, kept.as_slice(), &found)?;
+    let before = cuts_before(alloc, table, kept.as_slice(), &found)?;
+    table.cut(gone.as_slice(), after, before);
     empty_heads(table, gone.as_slice());
     remove_all(table, gone);
     Ok(kept)
@@ -91,31 +93,98 @@ fn push_unfound(gone: &mut Vec<usize>, found: &BTreeSet<usize>, s: usize) -> Res
     Ok(())
 }
 
-// The edges that begin or end at one of these states.
-fn edges_at_all(
+// The states that are left after those that lose one, where just those that were found stay.
+fn cuts_after(
     alloc: Global,
     table: &Table,
-    states: &[usize],
-) -> Result<Vec<(usize, usize)>, Memory>
-    requires { All (λ s. get_or table.now.there s false ≡ true) states.now }
-    ensures { IfOk result (λ edges. (x : ℕ × ℕ) → Contains edges.items x ↔ IsEdgeAtOne table.now states.now x) }
+    kept: &[StateId],
+    found: &BTreeSet<usize>,
+) -> Result<Vec<(usize, StateSet)>, Memory>
+    requires { All (λ (s : StateId). get_or table.now.there s.0 false ≡ true) kept.now }
+    ensures { IfOk result (λ cuts. AreShortened (HasFlow table.now.automaton) found.now.keys kept.now cuts.items) }
 {
-    let mut edges = Vec::new(alloc);
-    for s in states {
-        push_edges(&mut edges, *s, table.after(StateId(*s)).as_slice())?;
-        push_edges_to(&mut edges, table.before(StateId(*s)).as_slice(), *s)?;
+    let mut cuts = Vec::new(alloc);
+    for s in kept {
+        add_cut(&mut cuts, alloc, *s, table.after(*s), found)?;
     }
-    Ok(edges)
+    Ok(cuts)
 }
 
-// Puts the edges from these states to one behind those of a list.
-fn push_edges_to(edges: &mut Vec<(usize, usize)>, sources: &[usize], p: usize) -> Result<(), Memory>
-    ensures { OnOk result ((x : ℕ × ℕ)
-        → Contains edges.new.items x ↔ (Contains edges.old.items x ⊎ GivenBy sources.now (λ n y. y ≡ (n, p)) x)) }
+// Those before them.
+fn cuts_before(
+    alloc: Global,
+    table: &Table,
+    kept: &[StateId],
+    found: &BTreeSet<usize>,
+) -> Result<Vec<(usize, StateSet)>, Memory>
+    requires { All (λ (s : StateId). get_or table.now.there s.0 false ≡ true) kept.now }
+    ensures { IfOk result (λ cuts. AreShortened (λ p n. HasFlow table.now.automaton n p) found.now.keys kept.now
+        cuts.items) }
 {
-    for n in sources {
-        edges.push((*n, p))?;
+    let mut cuts = Vec::new(alloc);
+    for s in kept {
+        add_cut(&mut cuts, alloc, *s, table.before(*s), found)?;
     }
+    Ok(cuts)
+}
+
+// Adds what is left of the set of a state, if it loses a member.
+fn add_cut(
+    cuts: &mut Vec<(usize, StateSet)>,
+    alloc: Global,
+    s: StateId,
+    set: &StateSet,
+    found: &BTreeSet<usize>,
+) -> Result<(), Memory>
+    ensures { OnOk result (AddsCut s.0 set.now found.now.keys cuts.old.items cuts.new.items) }
+{
+    if were_found(found, set.as_slice()) {
+        return Ok(());
+    }
+    let left = left_of(alloc, found, set.as_slice())?;
+    cuts.push((s.0, left))?;
+    Ok(())
+}
+
+// Whether a state was found.
+fn was_found(found: &BTreeSet<usize>, s: usize) -> bool
+    ensures { IsTrue result ↔ WasFound found.now.keys s }
+{
+    found.contains(&s)
+}
+
+// Whether all these states were found.
+fn were_found(found: &BTreeSet<usize>, states: &[usize]) -> bool
+    ensures { IsTrue result → All (WasFound found.now.keys) states.now }
+{
+    for s in states {
+        if !was_found(found, *s) {
+            return false;
+        }
+    }
+    true
+}
+
+// Those of these states that were found.
+fn left_of(alloc: Global, found: &BTreeSet<usize>, states: &[usize]) -> Result<StateSet, Memory>
+    ensures { IfOk result (λ left. (j : ℕ) → Contains left j ↔ Contains states.now j × Contains found.now.keys j) }
+{
+    let mut left = StateSet::new(alloc);
+    for s in states {
+        insert_found(&mut left, found, *s)?;
+    }
+    Ok(left)
+}
+
+// Inserts a state, if it was found.
+fn insert_found(left: &mut StateSet, found: &BTreeSet<usize>, s: usize) -> Result<(), Memory>
+    ensures { OnOk result ((j : ℕ) → Contains left.new j
+        ↔ Contains left.old j ⊎ ((j ≡ s) × Contains found.now.keys j)) }
+{
+    if !was_found(found, s) {
+        return Ok(());
+    }
+    left.insert(StateId(s))?;
     Ok(())
 }
 

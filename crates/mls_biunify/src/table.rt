@@ -1,13 +1,14 @@
 //! States under numbers, with flow edges.
-ghost use Rattle.std.specs.Prelude.{◌≡◌, ◌≢◌, ◌↔◌, ◌⊎◌, ◌<◌, ℕ, [], true, false, get_or, Contains, IfOk, IsTrue, OnErr};
+ghost use Rattle.std.specs.Prelude.{◌≡◌, ◌≢◌, ◌↔◌, ◌⊎◌, ◌<◌, ℕ, [], true, false, get_or, All, Contains, IfOk, IsTrue, OnErr};
 ghost use Rattle.std.specs.Prelude.{OnOk};
 ghost use Rattle.mls_automaton.specs.declared.automaton.Polarity.TheVariants.{Positive, Negative};
 ghost use Rattle.mls_automaton.specs.Automata.{HasFlow, empty_head, head_at, polarity_at};
 ghost use Rattle.mls_automaton.specs.Models.{HasRisingLabels, HasStatesIn, IsClosed};
 ghost use Rattle.mls_automaton.specs.Reached.{Names};
 ghost use Rattle.mls_biunify.specs.Live.{IsStateIn, IsTable};
-ghost use Rattle.mls_biunify.specs.steps.Tables.{InsertsState, IsNumbered, RemovesFlow, RemovesState, SetsHead};
+ghost use Rattle.mls_biunify.specs.steps.Tables.{CutsEdges, InsertsState, IsNumbered, RemovesFlow, RemovesState, SetsHead};
 ghost use Rattle.mls_biunify.specs.steps.Tables.{SetsPolarity};
+ghost use Rattle.mls_biunify.specs.steps.TwoWay.{AreCuts};
 
 use crate::edges::Edges;
 use mls_automaton::automaton::{Head, Polarity, State};
@@ -198,6 +199,23 @@ impl Table {
         ensures is { IsNumbered self.new }
     {
         self.flows.remove(negative.0, positive.0);
+    }
+
+    // Takes out all edges at these states, where the lists have the states that are left after and before those that
+    // lose an edge.
+    pub fn cut(
+        &mut self,
+        gone: &[usize],
+        after: Vec<(usize, StateSet)>,
+        before: Vec<(usize, StateSet)>,
+    )
+        requires there { All (λ s. get_or self.old.there s false ≡ true) gone.now }
+        requires after { AreCuts gone.now self.old.limit (HasFlow self.old.automaton) after.items }
+        requires before { AreCuts gone.now self.old.limit (λ p n. HasFlow self.old.automaton n p) before.items }
+        ensures cuts { CutsEdges self.old gone.now self.new }
+        ensures is { IsNumbered self.new }
+    {
+        self.flows.cut(gone, after, before);
     }
 
     // Takes a state out, which no head names and which has no edge.

@@ -38,9 +38,23 @@ pub record IsSearch (t : Numbered) (roots : List StateId) (s : Found) : Type 0 w
 abbrev pub IsUnfound : List ℕ → List ℕ → ℕ → Type 0
 IsUnfound states found s = Contains states s × (Contains found s → ⊥)
 
--- the edge begins or ends at one of these states
-abbrev pub IsEdgeAtOne : Numbered → List ℕ → ℕ × ℕ → Type 0
-IsEdgeAtOne t states x = HasFlow t.automaton x.0 x.1 × (Contains states x.0 ⊎ Contains states x.1)
+-- the state was found
+pub record WasFound (found : List ℕ) (s : ℕ) : Type 0 where
+  pub is : Contains found s
+
+-- What is left of the sets of a relation at these states, of which just those that were found stay: the list has the
+-- sets that lose a member, and perhaps others.
+pub record AreShortened (R : ℕ → ℕ → Type 0) (found : List ℕ) (kept : List StateId) (cuts : List (ℕ × List ℕ)) : Type 0 where
+  pub listed : (s : ℕ) (set : List ℕ) → Contains cuts (s, set)
+      → InRoots kept s × ((j : ℕ) → Contains set j ↔ R s j × Contains found j)
+  pub others : (s j : ℕ) → InRoots kept s → ((set : List ℕ) → Contains cuts (s, set) → ⊥) → R s j → Contains found j
+
+-- what is left of a set is there for its state, unless it loses nothing
+pub record AddsCut (s : ℕ) (set found : List ℕ) (old new : List (ℕ × List ℕ)) : Type 0 where
+  pub listed : (t : ℕ) (other : List ℕ) → Contains new (t, other) → Contains old (t, other)
+      ⊎ ((t ≡ s) × ((j : ℕ) → Contains other j ↔ Contains set j × Contains found j))
+  pub kept : (x : ℕ × List ℕ) → Contains old x → Contains new x
+  pub either : ((other : List ℕ) × Contains new (s, other)) ⊎ ((j : ℕ) → Contains set j → Contains found j)
 
 -- the heads of these states are gone
 pub record EmptiesHeads (old : Numbered) (states : List ℕ) (new : Numbered) : Type 0 where

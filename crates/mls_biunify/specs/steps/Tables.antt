@@ -1,5 +1,5 @@
 -- States under numbers, with edges, and how they change.
-use Rattle.std.specs.Prelude.{◌≡◌, ◌≢◌, ◌↔◌, ◌⊎◌, ℕ, ◌<◌, Bool, true, false, List, map, length, get_or, Option, Some}
+use Rattle.std.specs.Prelude.{◌≡◌, ◌≢◌, ◌↔◌, ◌⊎◌, ℕ, ◌<◌, Bool, true, false, List, map, length, get_or, Contains, Option, Some}
 use Rattle.std.specs.Prelude.{None, is_some}
 use Rattle.slab.specs.Slab.{Slab}
 use Rattle.mls_automaton.specs.declared.automaton.Polarity.{Polarity}
@@ -75,3 +75,11 @@ pub record RemovesFlow (old new : Numbered) (n p : ℕ) : Type 0 where
   pub there : new.there ≡ old.there
   pub limit : new.limit ≡ old.limit
   pub flows : (i j : ℕ) → HasFlow new.automaton i j ↔ (HasFlow old.automaton i j × ((i ≡ n) → (j ≡ p) → ⊥))
+
+-- just the edges at none of these states are left
+pub record CutsEdges (old : Numbered) (gone : List ℕ) (new : Numbered) : Type 0 where
+  pub states : new.automaton.states ≡ old.automaton.states
+  pub there : new.there ≡ old.there
+  pub limit : new.limit ≡ old.limit
+  pub flows : (i j : ℕ) → HasFlow new.automaton i j
+      ↔ HasFlow old.automaton i j × (Contains gone i → ⊥) × (Contains gone j → ⊥)

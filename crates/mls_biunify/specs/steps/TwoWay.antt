@@ -48,3 +48,28 @@ pub record IsCleared (s : ℕ) (old new : List (List ℕ)) : Type 0 where
   pub same_length : length new ≡ length old
   pub empty : (j : ℕ) → Contains (get_or new s []) j → ⊥
   pub others : (i j : ℕ) → i ≢ s → Contains (get_or new i []) j ↔ Contains (get_or old i []) j
+
+-- each number for which the list has sets has one of these, and the others have theirs
+pub record StoresSets (old : List (List ℕ)) (changes : List (ℕ × List ℕ)) (new : List (List ℕ)) : Type 0 where
+  pub same_length : length new ≡ length old
+  pub stored : (s : ℕ) → ((set : List ℕ) × Contains changes (s, set) × (get_or new s [] ≡ set))
+      ⊎ (((set : List ℕ) → Contains changes (s, set) → ⊥) × (get_or new s [] ≡ get_or old s []))
+
+-- the sets of these numbers are empty, and the others stay
+pub record EmptiesSets (old : List (List ℕ)) (numbers : List ℕ) (new : List (List ℕ)) : Type 0 where
+  pub same_length : length new ≡ length old
+  pub empty : (s j : ℕ) → Contains numbers s → Contains (get_or new s []) j → ⊥
+  pub others : (s j : ℕ) → (Contains numbers s → ⊥) → Contains (get_or new s []) j ↔ Contains (get_or old s []) j
+
+-- What is left of the sets of a relation when these numbers go: the list has the sets that lose a member, and perhaps
+-- others.
+pub record AreCuts (gone : List ℕ) (limit : ℕ) (R : ℕ → ℕ → Type 0) (cuts : List (ℕ × List ℕ)) : Type 0 where
+  pub low : (s : ℕ) (set : List ℕ) → Contains cuts (s, set) → s < limit
+  pub listed : (s : ℕ) (set : List ℕ) → Contains cuts (s, set) → (j : ℕ) → Contains set j ↔ R s j × (Contains gone j → ⊥)
+  pub others : (s j : ℕ) → (Contains gone s → ⊥) → ((set : List ℕ) → Contains cuts (s, set) → ⊥) → R s j
+      → Contains gone j → ⊥
+
+-- just the pairs with none of these numbers are left
+pub record LeavesPairs (gone : List ℕ) (old new : TwoWay) : Type 0 where
+  pub same_length : length new.forward ≡ length old.forward
+  pub pairs : (i j : ℕ) → HasPair new i j ↔ HasPair old i j × (Contains gone i → ⊥) × (Contains gone j → ⊥)

@@ -164,6 +164,7 @@ impl Numbers {
 
     fn env(&self, alloc: Global, env: &[BinderNode]) -> Result<BinderNodes, Memory> {
         let mut copy = BinderNodes::new(alloc);
+        copy.reserve(env.len())?;
         for entry in env {
             copy.push(BinderNode {
                 binder: entry.binder,
@@ -212,6 +213,7 @@ impl Numbers {
 
     fn lines(&self, alloc: Global, lines: &[SectionLine]) -> Result<SectionLines, Memory> {
         let mut copies = SectionLines::new(alloc);
+        copies.reserve(lines.len())?;
         for line in lines {
             copies.push(self.line(alloc, line)?)?;
         }
@@ -231,6 +233,7 @@ impl Numbers {
 
 fn copied_steps(alloc: Global, steps: &[usize]) -> Result<List<usize>, Memory> {
     let mut copy = List::new(alloc);
+    copy.reserve(steps.len())?;
     for step in steps {
         copy.push(*step)?;
     }

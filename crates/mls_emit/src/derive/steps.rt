@@ -44,6 +44,7 @@ pub(crate) fn copied(alloc: Global, env: &[BinderNode]) -> Result<BinderNodes, M
     ensures { IfOk result (λ copy. copy ≡ env.now) }
 {
     let mut copy = BinderNodes::new(alloc);
+    copy.reserve(env.len())?;
     for entry in env {
         copy.push(*entry)?;
     }

@@ -4,7 +4,7 @@ use Rattle.mls_biunify.specs.Live.{IsReachedFrom, IsRegion, IsThere, KeepsThere,
 use Rattle.mls_biunify.specs.steps.Keeping.{KeepsStates, StaysAmong}
 use Rattle.mls_biunify.specs.steps.LiveParts.{live_of}
 use Rattle.mls_biunify.proofs.Lives.{kept-live}
-use Rattle.mls_biunify.proofs.Regions.{numbers-there, region-heads, roots-there}
+use Rattle.mls_biunify.proofs.Regions.{numbers-there, region-flows, region-heads}
 use Rattle.mls_biunify.proofs.live.Live.keep_among.Goals as goal
 
 pub keep_among-requires-clause-states : goal.keep_among-requires-clause-states
@@ -14,13 +14,17 @@ keep_among-requires-clause-states c =
 
 pub keep_among-requires-clause-roots : goal.keep_among-requires-clause-roots
 keep_among-requires-clause-roots c =
-    roots-there c.self.inside.table.there c.args.states.items c.args.roots.now
-    (subst (λ (live : Live). All (λ (s : StateId). IsThere live s.0) c.args.states.items) (sym c.self.view_is) c.requires.states)
+    subst (λ (xs : List ℕ). All (λ (root : StateId). Contains xs root.0) c.args.roots.now) (sym (c.as_slice-2.ensures.value ∙ (c.in_ok-numbers.ensures ∙ ap numbers_in c.as_slice.ensures.value)))
     c.requires.roots
 
 pub keep_among-requires-clause-heads : goal.keep_among-requires-clause-heads
 keep_among-requires-clause-heads c =
     region-heads c.self.inside.table.automaton (numbers_in c.args.states.items) c.as_slice-2.result.now (c.as_slice-2.ensures.value ∙ (c.in_ok-numbers.ensures ∙ ap numbers_in c.as_slice.ensures.value))
+    (subst (λ (live : Live). IsRegion live.table (numbers_in c.args.states.items)) (sym c.self.view_is) c.requires.region)
+
+pub keep_among-requires-clause-flows : goal.keep_among-requires-clause-flows
+keep_among-requires-clause-flows c =
+    region-flows c.self.inside.table.automaton (numbers_in c.args.states.items) c.as_slice-2.result.now (c.as_slice-2.ensures.value ∙ (c.in_ok-numbers.ensures ∙ ap numbers_in c.as_slice.ensures.value))
     (subst (λ (live : Live). IsRegion live.table (numbers_in c.args.states.items)) (sym c.self.view_is) c.requires.region)
 
 pub returns-clause-kept : goal.returns-clause-kept
