@@ -83,12 +83,12 @@ same_given New Old A B it same y = (
   λ both. (it y).1 (elim both [ inl old ↦ inl old | inr b ↦ inr ((same y).1 b) ]),
 )
 
-pub from_none : {X : Type 0} (By : X → ℕ → Type 0) (none : List ℕ) (New : ℕ → Type 0) (xs : List X) → none ≡ [] → Collected By (Contains none) New xs → (j : ℕ) → New j ↔ GivenBy xs By j
+pub from_none : {X Y : Type 0} (By : X → Y → Type 0) (none : List Y) (New : Y → Type 0) (xs : List X) → none ≡ [] → Collected By (Contains none) New xs → (j : Y) → New j ↔ GivenBy xs By j
 from_none By none New xs empty it j = (
   λ new.
       elim ((it j).0 new) [
         | inl old ↦
-            let nothing : Contains [] j = subst (λ (ys : List ℕ). Contains ys j) empty old in
+            let nothing : Contains [] j = subst (λ ys. Contains ys j) empty old in
             let low : nothing.0 < 0 = nothing.1 in
             absurd (omega arith)
         | inr given ↦ given

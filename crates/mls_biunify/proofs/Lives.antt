@@ -122,9 +122,6 @@ touched_there t is pairs set slice same touched =
       | inr edge ↦ (is.is.positive by.0.1 s edge).there
     ])
 
-pub touched_all : (t : Numbered) (pairs : List (ℕ × ℕ)) (set slice : List ℕ) → slice ≡ set → ((s : ℕ) → Contains set s ↔ IsTouched t.automaton pairs s) → (s : ℕ) → IsTouched t.automaton pairs s → Contains slice s
-touched_all t pairs set slice same touched s it = subst (λ (xs : List ℕ). Contains xs s) (sym same) ((touched s).1 it)
-
 -- new edges go between states that are there
 pub new_edges_there : (t : Numbered) → IsNumbered t → (room : Room) (edges slice : List (ℕ × ℕ)) → slice ≡ edges → AreNewEdges t.automaton (Holds room) edges → (n p : ℕ) → Contains slice (n, p) → IsStateIn t.automaton t.there Negative n × IsStateIn t.automaton t.there Positive p
 new_edges_there t is room edges slice same new n p it =

@@ -325,7 +325,7 @@ impl Live {
         self.relation.grow(self.table.limit())?;
         let states = touched(alloc, &self.relation, &self.table)?;
         let heads = new_heads(alloc, &self.relation, &self.table, states.as_slice())?;
-        let edges = new_edges(alloc, &self.relation, &self.table, states.as_slice())?;
+        let edges = new_edges(alloc, &self.relation, &self.table)?;
         link_all(&mut self.table, alloc, edges.as_slice())?;
         store_heads(&mut self.table, heads);
         let _settled = self.table.limit();

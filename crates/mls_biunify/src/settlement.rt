@@ -9,9 +9,9 @@ ghost use Rattle.mls_automaton.specs.Models.{HasRisingLabels, HasStatesIn};
 ghost use Rattle.mls_biunify.specs.Live.{IsStateIn};
 ghost use Rattle.mls_biunify.specs.Rooms.{Holds};
 ghost use Rattle.mls_biunify.specs.Solved.{IsNewFlow};
-ghost use Rattle.mls_biunify.specs.steps.Settlement.{AddsEdges, AreFit, AreNewEdges, AreNewHeads, GivenBy, IsEdgeAt};
-ghost use Rattle.mls_biunify.specs.steps.Settlement.{IsEdgeFrom, IsTouched, Links, StoresHeads, Unlinks};
-ghost use Rattle.mls_biunify.specs.steps.Solving.{AreMembers, IsSolvedFlow, IsSolvedState};
+ghost use Rattle.mls_biunify.specs.steps.Settlement.{AddsEdges, AreFit, AreNewEdges, AreNewHeads, GetsEdges, GivenBy};
+ghost use Rattle.mls_biunify.specs.steps.Settlement.{IsTouched, Links, StoresHeads, Unlinks};
+ghost use Rattle.mls_biunify.specs.steps.Solving.{AreMembers, IsSolvedState};
 ghost use Rattle.mls_biunify.specs.steps.Tables.{HoldsThere, IsNumbered};
 
 use crate::materialise::copied_head;
@@ -169,69 +169,58 @@ pub fn push_edges(
     Ok(())
 }
 
-// Puts the edges of the solved automaton from a negative state behind those of a list.
-fn push_edges_from(
-    edges: &mut Vec<(usize, usize)>,
-    alloc: Global,
-    relation: &Relation,
-    table: &Table,
-    n: StateId,
-) -> Result<(), Memory>
-    requires states { HoldsThere table.now relation.now }
-    requires negative { IsStateIn table.now.automaton table.now.there Negative n.0 }
-    requires rows { table.now.limit ≤ relation.now.positives }
-    requires columns { table.now.limit ≤ relation.now.negatives }
+// Puts pairs of these states and another one behind those of a list.
+fn push_ends(ends: &mut Vec<(usize, usize)>, sources: &[usize], m: usize) -> Result<(), Memory>
     ensures { OnOk result ((x : ℕ × ℕ)
-        → Contains edges.new.items x ↔
-        (Contains edges.old.items x ⊎ IsEdgeFrom table.now.automaton (Holds relation.now) n.0 x)) }
+        → Contains ends.new.items x ↔ (Contains ends.old.items x ⊎ GivenBy sources.now (λ n y. y ≡ (n, m)) x)) }
 {
-    let members = members(alloc, relation, table, n)?;
-    for m in members.as_slice() {
-        push_edges(edges, n.0, table.after(StateId(*m)).as_slice())?;
+    for n in sources {
+        ends.push((*n, m))?;
     }
     Ok(())
 }
 
-// The same, if the state is negative.
-fn push_edges_at(
-    edges: &mut Vec<(usize, usize)>,
+// The states that have new edges, each with one whose edges it gets.
+fn new_ends(
     alloc: Global,
     relation: &Relation,
     table: &Table,
-    s: StateId,
-) -> Result<(), Memory>
-    requires states { HoldsThere table.now relation.now }
-    requires there { get_or table.now.there s.0 false ≡ true }
-    requires rows { table.now.limit ≤ relation.now.positives }
-    requires columns { table.now.limit ≤ relation.now.negatives }
-    ensures { OnOk result ((x : ℕ × ℕ)
-        → Contains edges.new.items x ↔
-        (Contains edges.old.items x ⊎ IsEdgeAt table.now.automaton (Holds relation.now) s.0 x)) }
+) -> Result<Vec<(usize, usize)>, Memory>
+    requires { HoldsThere table.now relation.now }
+    ensures { IfOk result (λ ends. (x : ℕ × ℕ)
+        → Contains ends.items x ↔ GivenBy relation.now.pairs (GetsEdges table.now.automaton) x) }
 {
-    match table.polarity(s) {
-        Polarity::Positive => Ok(()),
-        Polarity::Negative => push_edges_from(edges, alloc, relation, table, s),
+    let mut ends = Vec::new(alloc);
+    for i in 0..relation.len() {
+        let (positive, negative) = relation.pair(i);
+        push_ends(&mut ends, table.before(positive).as_slice(), negative.0)?;
     }
+    Ok(distinct(ends))
 }
 
-// The edges of the solved automaton from the negative ones of these states, which are all that have new ones.
+// The same pairs in order, each once.
+fn distinct(mut ends: Vec<(usize, usize)>) -> Vec<(usize, usize)>
+    ensures { (x : ℕ × ℕ) → Contains result.items x ↔ Contains ends.items x }
+{
+    ends.sort_unstable();
+    ends.dedup();
+    ends
+}
+
+// The new edges of the solved automaton.
 pub fn new_edges(
     alloc: Global,
     relation: &Relation,
     table: &Table,
-    states: &[usize],
 ) -> Result<Vec<(usize, usize)>, Memory>
-    requires states { HoldsThere table.now relation.now }
-    requires there { All (λ s. get_or table.now.there s false ≡ true) states.now }
-    requires all { (s : ℕ) → IsTouched table.now.automaton relation.now.pairs s → Contains states.now s }
-    requires rows { table.now.limit ≤ relation.now.positives }
-    requires columns { table.now.limit ≤ relation.now.negatives }
+    requires { HoldsThere table.now relation.now }
     ensures { IfOk result (λ edges. AreNewEdges table.now.automaton (Holds relation.now) edges.items) }
 {
     let _limit = table.limit();
+    let ends = new_ends(alloc, relation, table)?;
     let mut edges = Vec::new(alloc);
-    for s in states {
-        push_edges_at(&mut edges, alloc, relation, table, StateId(*s))?;
+    for end in ends.as_slice() {
+        push_edges(&mut edges, end.0, table.after(StateId(end.1)).as_slice())?;
     }
     Ok(edges)
 }

@@ -49,12 +49,9 @@ pub record StoresHeads (old new : Numbered) (heads : List (ℕ × Head)) : Type 
       × (state_at new.automaton s ≡ record { polarity = polarity_at old.automaton s; head = h }))
       ⊎ (((h : Head) → Contains heads (s, h) → ⊥) × (state_at new.automaton s ≡ state_at old.automaton s))
 
--- the edges of the solved automaton from a state, and from one that is negative
-abbrev pub IsEdgeFrom : Automaton → (ℕ → ℕ → Type 0) → ℕ → ℕ × ℕ → Type 0
-IsEdgeFrom a R n x = (x.0 ≡ n) × IsSolvedFlow a R n x.1
-
-abbrev pub IsEdgeAt : Automaton → (ℕ → ℕ → Type 0) → ℕ → ℕ × ℕ → Type 0
-IsEdgeAt a R s x = (polarity_at a s ≡ Negative) × IsEdgeFrom a R s x
+-- the first state has an edge to the positive state of the pair, so it gets the edges of its negative state
+abbrev pub GetsEdges : Automaton → ℕ × ℕ → ℕ × ℕ → Type 0
+GetsEdges a pair x = HasFlow a x.0 pair.0 × (x.1 ≡ pair.1)
 
 -- The edge is there, and it is noted if it is new.
 pub record Links (old new : Numbered) (noted more : List (ℕ × ℕ)) (n p : ℕ) : Type 0 where
