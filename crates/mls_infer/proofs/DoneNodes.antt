@@ -72,14 +72,14 @@ known_states live is (known.Waiting part) s stands at =
     let p : TablePart = part_in part in
     let w : Waits live p = stands in
     subst HasStates same (part_states live is p.states w.there p.env p.root w.part)
-known_states live is (known.Named t) s stands at = let same : t ≡ s = cc in subst HasStates same (scheme_states t stands.0 stands.1)
+known_states live is (known.Named r) s stands at = let same : r.value.scheme ≡ s = cc in subst HasStates same (scheme_states r.value.scheme stands.scheme stands.rise)
 known_states live is known.Taken s stands at = absurd (cc)
 
 -- The table changes.
 module _ (taken : List ℕ) (old new : Live) (made : List ℕ) (changes : Changes taken old new made) (is_old : IsLive old) (is_new : IsLive new) where
   stands_on : (k : Known) → Stands old k → AreApart taken (states_known k) → Stands new k × AreApart made (states_known k)
   stands_on (known.Waiting part) stands apart = let it = waits_on taken old new made changes (part_in part) stands apart in (it.0, it.2)
-  stands_on (known.Named s) stands apart = (stands, λ s it none. absurd (nothing_in s none))
+  stands_on (known.Named r) stands apart = (stands, λ s it none. absurd (nothing_in s none))
   stands_on known.Taken stands apart = (tt, λ s it none. absurd (nothing_in s none))
 
   scheme_on : (k : Known) (s : Scheme) → Stands old k → AreApart taken (states_known k) → scheme_known old k ≡ Some s → (t : Scheme) × (scheme_known new k ≡ Some t) × HaveSameTypes (no_goals s) (no_goals t)
@@ -88,7 +88,7 @@ module _ (taken : List ℕ) (old new : Live) (made : List ℕ) (changes : Change
       let t : Scheme = scheme_at new.table (part_in part) in
       let P : Scheme → Type 0 = λ s. HaveSameTypes (no_goals s) (no_goals t) in
       (t, refl, subst P same (types_on taken old new made changes is_old is_new (part_in part) stands apart))
-  scheme_on (known.Named t) s stands apart is = (s, is, own_types s)
+  scheme_on (known.Named r) s stands apart is = (s, is, own_types s)
   scheme_on known.Taken s stands apart is = absurd (cc)
 
   module _ (nodes : List Known) (done : AreDone old nodes) (apart : (i : ℕ) (k : Known) → slice_get nodes i ≡ Some k → AreApart taken (states_known k)) where

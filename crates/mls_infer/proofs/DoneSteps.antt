@@ -1,11 +1,13 @@
 -- The steps on what is known of nodes.
 --     take_waiting, take_named      a part is taken
 --     named_done, named_keeps       a part is set apart
---     copy_in                       a copy of a scheme comes
---     pushed_done, pushed_schemes   a part is added
+--     pushed_done, shared_done      a part is added, or a known type
+--     pushed_schemes                what is known then
 --     made_in                       parts give way to that of a node
 --     stops_in                      or do not, since the constraint has no types
+--     built_added                   what is built is added
 --     trimmed_in                    a part is trimmed
+--     field_built                   a copy of a field comes in place of a known type
 use Rattle.std.proofs.Common.{◌≡◌, ◌≢◌, ◌⊎◌, inl, inr, ℕ, zero, suc, List, [], ◌∷◌, ◌++◌, length, refl, sym, ap, ◌∙◌, subst, arith, Some, slice_get, slice_set, Contains}
 use Rattle.std.specs.List.{AllPairs}
 use Rattle.std.proofs.lemmas.Bool.{cases_eq}
@@ -15,15 +17,17 @@ use Rattle.mls_automaton.specs.declared.scheme.Scheme.{Scheme}
 use Rattle.mls_automaton.proofs.Lists.{Contains-cases, Contains-here}
 use Rattle.mls_biunify.specs.Live.{IsLive, Live}
 use Rattle.mls_term.specs.declared.term.TermForm.{TermForm}
+use Rattle.mls_term.specs.declared.term.TermForm.TheVariants as form
 use Rattle.mls_infer.specs.declared.done.Known.{Known}
 use Rattle.mls_infer.specs.declared.done.Known.TheVariants as known
 use Rattle.mls_infer.specs.declared.pending.Pending.{Pending}
 use Rattle.mls_infer.specs.declared.solve.NoSolution.{NoSolution}
 use Rattle.mls_infer.specs.declared.solve.NoSolution.TheVariants as no_solution
-use Rattle.mls_infer.specs.Constraints.{Constraint, HasStates, no_goals}
-use Rattle.mls_infer.specs.Doing.{AreBeside, AreDone, AreTaken, IsBuiltIn, IsCopyIn, IsPartIn, IsTakenOut, Stands, scheme_known, schemes_known, states_known}
+use Rattle.mls_infer.specs.Constraints.{Constraint, HasStates, no_goals, project_constraint}
+use Rattle.mls_infer.specs.Doing.{AreBeside, AreDone, AreTaken, IsAddedIn, IsBuiltIn, IsTakenOut, Stands, scheme_known, schemes_known, states_known}
+use Rattle.mls_infer.specs.Fields.{IsFieldOf, IsKnownType, Shared}
 use Rattle.mls_infer.specs.Finished.{Finished, Has, HasEach}
-use Rattle.mls_infer.specs.Finishing.{HasConstraint, HasParts, IsAnswer, KeepsBut, Scope, StopsAt, is_named, is_solved}
+use Rattle.mls_infer.specs.Finishing.{HasConstraint, HasParts, KeepsBut, Scope, StopsAt, is_solved}
 use Rattle.mls_infer.specs.Forms.{IsBuilt, IsPosed, children}
 use Rattle.mls_infer.specs.Merges.{AreAlike, HaveSameTypes}
 use Rattle.mls_infer.specs.Pending.{IsCopied, IsMade, IsPosedOver, IsRemade, StopsOver, Waits, all_states, part_in}
@@ -110,8 +114,8 @@ module _ (first : Finished) (gone : List ℕ) (live : Live) (nodes : List Known)
         keeps = rest_keeps;
       }
 
-  pub take_named : (s : Scheme) → slice_get nodes i ≡ Some (known.Named s) → (new : Live) → IsLive new → (part : TablePart) → IsCopied s live new part → AreTaken first (gone ++ i ∷ []) new rest (parts ++ part ∷ [])
-  take_named s at new is_new part copy =
+  pub take_named : (r : Shared) → slice_get nodes i ≡ Some (known.Named r) → (new : Live) → IsLive new → (part : TablePart) → IsCopied r.value.scheme live new part → AreTaken first (gone ++ i ∷ []) new rest (parts ++ part ∷ [])
+  take_named r at new is_new part copy =
       let is_live : IsLive live = taken.done.is_live in
       let none : (j : ℕ) (k : Known) → slice_get rest j ≡ Some k → AreApart [] (states_known k) = λ j k at. nothing_known (states_known k) in
       let hand = hand_on [] live new part.states copy.changes is_live is_new parts taken.beside.waiting (nothing_known (all_states parts)) in
@@ -123,46 +127,46 @@ module _ (first : Finished) (gone : List ℕ) (live : Live) (nodes : List Known)
         alike =
             alike_more new part (λ ss each. alike_then ss (schemes_at live.table parts) (schemes_at new.table parts) (taken.alike ss each) hand.2)
             (part_states new is_new part.states copy.waits.there part.env part.root copy.waits.part)
-            (λ t has. then_types t s (scheme_at new.table part) (as_known (known.Named s) s t at refl has) copy.alike);
+            (λ t has. then_types t r.value.scheme (scheme_at new.table part) (as_known (known.Named r) r.value.scheme t at refl has) copy.alike);
         keeps = keeps_after (gone ++ i ∷ []) first (schemes_known live rest) (schemes_known new rest) rest_keeps (keeps_on [] live new part.states copy.changes is_live is_new rest rest_done none);
       }
 
 -- A part is set apart.
-module _ (live : Live) (nodes : List Known) (done : AreDone live nodes) (i : ℕ) (p : Pending) (at : slice_get nodes i ≡ Some (known.Waiting p)) (new : Live) (s : Scheme) (out : IsTakenOut live (part_in p) new s) where
+module _ (live : Live) (nodes : List Known) (done : AreDone live nodes) (i : ℕ) (p : Pending) (at : slice_get nodes i ≡ Some (known.Waiting p)) (new : Live) (r : Shared) (is_known : IsKnownType r.value) (out : IsTakenOut live (part_in p) new r.value.scheme) where
   abbrev others : List Known
   others = left live nodes done i
 
   abbrev named : List Known
-  named = slice_set others i (known.Named s)
+  named = slice_set others i (known.Named r)
 
-  pub named_here : slice_get named i ≡ Some (known.Named s)
-  named_here = set_here others i (known.Named s) known.Taken (set_here nodes i known.Taken (known.Waiting p) at)
+  pub named_here : slice_get named i ≡ Some (known.Named r)
+  named_here = set_here others i (known.Named r) known.Taken (set_here nodes i known.Taken (known.Waiting p) at)
 
   pub named_done : AreDone new named
   named_done =
-      set_done new others i (known.Named s)
+      set_done new others i (known.Named r)
       (done_on (part_in p).states live new [] out.changes done.is_live out.is_live others (left_done live nodes done i) (own_apart live nodes done i p at))
-      (out.scheme, out.rise) (λ j k other at. nothing_known (states_known k))
+      is_known (λ j k other at. nothing_known (states_known k))
 
   pub named_keeps : KeepsBut [] (schemes_known live nodes) (schemes_known new named)
   named_keeps =
       let on : KeepsBut [] (schemes_known live others) (schemes_known new others) =
       keeps_on (part_in p).states live new [] out.changes done.is_live out.is_live others (left_done live nodes done i) (own_apart live nodes done i p at) in
       record {
-        size = set_size new others i (known.Named s) ∙ (on.size ∙ set_size live nodes i known.Taken);
+        size = set_size new others i (known.Named r) ∙ (on.size ∙ set_size live nodes i known.Taken);
         kept = λ j t none has. go on j t none has (cases_eq j i);
       }
     where
       go : KeepsBut [] (schemes_known live others) (schemes_known new others) → (j : ℕ) (t : Scheme) → (Contains [] j → ⊥) → Has (schemes_known live nodes) j t → (j ≡ i) ⊎ (j ≢ i) → (u : Scheme) × Has (schemes_known new named) j u × HaveSameTypes (no_goals t) (no_goals u)
       go on j t none has (inl same) =
           let H : ℕ → Type 0 = λ j. Has (schemes_known live nodes) j t in
-          let N : ℕ → Type 0 = λ j. Has (schemes_known new named) j s in
-          let S : Scheme → Type 0 = λ t. HaveSameTypes (no_goals t) (no_goals s) in
+          let N : ℕ → Type 0 = λ j. Has (schemes_known new named) j r.value.scheme in
+          let S : Scheme → Type 0 = λ t. HaveSameTypes (no_goals t) (no_goals r.value.scheme) in
           let is : t ≡ scheme_at live.table (part_in p) = the_scheme live nodes done i (known.Waiting p) (scheme_at live.table (part_in p)) t at refl (subst H same has) in
-          (s, subst N (sym same) (has_known new named i (known.Named s) s named_here refl), subst S (sym is) out.alike)
+          (r.value.scheme, subst N (sym same) (has_known new named i (known.Named r) r.value.scheme named_here refl), subst S (sym is) out.alike)
       go on j t none has (inr other) =
           let it = on.kept j t none (set_has live nodes i known.Taken j t other has) in
-          (it.0, set_has new others i (known.Named s) j it.0 other it.1, it.2)
+          (it.0, set_has new others i (known.Named r) j it.0 other it.1, it.2)
 
 -- what was there is put back
 pub set_back : (nodes : List Known) (i : ℕ) (x y : Known) → slice_get nodes i ≡ Some x → slice_set (slice_set nodes i y) i x ≡ nodes
@@ -170,29 +174,12 @@ set_back [] i x y at = refl
 set_back (z ∷ zs) zero x y at = let same : z ≡ x = cc in ap (λ x. x ∷ zs) (sym same)
 set_back (z ∷ zs) (suc i) x y at = ap (λ xs. z ∷ xs) (set_back zs i x y at)
 
--- A copy of a scheme comes.
-pub copy_in : (s : Scheme) (first : Finished) (live new : Live) (nodes : List Known) (part : TablePart) → AreDone live nodes → KeepsBut [] first (schemes_known live nodes) → IsLive new → IsCopied s live new part → IsCopyIn s first new nodes part
-copy_in s first live new nodes part done keeps is_new copy =
-    let none : (j : ℕ) (k : Known) → slice_get nodes j ≡ Some k → AreApart [] (states_known k) = λ j k at. nothing_known (states_known k) in
-    record {
-      done = done_on [] live new part.states copy.changes done.is_live is_new nodes done none;
-      beside = one_held new nodes part copy.waits (beside_on [] live new part.states copy.changes done.is_live is_new nodes done none);
-      alike = copy.alike;
-      keeps = keeps_after [] first (schemes_known live nodes) (schemes_known new nodes) keeps (keeps_on [] live new part.states copy.changes done.is_live is_new nodes done none);
-    }
-
--- a copy of what is apart at a place has the types of what was known there
-pub copied_as : (r s : Scheme) (first : Finished) (live new : Live) (nodes : List Known) (part : TablePart) (i : ℕ) → AreDone live nodes → KeepsBut [] first (schemes_known live nodes) → IsLive new → slice_get nodes i ≡ Some (known.Named s) → Has first i r → IsCopied s live new part → IsCopyIn r first new nodes part
-copied_as r s first live new nodes part i done keeps is_new at has copy =
-    let it = copy_in s first live new nodes part done keeps is_new copy in
-    let t = keeps.kept i r (λ none. nothing_in i none) has in
-    let P : Scheme → Type 0 = λ s. HaveSameTypes (no_goals r) (no_goals s) in
-    record {
-      done = it.done;
-      beside = it.beside;
-      alike = then_types r s (scheme_at new.table part) (subst P (the_scheme live nodes done i (known.Named s) s t.0 at refl t.1) t.2) copy.alike;
-      keeps = it.keeps;
-    }
+-- what is apart at a place has the types of what was known there
+pub named_alike : (first : Finished) (live : Live) (nodes : List Known) (i : ℕ) → AreDone live nodes → KeepsBut [] first (schemes_known live nodes) → (r : Shared) → slice_get nodes i ≡ Some (known.Named r) → (s : Scheme) → Has first i s → HaveSameTypes (no_goals s) (no_goals r.value.scheme)
+named_alike first live nodes i done keeps r at s has =
+    let t = keeps.kept i s (λ none. nothing_in i none) has in
+    let P : Scheme → Type 0 = λ t. HaveSameTypes (no_goals s) (no_goals t) in
+    subst P (the_scheme live nodes done i (known.Named r) r.value.scheme t.0 at refl t.1) t.2
 
 -- A part is added.
 snoc_cases : (xs : List Known) (x : Known) (j : ℕ) (k : Known) → slice_get (xs ++ x ∷ []) j ≡ Some k → (slice_get xs j ≡ Some k) ⊎ ((j ≡ length xs) × (k ≡ x))
@@ -201,30 +188,35 @@ snoc_cases [] x (suc j) k at = absurd (cc)
 snoc_cases (y ∷ ys) x zero k at = inl at
 snoc_cases (y ∷ ys) x (suc j) k at = elim (snoc_cases ys x j k at) [ inl old ↦ inl old | inr new ↦ inr (ap suc new.0, new.1) ]
 
-module _ (live : Live) (nodes : List Known) (p : Pending) where
-  pub pushed_done : AreDone live nodes → AreBeside live nodes (part_in p ∷ []) → AreDone live (nodes ++ known.Waiting p ∷ [])
-  pushed_done done beside = record {
+module _ (live : Live) (nodes : List Known) where
+  more_done : AreDone live nodes → (k : Known) → Stands live k → ((j : ℕ) (l : Known) → slice_get nodes j ≡ Some l → AreApart (states_known k) (states_known l)) → AreDone live (nodes ++ k ∷ [])
+  more_done done k stands own = record {
     is_live = done.is_live;
-    stand = λ j k at. elim (snoc_cases nodes (known.Waiting p) j k at) [
-      | inl old ↦ done.stand j k old
-      | inr new ↦ let P : Known → Type 0 = Stands live in subst P (sym new.1) beside.waiting.0
+    stand = λ j l at. elim (snoc_cases nodes k j l at) [
+      | inl old ↦ done.stand j l old
+      | inr new ↦ let P : Known → Type 0 = Stands live in subst P (sym new.1) stands
     ];
-    apart = λ j m k l distinct at at'. both j m k l distinct (snoc_cases nodes (known.Waiting p) j k at) (snoc_cases nodes (known.Waiting p) m l at');
+    apart = λ j m l l' distinct at at'. both j m l l' distinct (snoc_cases nodes k j l at) (snoc_cases nodes k m l' at');
   }
     where
-      own : (j : ℕ) (k : Known) → slice_get nodes j ≡ Some k → AreApart (part_in p).states (states_known k)
-      own j k at s it here = beside.beside j k at s (Contains-append_left (part_in p).states [] s it) here
+      both : (j m : ℕ) (l l' : Known) → j ≢ m → (slice_get nodes j ≡ Some l) ⊎ ((j ≡ length nodes) × (l ≡ k)) → (slice_get nodes m ≡ Some l') ⊎ ((m ≡ length nodes) × (l' ≡ k)) → AreApart (states_known l) (states_known l')
+      both j m l l' distinct (inl old) (inl old') = done.apart j m l l' distinct old old'
+      both j m l l' distinct (inl old) (inr new) =
+          let P : Known → Type 0 = λ l'. AreApart (states_known l) (states_known l') in
+          subst P (sym new.1) (λ s it mine. own j l old s mine it)
+      both j m l l' distinct (inr new) (inl old) = let P : Known → Type 0 = λ l. AreApart (states_known l) (states_known l') in subst P (sym new.1) (own m l' old)
+      both j m l l' distinct (inr new) (inr new') = absurd (distinct (new.0 ∙ sym new'.0))
 
-      both : (j m : ℕ) (k l : Known) → j ≢ m → (slice_get nodes j ≡ Some k) ⊎ ((j ≡ length nodes) × (k ≡ known.Waiting p)) → (slice_get nodes m ≡ Some l) ⊎ ((m ≡ length nodes) × (l ≡ known.Waiting p)) → AreApart (states_known k) (states_known l)
-      both j m k l distinct (inl old) (inl old') = done.apart j m k l distinct old old'
-      both j m k l distinct (inl old) (inr new) =
-          let P : Known → Type 0 = λ l. AreApart (states_known k) (states_known l) in
-          subst P (sym new.1) (λ s it mine. own j k old s mine it)
-      both j m k l distinct (inr new) (inl old) = let P : Known → Type 0 = λ k. AreApart (states_known k) (states_known l) in subst P (sym new.1) (own m l old)
-      both j m k l distinct (inr new) (inr new') = absurd (distinct (new.0 ∙ sym new'.0))
+  pub pushed_done : (p : Pending) → AreDone live nodes → AreBeside live nodes (part_in p ∷ []) → AreDone live (nodes ++ known.Waiting p ∷ [])
+  pushed_done p done beside =
+      more_done done (known.Waiting p) beside.waiting.0
+      (λ j l at s it here. beside.beside j l at s (Contains-append_left (part_in p).states [] s it) here)
 
-  pub pushed_schemes : schemes_known live (nodes ++ known.Waiting p ∷ []) ≡ schemes_known live nodes ++ Some (scheme_at live.table (part_in p)) ∷ []
-  pushed_schemes = map-append (scheme_known live) nodes (known.Waiting p ∷ [])
+  pub shared_done : (r : Shared) → AreDone live nodes → IsKnownType r.value → AreDone live (nodes ++ known.Named r ∷ [])
+  shared_done r done is = more_done done (known.Named r) is (λ j l at. nothing_known (states_known l))
+
+  pub pushed_schemes : (k : Known) → schemes_known live (nodes ++ k ∷ []) ≡ schemes_known live nodes ++ scheme_known live k ∷ []
+  pushed_schemes k = map-append (scheme_known live) nodes (k ∷ [])
 
 -- Nothing was taken yet.
 pub none_taken : (live : Live) (nodes : List Known) → AreDone live nodes → AreTaken (schemes_known live nodes) [] live nodes []
@@ -286,31 +278,64 @@ stops_as node other live parts same (no_solution.Clash m) stop = record {
 }
 stops_as node other live parts same no_solution.Memory stop = tt
 
--- what is built is the part of its node
-pub built_part : (scope : Scope) (node : TermForm) (first : Finished) (live : Live) (nodes : List Known) (part : TablePart) → IsBuiltIn node first live nodes part → IsPartIn scope node first live nodes part
-built_part scope node first live nodes part built = record {
-  done = built.done;
-  beside = built.beside;
+-- what is built is added
+pub built_added : (scope : Scope) (node : TermForm) (first : Finished) (mid new : Live) (rest more : List Known) (part : TablePart) → IsBuiltIn node first mid rest part → AreDone new more
+    → KeepsBut [] (schemes_known mid rest ++ Some (scheme_at mid.table part) ∷ []) (schemes_known new more) → IsAddedIn scope node first new more
+built_added scope node first mid new rest more part built done adds = record {
+  done = done;
+  scheme = scheme_at mid.table part;
   answer = record { answer = is_solved built.constraint built.posed built.solution; states = built.solution.states };
+  rest = schemes_known mid rest;
   keeps = built.keeps;
+  adds = adds;
 }
 
--- an answer with the same types
-pub answer_alike : (scope : Scope) (node : TermForm) (first : Finished) (s t : Scheme) → IsAnswer scope node first s → HasStates t → HaveSameTypes (no_goals s) (no_goals t) → IsAnswer scope node first t
-answer_alike scope node first s t (is_named r named alike) states same = is_named r named (then_types r s t alike same)
-answer_alike scope node first s t (is_solved c posed solution) states same = is_solved c posed (solution_after c s t solution (record { states = states; just = same }))
-
 -- A part is trimmed.
-pub trimmed_in : (scope : Scope) (node : TermForm) (first : Finished) (live new : Live) (nodes : List Known) (part other : TablePart) → IsLive new → IsRemade live part new other → IsPartIn scope node first live nodes part → IsPartIn scope node first new nodes other
-trimmed_in scope node first live new nodes part other is_new remade it =
+pub trimmed_in : (node : TermForm) (first : Finished) (live new : Live) (nodes : List Known) (part other : TablePart) → IsLive new → IsRemade live part new other → IsBuiltIn node first live nodes part → IsBuiltIn node first new nodes other
+trimmed_in node first live new nodes part other is_new remade it =
     let apart : (j : ℕ) (k : Known) → slice_get nodes j ≡ Some k → AreApart part.states (states_known k) = λ j k at s own here. it.beside.beside j k at s (Contains-append_left part.states [] s own) here in
     let states : HasStates (scheme_at new.table other) = part_states new is_new other.states remade.waits.there other.env other.root remade.waits.part in
     record {
       done = done_on part.states live new other.states remade.changes it.done.is_live is_new nodes it.done apart;
       beside = one_held new nodes other remade.waits (beside_on part.states live new other.states remade.changes it.done.is_live is_new nodes it.done apart);
-      answer = record { answer = answer_alike scope node first (scheme_at live.table part) (scheme_at new.table other) it.answer.answer states remade.alike; states = states };
+      constraint = it.constraint;
+      posed = it.posed;
+      solution = solution_after it.constraint (scheme_at live.table part) (scheme_at new.table other) it.solution (record { states = states; just = remade.alike });
       keeps = keeps_after (children node) first (schemes_known live nodes) (schemes_known new nodes) it.keeps (keeps_on part.states live new other.states remade.changes it.done.is_live is_new nodes it.done apart);
     }
+
+-- A copy of a field comes in place of a known type.
+module _ (live new : Live) (nodes : List Known) (done : AreDone live nodes) (i : ℕ) (label : List ℕ) (parts : HasParts (form.Project i label) (schemes_known live nodes)) (is_new : IsLive new) (t : Scheme) (part : TablePart) (copy : IsCopied t live new part) where
+  abbrev at_first : Finished
+  at_first = schemes_known live nodes
+
+  abbrev remaining : List Known
+  remaining = left live nodes done i
+
+  none_there : (j : ℕ) (k : Known) → slice_get remaining j ≡ Some k → AreApart [] (states_known k)
+  none_there j k at = nothing_known (states_known k)
+
+  posed_field : (ss : List Scheme) → HasEach at_first (i ∷ []) ss → (s : Scheme) × Has at_first i s × (ss ≡ s ∷ [])
+  posed_field [] each = absurd each
+  posed_field (s ∷ []) each = (s, each.0, refl)
+  posed_field (s ∷ u ∷ ss) each = absurd each.1
+
+  pub field_built : ((s : Scheme) → Has at_first i s → IsFieldOf label s t) → IsBuiltIn (form.Project i label) at_first new remaining part
+  field_built field =
+      let one = posed_field parts.schemes parts.each in
+      let it : IsFieldOf label one.0 t = field one.0 one.1 in
+      let states : HasStates (scheme_at new.table part) = part_states new is_new part.states copy.waits.there part.env part.root copy.waits.part in
+      record {
+        done = done_on [] live new part.states copy.changes done.is_live is_new remaining (left_done live nodes done i) none_there;
+        beside = one_held new remaining part copy.waits (beside_on [] live new part.states copy.changes done.is_live is_new remaining (left_done live nodes done i) none_there);
+        constraint = project_constraint label it.taken;
+        posed = record { schemes = one.0 ∷ []; each = (one.1, tt); taken = it.taken ∷ []; alike = ((it.states, it.alike), tt); is = refl };
+        solution = solution_after (project_constraint label it.taken) t (scheme_at new.table part) it.solution (record { states = states; just = copy.alike });
+        keeps =
+            keeps_after (i ∷ []) at_first (schemes_known live remaining) (schemes_known new remaining)
+            (rest_keeps at_first [] live nodes [] (none_taken live nodes done) i (λ none. nothing_in i none))
+            (keeps_on [] live new part.states copy.changes done.is_live is_new remaining (left_done live nodes done i) none_there);
+      }
 
 -- One part is taken, and then others.
 pub take_one : (live : Live) (nodes : List Known) → AreDone live nodes → (i : ℕ) (mid : Live) (later : List Known) (part : TablePart)

@@ -1,8 +1,9 @@
 -- The schemes of the environment, as automata.
 --     read_means             the automaton of a scheme that was read is read as this scheme
 --     scheme_read                 a known name has its scheme
---     answer_read, answer_copied  and is answered with a copy of it
---     reads_more             one more scheme that was read
+--     answer_read, answer_copied  and is answered with its types
+--     reads_more             one more name that was read
+--     none_rise              an environment without binders
 --     names_are              what names mean are schemes that need nothing of any binder
 use Rattle.std.proofs.Common.{◌≡◌, ◌≢◌, ◌⊎◌, inl, inr, ℕ, zero, suc, ◌<◌, List, [], ◌∷◌, map, length, get_or, All, Contains, refl, sym, ap, ◌∙◌, subst, arith, Some, slice_get}
 use Rattle.std.specs.Prelude.{Option, None, option_map}
@@ -15,6 +16,7 @@ use Rattle.std.proofs.lemmas.Option.{slice_get-map, slice_get_within, get_or_fro
 use Rattle.mls_book.specs.Schemes as book
 use Rattle.mls_automaton.specs.declared.scheme.Scheme.{Scheme}
 use Rattle.mls_automaton.specs.declared.scheme.EnvEntry.{EnvEntry}
+use Rattle.mls_automaton.specs.Environments.{BindersRise}
 use Rattle.mls_automaton.specs.Schemes.{IsScheme}
 use Rattle.mls_term.specs.declared.term.TermForm.TheVariants as form
 use Rattle.mls_automaton.proofs.BooksExist.{scheme_exists}
@@ -29,7 +31,8 @@ use Rattle.mls_typing.proofs.Rows.{both_ways}
 use Rattle.mls_infer.specs.Constraints.{no_goals}
 use Rattle.mls_infer.specs.Merges.{HaveSameTypes}
 use Rattle.mls_infer.specs.Finished.{Finished, Has}
-use Rattle.mls_infer.specs.Finishing.{AreReads, IsAnswer, IsRead, Scope, is_copied, is_named, is_read}
+use Rattle.mls_infer.specs.Fields.{AreReads, IsKnownType, Shared}
+use Rattle.mls_infer.specs.Finishing.{IsAnswer, IsRead, Scope, is_copied, is_named, is_read}
 use Rattle.mls_infer.specs.Inference.{AreNames}
 use Rattle.mls_infer.specs.Steps.{IsReadAs}
 use Rattle.mls_infer.proofs.Models.{EachFound}
@@ -93,14 +96,19 @@ answer_read scope done g s copy it same = is_named s (is_read g it.book refl it.
 pub answer_copied : (scope : Scope) (done : Finished) (k root : ℕ) (s copy : Scheme) → scope.first_of k ≡ Some root → Has done root s → HaveSameTypes (no_goals s) (no_goals copy) → IsAnswer scope (form.Inner k) done copy
 answer_copied scope done k root s copy first there same = is_named s (is_copied k root refl first there) same
 
--- one more scheme that was read
-pub reads_more : (globals : List book.Scheme) (old new : BTreeMap ℕ Scheme) (g : ℕ) (s : Scheme) → AreReads globals old → get nat_cmp new g ≡ Some s → ((k : ℕ) → k ≢ g → get nat_cmp new k ≡ get nat_cmp old k) → IsRead globals g s → AreReads globals new
-reads_more globals old new g s are here others one k t e = go (cases_eq k g)
+-- one more name that was read
+pub reads_more : (globals : List book.Scheme) (old new : BTreeMap ℕ Shared) (g : ℕ) (r : Shared) → AreReads globals old → get nat_cmp new g ≡ Some r → ((k : ℕ) → k ≢ g → get nat_cmp new k ≡ get nat_cmp old k) → IsKnownType r.value → IsRead globals g r.value.scheme → AreReads globals new
+reads_more globals old new g r are here others is one k t e = go (cases_eq k g)
   where
-    go : (k ≡ g) ⊎ (k ≢ g) → IsRead globals k t
+    go : (k ≡ g) ⊎ (k ≢ g) → IsKnownType t.value × IsRead globals k t.value.scheme
     go (inl same) =
-        let both : Some s ≡ Some t = sym here ∙ (ap (get nat_cmp new) (sym same) ∙ e) in
-        let at : s ≡ t = cc in
-        let P : ℕ → Type 0 = λ k. IsRead globals k t in
-        subst P (sym same) (subst (IsRead globals g) at one)
+        let both : Some r ≡ Some t = sym here ∙ (ap (get nat_cmp new) (sym same) ∙ e) in
+        let at : r ≡ t = cc in
+        let P : ℕ → Type 0 = λ k. IsKnownType t.value × IsRead globals k t.value.scheme in
+        let Q : Shared → Type 0 = λ t. IsKnownType t.value × IsRead globals g t.value.scheme in
+        subst P (sym same) (subst Q at (is, one))
     go (inr apart) = are k t (sym (others k apart) ∙ e)
+
+-- a type that needs nothing of any binder has rising binders
+pub none_rise : (env : List EnvEntry) → env ≡ [] → BindersRise env
+none_rise env none = subst BindersRise (sym none) (λ i j d less low. absurd (omega arith))

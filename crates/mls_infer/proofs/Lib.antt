@@ -72,3 +72,5 @@ pub mod NamedParts
 pub mod PassedOn
 pub mod TakenParts
 pub mod NodeTurns
+pub mod FieldTypes
+pub mod KnownFields

@@ -1,36 +1,58 @@
--- The part of a node that is answered with a copy, and that of a let under any number.
---     inner_part, global_part      a known name
+-- Known names, and the part of a let under any number.
+--     inner_added, global_added    a known name is added
+--     parts_there                  each other node has its parts
 --     let_numbered                 a let
-use Rattle.std.proofs.Common.{◌≡◌, ℕ, List, [], refl, Some}
+use Rattle.std.proofs.Common.{◌≡◌, ◌≢◌, ◌++◌, ◌∷◌, ℕ, List, [], refl, subst, sym, Some}
 use Rattle.mls_automaton.specs.declared.scheme.Scheme.{Scheme}
 use Rattle.mls_biunify.specs.Live.{Live}
 use Rattle.mls_term.specs.declared.term.TermForm.{TermForm}
 use Rattle.mls_term.specs.declared.term.TermForm.TheVariants as form
 use Rattle.mls_infer.specs.declared.done.Known.{Known}
-use Rattle.mls_infer.specs.Doing.{IsBuiltIn, IsCopyIn, IsPartIn}
+use Rattle.mls_infer.specs.Constraints.{no_goals}
+use Rattle.mls_infer.specs.Doing.{AreDone, IsAddedIn, IsBuiltIn, schemes_known}
+use Rattle.mls_infer.specs.Fields.{IsKnownType, Shared}
 use Rattle.mls_infer.specs.Finished.{Finished, Has}
-use Rattle.mls_infer.specs.Finishing.{HasParts, IsAnswer, IsRead, Scope}
+use Rattle.mls_infer.specs.Finishing.{CanStep, HasParts, IsAnswer, IsRead, KeepsBut, Scope}
 use Rattle.mls_infer.specs.Forms.{children}
-use Rattle.mls_infer.specs.Regions.{TablePart, scheme_at}
+use Rattle.mls_infer.specs.Merges.{HaveSameTypes}
+use Rattle.mls_infer.specs.Regions.{TablePart}
+use Rattle.mls_infer.proofs.DoneNodes.{keeps_self, own_types}
 use Rattle.mls_infer.proofs.KnownSchemes.{answer_copied, answer_read}
+use Rattle.mls_infer.proofs.OneState.{scheme_states}
 use Rattle.mls_infer.proofs.PosedForms.{posed_let}
-use Rattle.mls_infer.proofs.TableSolutions.{part_states}
 
-module _ (scope : Scope) (first : Finished) (live : Live) (nodes : List Known) (part : TablePart) where
-  -- a copy with an answer is the part of a node without parts
-  copied_part : (node : TermForm) (s : Scheme) → children node ≡ [] → IsCopyIn s first live nodes part → IsAnswer scope node first (scheme_at live.table part) → IsPartIn scope node first live nodes part
-  copied_part node s none copy answer = record {
-    done = copy.done;
-    beside = copy.beside;
-    answer = record { answer = answer; states = part_states live copy.done.is_live part.states copy.beside.waiting.0.there part.env part.root copy.beside.waiting.0.part };
-    keeps = rw none copy.keeps;
+-- A known type is added: what was known before stays.
+module _ (scope : Scope) (first rest : Finished) (new : Live) (more : List Known) (r : Shared) (is : IsKnownType r.value) (keeps : KeepsBut [] first rest) (done : AreDone new more) (adds : schemes_known new more ≡ rest ++ Some r.value.scheme ∷ []) where
+  named_added : (node : TermForm) → children node ≡ [] → IsAnswer scope node first r.value.scheme → IsAddedIn scope node first new more
+  named_added node none answer = record {
+    done = done;
+    scheme = r.value.scheme;
+    answer = record { answer = answer; states = scheme_states r.value.scheme is.scheme is.rise };
+    rest = rest;
+    keeps = rw none keeps;
+    adds = subst (KeepsBut [] (rest ++ Some r.value.scheme ∷ [])) (sym adds) (keeps_self (rest ++ Some r.value.scheme ∷ []));
   }
 
-  pub inner_part : (k i : ℕ) (s : Scheme) → scope.first_of k ≡ Some i → Has first i s → IsCopyIn s first live nodes part → IsPartIn scope (form.Inner k) first live nodes part
-  inner_part k i s is has copy = copied_part (form.Inner k) s refl copy (answer_copied scope first k i s (scheme_at live.table part) is has copy.alike)
+  pub inner_added : (k i : ℕ) (s : Scheme) → scope.first_of k ≡ Some i → Has first i s → HaveSameTypes (no_goals s) (no_goals r.value.scheme) → IsAddedIn scope (form.Inner k) first new more
+  inner_added k i s at has alike = named_added (form.Inner k) refl (answer_copied scope first k i s r.value.scheme at has alike)
 
-  pub global_part : (g : ℕ) (s : Scheme) → IsRead scope.globals g s → IsCopyIn s first live nodes part → IsPartIn scope (form.Global g) first live nodes part
-  global_part g s read copy = copied_part (form.Global g) s refl copy (answer_read scope first g s (scheme_at live.table part) read copy.alike)
+  pub global_added : (g : ℕ) → IsRead scope.globals g r.value.scheme → IsAddedIn scope (form.Global g) first new more
+  global_added g read = named_added (form.Global g) refl (answer_read scope first g r.value.scheme r.value.scheme read (own_types r.value.scheme))
+
+-- a node that is no known name has its parts
+pub parts_there : (scope : Scope) (first : Finished) (node : TermForm) → CanStep scope node first → ((k : ℕ) → node ≢ form.Inner k) → ((g : ℕ) → node ≢ form.Global g) → HasParts node first
+parts_there scope first (form.Inner k) can inner global = absurd (inner k refl)
+parts_there scope first (form.Global g) can inner global = absurd (global g refl)
+parts_there scope first (form.Bound x) can inner global = can
+parts_there scope first (form.Number n) can inner global = can
+parts_there scope first (form.Truth b) can inner global = can
+parts_there scope first (form.Fun x e) can inner global = can
+parts_there scope first (form.Apply f a) can inner global = can
+parts_there scope first (form.Make parts) can inner global = can
+parts_there scope first (form.Project e label) can inner global = can
+parts_there scope first (form.If c e f) can inner global = can
+parts_there scope first (form.Let k e f) can inner global = can
+parts_there scope first (form.Rec x e) can inner global = can
 
 -- the number of a let does not count
 pub let_parts : (j k e f : ℕ) (first : Finished) → HasParts (form.Let j e f) first → HasParts (form.Let k e f) first

@@ -11,12 +11,11 @@ use Rattle.mls_term.specs.WellFormed.{IsFirstNone}
 use Rattle.mls_infer.specs.declared.done.Known.{Known}
 use Rattle.mls_infer.specs.declared.fault.SiteKind.{SiteKind}
 use Rattle.mls_infer.specs.Constraints.{HasStates}
-use Rattle.mls_infer.specs.Doing.{AreDone, IsPartIn, schemes_known}
+use Rattle.mls_infer.specs.Doing.{AreDone, IsAddedIn, schemes_known}
 use Rattle.mls_infer.specs.Finished.{Finished, Has}
 use Rattle.mls_infer.specs.Finishing.{CanStep, GoesOnIn, IsAnswerBy, IsStop, KeepsBut, Scope}
 use Rattle.mls_infer.specs.Forms.{children}
 use Rattle.mls_infer.specs.Inference.{IsKindAt}
-use Rattle.mls_infer.specs.Regions.{TablePart, scheme_at}
 use Rattle.mls_infer.proofs.NodeLoop.{GoesFrom, can_step, each_tree, goes_further, stops_here}
 use Rattle.mls_infer.proofs.Told.{answer_told, can_told, cleared, cleared_size, done_states, none_told, stop_told, told_next}
 
@@ -48,30 +47,23 @@ module _ (scope : Scope) (nodes : List TermNode) (i : ℕ) (live : Live) (known 
       let P : ℕ → Type 0 = λ i. IsFirstNone scope.globals t i × IsKindAt scope.globals t i m in
       subst P at.size (stops_here scope nodes i at.told at.goes low node is m (stop_told at.told (schemes_known live known) at.keeps states scope node.form m can stop) t are)
 
-  -- the part of the node is added
-  module _ (mid new : Live) (left more : List Known) (part : TablePart) (is_part : IsPartIn scope (get_or nodes i node).form (schemes_known live known) mid left part) where
-    abbrev s : Scheme
-    s = scheme_at mid.table part
-
-    own : IsPartIn scope node.form (schemes_known live known) mid left part
-    own = let P : TermNode → Type 0 = λ node. IsPartIn scope node.form (schemes_known live known) mid left part in subst P is is_part
-
-    answer : IsAnswerBy scope node.form at.told s
-    answer = record { answer = answer_told at.told (schemes_known live known) at.keeps states scope node.form s can own.answer.answer; states = own.answer.states }
-
-    pub stands_next : AreDone new more → KeepsBut [] (schemes_known mid left ++ Some s ∷ []) (schemes_known new more) → StandsAt scope nodes (i + 1) new more
-    stands_next done adds =
-        let gone : List ℕ = children node.form in
-        let next : Finished = cleared gone at.told ++ Some s ∷ [] in
-        let F : ℕ → Type 0 = λ n. GoesFrom scope nodes n next in
-        let one_more : suc i ≡ i + 1 = omega arith in
-        let so_far : length at.told ≡ i = at.size in
-        let size : length (cleared gone at.told) ≡ length at.told = cleared_size gone at.told in
-        let longer : length next ≡ length (cleared gone at.told) + 1 = length-append (cleared gone at.told) (Some s ∷ []) in
-        record {
-          done = done;
-          told = next;
-          size = omega arith;
-          keeps = told_next gone at.told (schemes_known live known) (schemes_known mid left) (schemes_known new more) s at.keeps own.keeps adds;
-          goes = subst F one_more (goes_further scope nodes i at.told at.goes low node is s answer);
-        }
+  -- the node is added
+  pub stands_next : (new : Live) (more : List Known) → IsAddedIn scope (get_or nodes i node).form (schemes_known live known) new more → StandsAt scope nodes (i + 1) new more
+  stands_next new more is_added =
+      let own : IsAddedIn scope node.form (schemes_known live known) new more = let P : TermNode → Type 0 = λ node. IsAddedIn scope node.form (schemes_known live known) new more in subst P is is_added in
+      let s : Scheme = own.scheme in
+      let answer : IsAnswerBy scope node.form at.told s = record { answer = answer_told at.told (schemes_known live known) at.keeps states scope node.form s can own.answer.answer; states = own.answer.states } in
+      let gone : List ℕ = children node.form in
+      let next : Finished = cleared gone at.told ++ Some s ∷ [] in
+      let F : ℕ → Type 0 = λ n. GoesFrom scope nodes n next in
+      let one_more : suc i ≡ i + 1 = omega arith in
+      let so_far : length at.told ≡ i = at.size in
+      let size : length (cleared gone at.told) ≡ length at.told = cleared_size gone at.told in
+      let longer : length next ≡ length (cleared gone at.told) + 1 = length-append (cleared gone at.told) (Some s ∷ []) in
+      record {
+        done = own.done;
+        told = next;
+        size = omega arith;
+        keeps = told_next gone at.told (schemes_known live known) own.rest (schemes_known new more) s at.keeps own.keeps own.adds;
+        goes = subst F one_more (goes_further scope nodes i at.told at.goes low node is s answer);
+      }

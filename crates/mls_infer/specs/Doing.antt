@@ -1,4 +1,4 @@
--- What the loop over the nodes keeps: the parts of finished nodes, which wait in the table or stand apart as schemes.
+-- What the loop over the nodes keeps: the parts of finished nodes, which wait in the table or stand apart as known types.
 use Rattle.std.specs.Prelude.{◌≡◌, ◌≢◌, ℕ, List, [], ◌∷◌, ◌++◌, map, slice_get, Contains, Option, Some, None}
 use Rattle.mls_automaton.specs.declared.scheme.Scheme.{Scheme}
 use Rattle.mls_automaton.specs.Environments.{BindersRise}
@@ -9,6 +9,7 @@ use Rattle.mls_infer.specs.declared.done.Done.{Done}
 use Rattle.mls_infer.specs.declared.done.Known.{Known}
 use Rattle.mls_infer.specs.declared.done.Known.TheVariants as known
 use Rattle.mls_infer.specs.Constraints.{Constraint, no_goals}
+use Rattle.mls_infer.specs.Fields.{IsKnownType}
 use Rattle.mls_infer.specs.Finished.{Finished, HasEach}
 use Rattle.mls_infer.specs.Finishing.{HasConstraint, IsAnswerBy, KeepsBut, Scope}
 use Rattle.mls_infer.specs.Forms.{children}
@@ -28,18 +29,18 @@ pub record IsTakenOut (old : Live) (part : TablePart) (new : Live) (s : Scheme) 
 -- the states that a node has in the table
 abbrev pub states_known : Known → List ℕ
 states_known (known.Waiting part) = (part_in part).states
-states_known (known.Named s) = []
+states_known (known.Named r) = []
 states_known known.Taken = []
 
 -- its scheme
 abbrev pub scheme_known : Live → Known → Option Scheme
 scheme_known live (known.Waiting part) = Some (scheme_at live.table (part_in part))
-scheme_known live (known.Named s) = Some s
+scheme_known live (known.Named r) = Some r.value.scheme
 scheme_known live known.Taken = None
 
 abbrev pub Stands : Live → Known → Type 0
 Stands live (known.Waiting part) = Waits live (part_in part)
-Stands live (known.Named s) = IsScheme s × BindersRise s.env
+Stands live (known.Named r) = IsKnownType r.value
 Stands live known.Taken = Unit {0}
 
 -- each node stands in the table or apart, and no two of them share a state
@@ -65,13 +66,6 @@ pub record AreTaken (first : Finished) (gone : List ℕ) (live : Live) (nodes : 
   pub alike : (ss : List Scheme) → HasEach first gone ss → AreAlike ss (schemes_at live.table parts)
   pub keeps : KeepsBut gone first (schemes_known live nodes)
 
--- A copy of a scheme is in hand.
-pub record IsCopyIn (s : Scheme) (first : Finished) (live : Live) (nodes : List Known) (part : TablePart) : Type 0 where
-  pub done : AreDone live nodes
-  pub beside : AreBeside live nodes (part ∷ [])
-  pub alike : HaveSameTypes (no_goals s) (no_goals (scheme_at live.table part))
-  pub keeps : KeepsBut [] first (schemes_known live nodes)
-
 -- The parts of a node gave way to one with the types of its constraint.
 pub record IsBuiltIn (node : TermForm) (first : Finished) (live : Live) (nodes : List Known) (part : TablePart) :
     Type 0 where
@@ -82,13 +76,15 @@ pub record IsBuiltIn (node : TermForm) (first : Finished) (live : Live) (nodes :
   pub solution : IsSolution constraint (scheme_at live.table part)
   pub keeps : KeepsBut (children node) first (schemes_known live nodes)
 
--- The part of a node is in hand, and those below it may be gone.
-pub record IsPartIn (scope : Scope) (node : TermForm) (first : Finished) (live : Live) (nodes : List Known)
-    (part : TablePart) : Type 0 where
+-- A node is added: its scheme is known behind those of the others, and its parts may be gone.
+pub record IsAddedIn (scope : Scope) (node : TermForm) (first : Finished) (live : Live) (nodes : List Known) :
+    Type 0 where
   pub done : AreDone live nodes
-  pub beside : AreBeside live nodes (part ∷ [])
-  pub answer : IsAnswerBy scope node first (scheme_at live.table part)
-  pub keeps : KeepsBut (children node) first (schemes_known live nodes)
+  pub scheme : Scheme
+  pub answer : IsAnswerBy scope node first scheme
+  pub rest : Finished
+  pub keeps : KeepsBut (children node) first rest
+  pub adds : KeepsBut [] (rest ++ Some scheme ∷ []) (schemes_known live nodes)
 
 -- The same, as the program keeps it.
 
@@ -111,14 +107,11 @@ TakesMore old i new part =
     → AreTaken first gone old.live old.nodes.items parts → (Contains gone i → ⊥)
     → AreTaken first (gone ++ i ∷ []) new.live new.nodes.items (parts ++ part ∷ [])
 
-abbrev pub IsCopyOf : Scheme → Done → Done → TablePart → Type 0
-IsCopyOf s old new part = IsCopyIn s (finished_in old) new.live new.nodes.items part
-
 abbrev pub IsBuiltOf : TermForm → Done → Done → TablePart → Type 0
 IsBuiltOf node old new part = IsBuiltIn node (finished_in old) new.live new.nodes.items part
 
-abbrev pub IsPartOf : Scope → TermForm → Done → Done → TablePart → Type 0
-IsPartOf scope node old new part = IsPartIn scope node (finished_in old) new.live new.nodes.items part
+abbrev pub IsAddedTo : Scope → TermForm → Done → Done → Type 0
+IsAddedTo scope node old new = IsAddedIn scope node (finished_in old) new.live new.nodes.items
 
 -- for each scheme that is told, one with the same types is known
 abbrev pub IsTold : Finished → Done → Type 0

@@ -157,15 +157,12 @@ GoesOnIn scope whole =
 abbrev pub scope_of : Names → BTreeMap ℕ ℕ → Scope
 scope_of names firsts = record { globals = schemes_in names; first_of = get nat_cmp firsts }
 
--- each of these is the scheme of the name of this number
+-- this is the scheme of the name of this number
 pub record IsRead (globals : List book.Scheme) (g : ℕ) (s : Scheme) : Type 0 where
   pub book : book.Scheme
   pub there : slice_get globals g ≡ Some book
   pub read : IsReadAs s book
   pub states : HasStates s
-
-abbrev pub AreReads : List book.Scheme → BTreeMap ℕ Scheme → Type 0
-AreReads globals reads = (g : ℕ) (s : Scheme) → get nat_cmp reads g ≡ Some s → IsRead globals g s
 
 -- the scheme of a node is known, and it is not yet among the others
 pub record IsAnswerBy (scope : Scope) (node : TermForm) (done : Finished) (s : Scheme) : Type 0 where

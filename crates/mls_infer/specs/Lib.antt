@@ -12,4 +12,5 @@ pub mod TableRows
 pub mod Meets
 pub mod Forms
 pub mod Pending
+pub mod Fields
 pub mod Doing

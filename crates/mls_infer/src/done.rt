@@ -1,13 +1,14 @@
 //! What is known of the nodes that are done.
 
-ghost use Rattle.std.specs.Prelude.{◌≡◌, ◌++◌, ◌∷◌, [], length, slice_get, IfOk, IsTrue, OnOk, Some};
+ghost use Rattle.std.specs.Prelude.{◌≡◌, ◌++◌, ◌∷◌, [], length, slice_get, IfOk, IfSome, IsTrue, None, OnOk, Some};
 ghost use Rattle.mls_automaton.specs.declared.scheme.Scheme.{Scheme};
 ghost use Rattle.mls_automaton.specs.Schemes.{IsScheme};
 ghost use Rattle.mls_biunify.specs.Live.{IsLive};
 ghost use Rattle.mls_term.specs.declared.term.TermForm.TheVariants as form;
 ghost use Rattle.mls_infer.specs.declared.done.Known.TheVariants as known;
 ghost use Rattle.mls_infer.specs.Constraints.{no_goals};
-ghost use Rattle.mls_infer.specs.Doing.{IsBeside, IsBuiltOf, IsCopyOf, IsDone, IsTakenOut, TakesMore, finished_in};
+ghost use Rattle.mls_infer.specs.Doing.{IsBeside, IsBuiltOf, IsDone, IsTakenOut, TakesMore, finished_in};
+ghost use Rattle.mls_infer.specs.Fields.{IsFieldOf, IsKnownType};
 ghost use Rattle.mls_infer.specs.Finished.{Has};
 ghost use Rattle.mls_infer.specs.Finishing.{HasParts, KeepsBut, without_env};
 ghost use Rattle.mls_infer.specs.Merges.{HaveSameTypes};
@@ -16,21 +17,24 @@ ghost use Rattle.mls_infer.specs.Regions.{scheme_at};
 
 use crate::forms::let_in;
 use crate::meets::merged;
+use crate::named::Named;
 use crate::pending::{Pending, copied, weight};
 use crate::region::{Region, Size};
 use mls_automaton::scheme::Scheme;
 use mls_base::memory::Memory;
 use mls_biunify::live::Live;
+use mls_book::name::Name;
 use mls_shape::simplify::simplify;
 use std::alloc::Global;
 use std::mem;
+use std::rc::Rc;
 
-/// What is known of a node: its part waits in the table for the node above, or stands apart, simplified, as the first
-/// part of a let, which each use of the let's name copies; or it was taken.
+/// What is known of a node: its part waits in the table for the node above, or its type stands apart, as that of the
+/// first part of a let and of each known name, until the node above copies it; or it was taken.
 #[derive(Drop)]
 enum Known {
     Waiting(Pending),
-    Named(Scheme),
+    Named(Rc<Named>),
     Taken,
 }
 
@@ -71,6 +75,21 @@ impl Done {
         Ok(())
     }
 
+    /// Adds a known name as the next node. Nothing is copied.
+    ///
+    /// # Errors
+    ///
+    /// `Memory` where memory is wanting.
+    pub(crate) fn share(&mut self, named: Rc<Named>) -> Result<(), Memory>
+        requires done { IsDone self.old }
+        requires known { IsKnownType named.value }
+        ensures done { OnOk result (IsDone self.new) }
+        ensures added { OnOk result (finished_in self.new ≡ finished_in self.old ++ Some named.value.scheme ∷ []) }
+    {
+        self.nodes.push(Known::Named(named))?;
+        Ok(())
+    }
+
     /// Sets the part of a node apart, simplified, if it waits.
     ///
     /// # Errors
@@ -81,16 +100,17 @@ impl Done {
         requires there { (s : Scheme) × Has (finished_in self.old) i s }
         ensures done { OnOk result (IsDone self.new) }
         ensures keeps { OnOk result (KeepsBut [] (finished_in self.old) (finished_in self.new)) }
-        ensures named { OnOk result ((s : Scheme) × (slice_get self.new.nodes.items i ≡ Some (known.Named s))) }
+        ensures named { OnOk result ((n : _) × (slice_get self.new.nodes.items i ≡ Some (known.Named n))) }
     {
         match mem::replace(&mut self.nodes[i], Known::Taken) {
             Known::Waiting(part) => {
                 let scheme = taken_out(alloc, &mut self.live, part)?;
-                self.nodes[i] = Known::Named(scheme);
+                let named = Named::new(alloc, scheme)?;
+                self.nodes[i] = Known::Named(named);
                 Ok(())
             }
-            Known::Named(scheme) => {
-                self.nodes[i] = Known::Named(scheme);
+            Known::Named(named) => {
+                self.nodes[i] = Known::Named(named);
                 Ok(())
             }
             Known::Taken => unreachable!(),
@@ -109,8 +129,8 @@ impl Done {
     {
         match mem::replace(&mut self.nodes[i], Known::Taken) {
             Known::Waiting(part) => Ok(part),
-            Known::Named(scheme) => {
-                let part = copied(alloc, &mut self.live, &scheme)?;
+            Known::Named(named) => {
+                let part = copied(alloc, &mut self.live, &named.scheme)?;
                 let _copied = self.live.ready();
                 Ok(part)
             }
@@ -118,25 +138,73 @@ impl Done {
         }
     }
 
-    /// A copy of the first part of a let, which stands apart from then on.
+    /// The type of the first part of a let, which stands apart from then on.
     ///
     /// # Errors
     ///
     /// `Memory` where memory is wanting.
-    pub(crate) fn copy_named(&mut self, alloc: Global, i: usize) -> Result<Pending, Memory>
+    pub(crate) fn named(&mut self, alloc: Global, i: usize) -> Result<Rc<Named>, Memory>
         requires done { IsDone self.old }
         requires there { (s : Scheme) × Has (finished_in self.old) i s }
-        ensures { IfOk result (λ part. (s : Scheme) → Has (finished_in self.old) i s
-            → IsCopyOf s self.old self.new (part_in part)) }
+        ensures done { OnOk result (IsDone self.new) }
+        ensures keeps { OnOk result (KeepsBut [] (finished_in self.old) (finished_in self.new)) }
+        ensures known { IfOk result (λ named. IsKnownType named.value) }
+        ensures alike { IfOk result (λ named. (s : Scheme) → Has (finished_in self.old) i s
+            → HaveSameTypes (no_goals s) (no_goals named.value.scheme)) }
     {
         self.name(alloc, i)?;
         match &self.nodes[i] {
-            Known::Named(scheme) => {
-                let part = copied(alloc, &mut self.live, scheme)?;
-                let _copied = self.live.ready();
-                Ok(part)
+            Known::Named(named) => {
+                let one_more = named.clone()?;
+                Ok(one_more)
             }
             _ => unreachable!(),
+        }
+    }
+
+    /// Takes the field of a node that stands apart, where its type can be told without solving: it copies no more than
+    /// the field reaches. Else nothing changes.
+    ///
+    /// # Errors
+    ///
+    /// `Memory` where memory is wanting.
+    pub(crate) fn take_field(
+        &mut self,
+        alloc: Global,
+        i: usize,
+        label: &Name,
+    ) -> Result<Option<Pending>, Memory>
+        requires done { IsDone self.old }
+        requires parts { HasParts (form.Project i label.now) (finished_in self.old) }
+        ensures some { IfOk result (λ taken. IfSome taken (λ part.
+            IsBuiltOf (form.Project i label.now) self.old self.new (part_in part))) }
+        ensures none { IfOk result (λ taken. taken ≡ None → self.new ≡ self.old) }
+    {
+        let known = self.field(i, label)?;
+        match known {
+            Some(field) => {
+                self.nodes[i] = Known::Taken;
+                let part = copied(alloc, &mut self.live, &field)?;
+                let _copied = self.live.ready();
+                Ok(Some(part))
+            }
+            None => Ok(None),
+        }
+    }
+
+    // The type of the field of a node that stands apart, where it can be told without solving.
+    fn field(&self, i: usize, label: &Name) -> Result<Option<Scheme>, Memory>
+        requires done { IsDone self.now }
+        requires there { (s : Scheme) × Has (finished_in self.now) i s }
+        ensures { IfOk result (λ field. IfSome field (λ (t : Scheme). (s : Scheme) → Has (finished_in self.now) i s
+            → IsFieldOf label.now s t)) }
+    {
+        match &self.nodes[i] {
+            Known::Named(named) => {
+                let field = named.field(label)?;
+                Ok(field)
+            }
+            _ => Ok(None),
         }
     }
 
@@ -179,7 +247,7 @@ impl Done {
         ensures { IsTrue result → (s : Scheme) × Has (finished_in self.now) i s × IsScheme s × (s.env ≡ []) }
     {
         match &self.nodes[i] {
-            Known::Named(scheme) => scheme.env.is_empty(),
+            Known::Named(named) => named.scheme.env.is_empty(),
             _ => false,
         }
     }

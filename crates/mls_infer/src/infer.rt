@@ -9,14 +9,16 @@ ghost use Rattle.mls_term.specs.declared.term.TermForm.{TermForm};
 ghost use Rattle.mls_term.specs.declared.term.TermForm.TheVariants as form;
 ghost use Rattle.mls_term.specs.Terms.{postorder};
 ghost use Rattle.mls_term.specs.WellFormed.{IsTerm};
-ghost use Rattle.mls_infer.specs.Constraints.{HasStates};
-ghost use Rattle.mls_infer.specs.Doing.{HasTaken, IsBeside, IsBuiltOf, IsCopyOf, IsDone, IsPartIn, IsPartOf, IsTold};
+ghost use Rattle.mls_infer.specs.Constraints.{no_goals};
+ghost use Rattle.mls_infer.specs.Doing.{HasTaken, IsAddedTo, IsBeside, IsBuiltIn, IsBuiltOf, IsDone, IsTold};
 ghost use Rattle.mls_infer.specs.Doing.{finished_in};
+ghost use Rattle.mls_infer.specs.Fields.{AreReads, IsKnownType};
 ghost use Rattle.mls_infer.specs.Finished.{Finished, Has, child_of};
-ghost use Rattle.mls_infer.specs.Finishing.{AreReads, CanStep, FailsIn, GoesOnIn, HasKindIn, HasParts, IsInferred};
-ghost use Rattle.mls_infer.specs.Finishing.{IsRead, KeepsBut, Scope, StopsAt, scope_of};
+ghost use Rattle.mls_infer.specs.Finishing.{CanStep, FailsIn, GoesOnIn, HasKindIn, HasParts, IsInferred};
+ghost use Rattle.mls_infer.specs.Finishing.{IsRead, KeepsBut, StopsAt, scope_of};
 ghost use Rattle.mls_infer.specs.Inference.{AreNames, IsBestFor, IsFirstWithout, TellsKindOf, schemes_in};
 ghost use Rattle.mls_infer.specs.Joining.{part_labels};
+ghost use Rattle.mls_infer.specs.Merges.{HaveSameTypes};
 ghost use Rattle.mls_infer.specs.Pending.{AreRowsOf, part_in};
 ghost use Rattle.mls_infer.specs.Regions.{TablePart, scheme_at};
 
@@ -26,7 +28,8 @@ use crate::firsts::firsts_of;
 use crate::forms::{
     Rows, application, bound, conditional, function, number, projection, record, recursion, truth,
 };
-use crate::pending::{Pending, copied};
+use crate::named::Named;
+use crate::pending::Pending;
 use crate::reads::{Reads, reads_of};
 use crate::solve::NoSolution;
 use mls_automaton::scheme::Scheme;
@@ -38,6 +41,7 @@ use mls_term::term::{Part, Term, TermForm, TermNode};
 pub use mls_typetext::scheme::Names;
 use std::alloc::Global;
 use std::collections::{BTreeMap, BTreeSet};
+use std::rc::Rc;
 
 /// The most general scheme of an expression, over an environment of schemes that names mean.
 ///
@@ -100,8 +104,10 @@ fn infer_nodes(
     let mut done = Done::new(alloc);
     let named = named_parts(alloc, nodes)?;
     for i in 0..nodes.len() {
-        match part_of(alloc, names, reads, firsts, &mut done, &nodes[i].form) {
-            Ok(part) => push(alloc, &mut done, part, named.contains(&i))?,
+        let node = &nodes[i].form;
+        let is_named = named.contains(&i);
+        match add_node(alloc, names, reads, firsts, &mut done, node, is_named) {
+            Ok(()) => {}
             Err(NoSolution::Clash(kind)) => {
                 return Err(InferFault::NoScheme(Site { node: i, kind }));
             }
@@ -109,6 +115,88 @@ fn infer_nodes(
         }
     }
     Ok(done)
+}
+
+// Adds the next node: a known name, which nothing is copied of yet, or what is built of the parts below it, which stands
+// apart where it is the first part of a let.
+fn add_node(
+    alloc: Global,
+    names: &Names,
+    reads: &Reads,
+    firsts: &BTreeMap<usize, usize>,
+    done: &mut Done,
+    node: &TermForm,
+    is_named: bool,
+) -> Result<(), NoSolution>
+    requires names { AreNames names.now }
+    requires reads { AreReads (schemes_in names.now) reads.now }
+    requires done { IsDone done.old }
+    requires can { CanStep (scope_of names.now firsts.now) node.now (finished_in done.old) }
+    ensures added { OnOk result (IsAddedTo (scope_of names.now firsts.now) node.now done.old done.new) }
+    ensures stops { IfErr result (StopsAt node.now (finished_in done.old)) }
+{
+    match node {
+        TermForm::Inner(k) => {
+            let named = of_inner(alloc, firsts, done, *k)?;
+            done.share(named)?;
+            Ok(())
+        }
+        TermForm::Global(g) => {
+            let named = of_global(alloc, names, reads, *g)?;
+            done.share(named)?;
+            Ok(())
+        }
+        _ => {
+            let part = part_of(alloc, done, node)?;
+            push(alloc, done, part, is_named)?;
+            Ok(())
+        }
+    }
+}
+
+// The type of a let-bound name.
+fn of_inner(
+    alloc: Global,
+    firsts: &BTreeMap<usize, usize>,
+    done: &mut Done,
+    k: usize,
+) -> Result<Rc<Named>, Memory>
+    requires done { IsDone done.old }
+    requires can { (i : _) × (get nat_cmp firsts.now k ≡ Some i) × (s : Scheme) × Has (finished_in done.old) i s }
+    ensures done { OnOk result (IsDone done.new) }
+    ensures keeps { OnOk result (KeepsBut [] (finished_in done.old) (finished_in done.new)) }
+    ensures known { IfOk result (λ named. IsKnownType named.value) }
+    ensures alike { IfOk result (λ named. (i : _) (s : Scheme) → get nat_cmp firsts.now k ≡ Some i
+        → Has (finished_in done.old) i s → HaveSameTypes (no_goals s) (no_goals named.value.scheme)) }
+{
+    match firsts.get(&k).copied() {
+        Some(root) => {
+            let named = done.named(alloc, root)?;
+            Ok(named)
+        }
+        None => unreachable!(),
+    }
+}
+
+// The type of a name of the environment, which was read before or is read now.
+fn of_global(alloc: Global, names: &Names, reads: &Reads, g: usize) -> Result<Rc<Named>, Memory>
+    requires names { AreNames names.now }
+    requires reads { AreReads (schemes_in names.now) reads.now }
+    requires there { g < length (schemes_in names.now) }
+    ensures known { IfOk result (λ named. IsKnownType named.value) }
+    ensures read { IfOk result (λ named. IsRead (schemes_in names.now) g named.value.scheme) }
+{
+    match reads.get(&g) {
+        Some(named) => {
+            let one_more = named.clone()?;
+            Ok(one_more)
+        }
+        None => {
+            let scheme = scheme_of_read(alloc, &names.schemes.as_slice()[g])?;
+            let named = Named::once(alloc, scheme)?;
+            Ok(named)
+        }
+    }
 }
 
 // Adds the part of the next node, which stands apart where it is the first part of a let.
@@ -127,42 +215,25 @@ fn push(alloc: Global, done: &mut Done, part: Pending, is_named: bool) -> Result
     Ok(())
 }
 
-// The part of a node, without the states that are not reached where these are many.
-fn part_of(
-    alloc: Global,
-    names: &Names,
-    reads: &Reads,
-    firsts: &BTreeMap<usize, usize>,
-    done: &mut Done,
-    node: &TermForm,
-) -> Result<Pending, NoSolution>
-    requires names { AreNames names.now }
-    requires reads { AreReads (schemes_in names.now) reads.now }
+// What is built of the parts of a node, without the states that are not reached where these are many.
+fn part_of(alloc: Global, done: &mut Done, node: &TermForm) -> Result<Pending, NoSolution>
     requires done { IsDone done.old }
-    requires can { CanStep (scope_of names.now firsts.now) node.now (finished_in done.old) }
-    ensures part { IfOk result (λ part. IsPartOf (scope_of names.now firsts.now) node.now done.old done.new
-        (part_in part)) }
+    requires parts { HasParts node.now (finished_in done.old) }
+    ensures part { IfOk result (λ part. IsBuiltOf node.now done.old done.new (part_in part)) }
     ensures stops { IfErr result (StopsAt node.now (finished_in done.old)) }
 {
-    let part = answered(alloc, names, reads, firsts, done, node)?;
-    if is_name(node) {
-        return Ok(part);
-    }
+    let part = built(alloc, done, node)?;
     let fitting = fit(alloc, done, part)?;
     Ok(fitting)
-}
-
-fn is_name(node: &TermForm) -> bool {
-    matches!(node, TermForm::Inner(_) | TermForm::Global(_))
 }
 
 // The part, without the states that are not reached where these are many.
 fn fit(alloc: Global, done: &mut Done, part: Pending) -> Result<Pending, Memory>
     requires done { IsDone done.old }
     requires beside { IsBeside done.old (part_in part ∷ []) }
-    ensures { IfOk result (λ other. (scope : Scope) (node : TermForm) (first : Finished)
-        → IsPartIn scope node first done.old.live done.old.nodes.items (part_in part)
-        → IsPartIn scope node first done.new.live done.new.nodes.items (part_in other)) }
+    ensures { IfOk result (λ other. (node : TermForm) (first : Finished)
+        → IsBuiltIn node first done.old.live done.old.nodes.items (part_in part)
+        → IsBuiltIn node first done.new.live done.new.nodes.items (part_in other)) }
 {
     if part.region.size.is_due() {
         let kept = trimmed(alloc, &mut done.live, part)?;
@@ -171,26 +242,15 @@ fn fit(alloc: Global, done: &mut Done, part: Pending) -> Result<Pending, Memory>
     Ok(part)
 }
 
-// The part of a node: a copy of the scheme of a known name, or what is built of the parts below it.
-fn answered(
-    alloc: Global,
-    names: &Names,
-    reads: &Reads,
-    firsts: &BTreeMap<usize, usize>,
-    done: &mut Done,
-    node: &TermForm,
-) -> Result<Pending, NoSolution>
-    requires names { AreNames names.now }
-    requires reads { AreReads (schemes_in names.now) reads.now }
+// What is built of the parts of a node, which is no known name.
+fn built(alloc: Global, done: &mut Done, node: &TermForm) -> Result<Pending, NoSolution>
     requires done { IsDone done.old }
-    requires can { CanStep (scope_of names.now firsts.now) node.now (finished_in done.old) }
-    ensures part { IfOk result (λ part. IsPartOf (scope_of names.now firsts.now) node.now done.old done.new
-        (part_in part)) }
+    requires parts { HasParts node.now (finished_in done.old) }
+    ensures part { IfOk result (λ part. IsBuiltOf node.now done.old done.new (part_in part)) }
     ensures stops { IfErr result (StopsAt node.now (finished_in done.old)) }
 {
     match node {
-        TermForm::Inner(k) => Ok(of_inner(alloc, firsts, done, *k)?),
-        TermForm::Global(g) => Ok(of_global(alloc, names, reads, done, *g)?),
+        TermForm::Inner(_) | TermForm::Global(_) => unreachable!(),
         TermForm::Bound(x) => Ok(of_bound(alloc, done, *x)?),
         TermForm::Number(value) => Ok(of_number(alloc, done, *value)?),
         TermForm::Truth(value) => Ok(of_truth(alloc, done, *value)?),
@@ -202,65 +262,6 @@ fn answered(
         TermForm::Make(parts) => Ok(of_record(alloc, done, parts.as_slice())?),
         TermForm::Let(_, e, f) => Ok(done.end_let(alloc, *e, *f)?),
     }
-}
-
-// A copy of the scheme of a let-bound name.
-fn of_inner(
-    alloc: Global,
-    firsts: &BTreeMap<usize, usize>,
-    done: &mut Done,
-    k: usize,
-) -> Result<Pending, Memory>
-    requires done { IsDone done.old }
-    requires can { (i : _) × (get nat_cmp firsts.now k ≡ Some i) × (s : Scheme) × Has (finished_in done.old) i s }
-    ensures { IfOk result (λ part. (i : _) (s : Scheme) → get nat_cmp firsts.now k ≡ Some i → Has (finished_in done.old) i s
-        → IsCopyOf s done.old done.new (part_in part)) }
-{
-    match firsts.get(&k).copied() {
-        Some(root) => {
-            let part = done.copy_named(alloc, root)?;
-            Ok(part)
-        }
-        None => unreachable!(),
-    }
-}
-
-// A copy of the scheme of a name of the environment, which was read before or is read now.
-fn of_global(
-    alloc: Global,
-    names: &Names,
-    reads: &Reads,
-    done: &mut Done,
-    g: usize,
-) -> Result<Pending, Memory>
-    requires names { AreNames names.now }
-    requires reads { AreReads (schemes_in names.now) reads.now }
-    requires there { g < length (schemes_in names.now) }
-    requires done { IsDone done.old }
-    ensures { IfOk result (λ part. (s : Scheme) × IsRead (schemes_in names.now) g s
-        × IsCopyOf s done.old done.new (part_in part)) }
-{
-    match reads.get(&g) {
-        Some(scheme) => {
-            let part = copy_of(alloc, done, scheme)?;
-            Ok(part)
-        }
-        None => {
-            let scheme = scheme_of_read(alloc, &names.schemes.as_slice()[g])?;
-            let part = copy_of(alloc, done, &scheme)?;
-            Ok(part)
-        }
-    }
-}
-
-fn copy_of(alloc: Global, done: &mut Done, scheme: &Scheme) -> Result<Pending, Memory>
-    requires done { IsDone done.old }
-    requires states { HasStates scheme.now }
-    ensures { IfOk result (λ part. IsCopyOf scheme.now done.old done.new (part_in part)) }
-{
-    let part = copied(alloc, &mut done.live, scheme)?;
-    let _copied = done.live.ready();
-    Ok(part)
 }
 
 // Of a binder: what goes in comes out.
@@ -318,8 +319,27 @@ fn of_recursion(alloc: Global, done: &mut Done, x: usize, e: usize) -> Result<Pe
     Ok(part)
 }
 
-// Of a projection: the root of its body is below the records with the field.
+// Of a projection: the field of a known record, where that can be told without solving.
 fn of_projection(
+    alloc: Global,
+    done: &mut Done,
+    e: usize,
+    label: &Name,
+) -> Result<Pending, NoSolution>
+    requires done { IsDone done.old }
+    requires parts { HasParts (form.Project e label.now) (finished_in done.old) }
+    ensures part { IfOk result (λ part. IsBuiltOf (form.Project e label.now) done.old done.new (part_in part)) }
+    ensures stops { IfErr result (StopsAt (form.Project e label.now) (finished_in done.old)) }
+{
+    let known = done.take_field(alloc, e, label)?;
+    match known {
+        Some(field) => Ok(field),
+        None => solved_projection(alloc, done, e, label),
+    }
+}
+
+// Of a projection: the root of its body is below the records with the field.
+fn solved_projection(
     alloc: Global,
     done: &mut Done,
     e: usize,

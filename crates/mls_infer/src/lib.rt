@@ -10,6 +10,7 @@ mod forms;
 mod heads;
 pub mod infer;
 mod meets;
+mod named;
 mod pending;
 mod reads;
 mod region;

@@ -3,6 +3,8 @@
 ghost use Rattle.std.specs.Prelude.{◌≡◌, ◌≢◌, ◌↔◌, ◌⊎◌, ℕ, ◌<◌, All, map, length, Contains, IfOk, IsTrue, OnOk};
 ghost use Rattle.mls_automaton.specs.declared.scheme.EnvEntry.{EnvEntry};
 ghost use Rattle.mls_automaton.specs.declared.state_set.StateId.{StateId};
+ghost use Rattle.mls_automaton.specs.Automata.{HasFlow};
+ghost use Rattle.mls_automaton.specs.Environments.{BindersRise};
 ghost use Rattle.mls_biunify.specs.Live.{IsThere, number_of};
 ghost use Rattle.mls_infer.specs.Constraints.{HasStates, renamed_entry, states_of, without};
 ghost use Rattle.mls_infer.specs.Merges.{HasSameMembers};
@@ -31,7 +33,10 @@ pub(crate) struct Pending {
 /// `Memory` where memory is wanting.
 pub(crate) fn copied(alloc: Global, live: &mut Live, scheme: &Scheme) -> Result<Pending, Memory>
     requires { HasStates scheme.now }
-    ensures { IfOk result (λ part. IsCopied scheme.now live.old live.new (part_in part)) }
+    ensures copied { IfOk result (λ part. IsCopied scheme.now live.old live.new (part_in part)) }
+    ensures rise { IfOk result (λ part. BindersRise scheme.now.env → BindersRise part.env) }
+    ensures edges { IfOk result (λ part. (n : ℕ) → HasFlow live.new.table n part.root.0
+        → (i : ℕ) × HasFlow scheme.now.automaton i scheme.now.root.0) }
 {
     let _before = live.ready();
     let numbers = live.absorb(&scheme.automaton)?;

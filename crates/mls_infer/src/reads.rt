@@ -1,20 +1,21 @@
 //! Schemes of the environment that an expression uses more than once.
 ghost use Rattle.std.specs.Prelude.{IfOk, OnOk};
-ghost use Rattle.mls_infer.specs.Finishing.{AreReads};
+ghost use Rattle.mls_infer.specs.Fields.{AreReads};
 ghost use Rattle.mls_infer.specs.Inference.{AreNames, schemes_in};
 
-use mls_automaton::scheme::Scheme;
+use crate::named::Named;
 use mls_base::memory::Memory;
 use mls_scheme::read::scheme_of_read;
 use mls_term::term::{TermForm, TermNode};
 use mls_typetext::scheme::Names;
 use std::alloc::Global;
 use std::collections::{BTreeMap, BTreeSet};
+use std::rc::Rc;
 
-/// Schemes by the numbers of their names.
-pub(crate) type Reads = BTreeMap<usize, Scheme>;
+/// Types by the numbers of their names.
+pub(crate) type Reads = BTreeMap<usize, Rc<Named>>;
 
-/// The schemes of the names that are used twice or more, each read once.
+/// The types of the names that are used twice or more, each read once.
 pub(crate) fn reads_of(alloc: Global, names: &Names, nodes: &[TermNode]) -> Result<Reads, Memory>
     requires { AreNames names.now }
     ensures { IfOk result (AreReads (schemes_in names.now)) }
@@ -60,6 +61,7 @@ fn read(alloc: Global, names: &Names, reads: &mut Reads, g: usize) -> Result<(),
         return Ok(());
     }
     let scheme = scheme_of_read(alloc, &schemes[g])?;
-    reads.insert(g, scheme)?;
+    let named = Named::new(alloc, scheme)?;
+    reads.insert(g, named)?;
     Ok(())
 }

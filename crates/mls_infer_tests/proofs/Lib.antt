@@ -1,2 +1,3 @@
+pub mod TestFields
 pub mod TestRegions
 pub mod TestTerms

@@ -12,10 +12,10 @@ use Rattle.mls_term.specs.WellFormed.{IsTerm, IsScoped, AreNumbersBelow}
 abbrev pub node_of : TermForm → TermNode
 node_of f = record { at = 0; form = f }
 
-no_numbers : AreNumbersBelow 0 []
+pub no_numbers : AreNumbersBelow 0 []
 no_numbers = record { count_is = refl; below = λ k d low. absurd (omega arith); distinct = λ i j d less low. absurd (omega arith) }
 
-one_number : AreNumbersBelow 1 (0 ∷ [])
+pub one_number : AreNumbersBelow 1 (0 ∷ [])
 one_number = record { count_is = refl; below = one_below; distinct = λ i j d less low. absurd (omega arith) }
   where
     one_below : All (λ n. n < 1) (0 ∷ [])

@@ -2,6 +2,8 @@
 #![tactic(auto)]
 
 #[cfg(test)]
+mod tests_of_fields;
+#[cfg(test)]
 mod tests_of_regions;
 #[cfg(test)]
 mod tests_of_terms;

@@ -3,7 +3,6 @@ use Rattle.mls_term.specs.declared.term.TermNode.{TermNode}
 use Rattle.mls_infer.specs.Doing.{finished_in}
 use Rattle.mls_infer.specs.Finishing.{IsStop, Scope, scope_of}
 use Rattle.mls_infer.specs.Inference.{IsKindAt}
-use Rattle.mls_infer.specs.Pending.{part_in}
 use Rattle.mls_infer.proofs.NodeLoop.{infers_whole}
 use Rattle.mls_infer.proofs.NodeTurns.{can_now, stands_first, stands_next, stops_now}
 use Rattle.mls_infer.proofs.infer.infer_nodes.Goals as goal
@@ -12,12 +11,12 @@ pub loop-i-init : goal.loop-i-init
 loop-i-init c =
     stands_first (scope_of c.args.names.now c.args.firsts.now) c.args.nodes.now c.requires.goes c.new-done.result.live c.new-done.result.nodes.items c.new-done.ensures.done c.new-done.ensures.none
 
-pub part_of-requires-clause-done : goal.part_of-requires-clause-done
-part_of-requires-clause-done c =
+pub add_node-requires-clause-done : goal.add_node-requires-clause-done
+add_node-requires-clause-done c =
     c.loop-i.invariant.done
 
-pub part_of-requires-clause-can : goal.part_of-requires-clause-can
-part_of-requires-clause-can c =
+pub add_node-requires-clause-can : goal.add_node-requires-clause-can
+add_node-requires-clause-can c =
     let scope : Scope = scope_of c.args.names.now c.args.firsts.now in
     let nodes : List TermNode = c.args.nodes.now in
     let i : ℕ = c.loop-i.i-counter in
@@ -59,7 +58,7 @@ loop-i-preserved c =
     let low : i < length nodes = search rules in
     let is : get_or nodes i node ≡ node = search rules in
     stands_next scope nodes i c.loop-i.done.live c.loop-i.done.nodes.items c.loop-i.invariant (c.requires.goes.0, c.requires.goes.1) low node is
-    c.part_of.new.done.live c.push.new.done.live c.part_of.new.done.nodes.items c.push.new.done.nodes.items (part_in c.in-Ok.part) c.in-Ok.ensures.part c.in_ok-push-in-Ok.ensures.done c.in_ok-push-in-Ok.ensures.added
+    c.add_node.new.done.live c.add_node.new.done.nodes.items c.in-Ok.ensures.added
 
 pub returns-clause-done : goal.returns-clause-done
 returns-clause-done c =

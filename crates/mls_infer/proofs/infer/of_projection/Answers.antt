@@ -1,31 +1,27 @@
-use Rattle.std.proofs.Common.{[], ◌∷◌, refl}
+use Rattle.std.proofs.Common.{IfErr, IfOk, subst, sym}
 use Rattle.mls_term.specs.declared.term.TermForm.{TermForm}
 use Rattle.mls_term.specs.declared.term.TermForm.TheVariants as form
+use Rattle.mls_infer.specs.declared.done.Done.{Done}
+use Rattle.mls_infer.specs.Doing.{IsBuiltIn, IsDone, finished_in}
+use Rattle.mls_infer.specs.Finishing.{HasParts, StopsAt}
 use Rattle.mls_infer.specs.Pending.{part_in}
-use Rattle.mls_infer.proofs.PosedForms.{posed_project}
-use Rattle.mls_infer.proofs.TakenParts.{built_as, first_taken, first_there, stops_at}
 use Rattle.mls_infer.proofs.infer.of_projection.Goals as goal
 
-pub take-requires-clause-there : goal.take-requires-clause-there
-take-requires-clause-there c =
-    let node : TermForm = form.Project c.args.e c.args.label.now in
-    first_there c.args.done.now c.requires.done node c.requires.parts c.args.e [] refl
+pub solved_projection-requires-clause-done : goal.solved_projection-requires-clause-done
+solved_projection-requires-clause-done c = subst IsDone (sym (c.in_ok-known.ensures.none c.in-None.is)) c.requires.done
 
-pub projection-requires : goal.projection-requires
-projection-requires c =
+pub solved_projection-requires-clause-parts : goal.solved_projection-requires-clause-parts
+solved_projection-requires-clause-parts c =
     let node : TermForm = form.Project c.args.e c.args.label.now in
-    (first_taken c.args.done.now c.requires.done node c.requires.parts c.args.e c.take.new.self (part_in c.in_ok-body.body) c.in_ok-body.ensures).beside.waiting
+    subst (λ (d : Done). HasParts node (finished_in d)) (sym (c.in_ok-known.ensures.none c.in-None.is)) c.requires.parts
 
-pub returns-clause-part : goal.returns-clause-part
-returns-clause-part c =
+pub returns-in-None-clause-part : goal.returns-in-None-clause-part
+returns-in-None-clause-part c =
     let node : TermForm = form.Project c.args.e c.args.label.now in
-    built_as c.args.done.now c.requires.done node c.requires.parts (form.Project 0 c.args.label.now) (posed_project 0 c.args.e c.args.label.now) c.take.new.self (part_in c.in_ok-body.body ∷ [])
-    (first_taken c.args.done.now c.requires.done node c.requires.parts c.args.e c.take.new.self (part_in c.in_ok-body.body) c.in_ok-body.ensures)
-    c.projection.new.live (part_in c.in_ok-part.part) c.ready-made.ensures.live c.in_ok-part.ensures.made
+    subst (λ (d : Done). IfOk c.solved_projection.result (λ part. IsBuiltIn node (finished_in d) c.solved_projection.new.done.live c.solved_projection.new.done.nodes.items (part_in part)))
+    (c.in_ok-known.ensures.none c.in-None.is) c.solved_projection.ensures.part
 
-pub returns-in_err-part-clause-stops : goal.returns-in_err-part-clause-stops
-returns-in_err-part-clause-stops c =
+pub returns-in-None-clause-stops : goal.returns-in-None-clause-stops
+returns-in-None-clause-stops c =
     let node : TermForm = form.Project c.args.e c.args.label.now in
-    stops_at c.args.done.now c.requires.done node c.requires.parts (form.Project 0 c.args.label.now) (posed_project 0 c.args.e c.args.label.now) c.take.new.self (part_in c.in_ok-body.body ∷ [])
-    (first_taken c.args.done.now c.requires.done node c.requires.parts c.args.e c.take.new.self (part_in c.in_ok-body.body) c.in_ok-body.ensures)
-    c.from_residual-in_err-part.result c.in_err-part.field-0.0 c.from_residual-in_err-part.ensures.1 c.in_err-part.ensures.stops
+    subst (λ (d : Done). IfErr c.solved_projection.result (StopsAt node (finished_in d))) (c.in_ok-known.ensures.none c.in-None.is) c.solved_projection.ensures.stops

@@ -1,4 +1,4 @@
-use Rattle.mls_infer.specs.Finishing.{AreReads}
+use Rattle.mls_infer.specs.Fields.{AreReads}
 use Rattle.mls_infer.specs.Inference.{schemes_in}
 use Rattle.mls_infer.proofs.reads.reads_of.Given as goal
 

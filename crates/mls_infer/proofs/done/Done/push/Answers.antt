@@ -15,4 +15,4 @@ pub returns-clause-added : goal.returns-clause-added
 returns-clause-added c =
     let nodes : List Known = c.args.self.now.nodes.items in
     let pushed : c.push.new.self.items ≡ nodes ++ known.Waiting c.args.part ∷ [] = search rules in
-    ap (schemes_known c.args.self.now.live) pushed ∙ pushed_schemes c.args.self.now.live nodes c.args.part
+    ap (schemes_known c.args.self.now.live) pushed ∙ pushed_schemes c.args.self.now.live nodes (known.Waiting c.args.part)

@@ -2,7 +2,8 @@ use Rattle.std.proofs.Common.{◌≡◌, ◌++◌, ◌∷◌, [], List, subst, s
 use Rattle.mls_infer.specs.declared.done.Known.{Known}
 use Rattle.mls_infer.specs.declared.done.Known.TheVariants as known
 use Rattle.mls_infer.specs.Doing.{AreTaken}
-use Rattle.mls_infer.specs.Pending.{part_in}
+use Rattle.mls_infer.specs.declared.named.Named.{Named}
+use Rattle.mls_infer.specs.Pending.{IsCopied, part_in}
 use Rattle.mls_infer.proofs.DonePlaces.{found_at, none_at}
 use Rattle.mls_infer.proofs.DoneSteps.{take_named, take_waiting}
 use Rattle.mls_infer.proofs.OneState.{scheme_states}
@@ -10,10 +11,10 @@ use Rattle.mls_infer.proofs.done.Done.take.Goals as goal
 
 pub copied-requires : goal.copied-requires
 copied-requires c =
-    let at : slice_get c.args.self.now.nodes.items c.args.i ≡ Some (known.Named c.in-Named.scheme) =
-    found_at c.args.self.now.live c.args.self.now.nodes.items c.args.i c.requires.there.0 c.requires.there.1 (known.Named c.in-Named.scheme) c.index_mut.result.now c.in-Named.ensures.value c.index_mut.ensures.value in
-    let stands = c.requires.done.stand c.args.i (known.Named c.in-Named.scheme) at in
-    scheme_states c.in-Named.scheme stands.0 stands.1
+    let at : slice_get c.args.self.now.nodes.items c.args.i ≡ Some (known.Named c.in-Named.named) =
+    found_at c.args.self.now.live c.args.self.now.nodes.items c.args.i c.requires.there.0 c.requires.there.1 (known.Named c.in-Named.named) c.index_mut.result.now c.in-Named.ensures.value c.index_mut.ensures.value in
+    let stands = c.requires.done.stand c.args.i (known.Named c.in-Named.named) at in
+    rw c.deref.ensures (scheme_states c.in-Named.named.value.scheme stands.scheme stands.rise)
 
 pub unreachable-requires : goal.unreachable-requires
 unreachable-requires c =
@@ -31,7 +32,9 @@ returns-in-Waiting c = λ first gone parts taken fresh.
 pub returns-in_ok-part-in-Named : goal.returns-in_ok-part-in-Named
 returns-in_ok-part-in-Named c = λ first gone parts taken fresh.
     let nodes : List Known = c.args.self.now.nodes.items in
-    let at : slice_get nodes c.args.i ≡ Some (known.Named c.in-Named.scheme) =
-    found_at c.args.self.now.live nodes c.args.i c.requires.there.0 c.requires.there.1 (known.Named c.in-Named.scheme) c.index_mut.result.now c.in-Named.ensures.value c.index_mut.ensures.value in
+    let at : slice_get nodes c.args.i ≡ Some (known.Named c.in-Named.named) =
+    found_at c.args.self.now.live nodes c.args.i c.requires.there.0 c.requires.there.1 (known.Named c.in-Named.named) c.index_mut.result.now c.in-Named.ensures.value c.index_mut.ensures.value in
+    let copy : IsCopied c.in-Named.named.value.scheme c.args.self.now.live c.copied.new.live (part_in c.in_ok-part-in-Named.part) =
+    subst (λ (n : Named). IsCopied n.scheme c.args.self.now.live c.copied.new.live (part_in c.in_ok-part-in-Named.part)) c.deref.ensures c.in_ok-part-in-Named.ensures.copied in
     subst (λ (k : Known). AreTaken first (gone ++ c.args.i ∷ []) c.copied.new.live (slice_set nodes c.args.i k) (parts ++ part_in c.in_ok-part-in-Named.part ∷ [])) (sym c.replace.ensures.after)
-    (take_named first gone c.args.self.now.live nodes parts taken c.args.i fresh c.in-Named.scheme at c.copied.new.live c.ready-copied.ensures.live (part_in c.in_ok-part-in-Named.part) c.in_ok-part-in-Named.ensures)
+    (take_named first gone c.args.self.now.live nodes parts taken c.args.i fresh c.in-Named.named at c.copied.new.live c.ready-copied.ensures.live (part_in c.in_ok-part-in-Named.part) copy)
