@@ -10,3 +10,6 @@ pub mod TypeLayouts
 pub mod SingleSets
 pub mod PrintedTypes
 pub mod PrintedLayouts
+pub mod UsedTops
+pub mod KnownNames
+pub mod RisingParts

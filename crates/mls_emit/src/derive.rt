@@ -7,13 +7,14 @@ ghost use Rattle.mls_infer.specs.Inference.{AreNames};
 ghost use Rattle.mls_iface.specs.Matches.{IsRead};
 ghost use Rattle.mls_iface.specs.Signatures.{IsEntry};
 ghost use Rattle.mls_emit.specs.Derived.{AreDerivations, entry_names, entry_texts, section_names, section_texts};
-ghost use Rattle.mls_parts.specs.TreeNodes.{AreTreeNodes};
+ghost use Rattle.mls_emit.specs.Drafts.{AreTermNodes, HaveNoBinders};
 
 mod copies;
 mod envs;
 mod known;
 mod prune;
 mod puts;
+mod read_places;
 mod section;
 mod spines;
 mod steps;
@@ -63,7 +64,9 @@ fn section_of(
     requires declared { All IsRead declared.now }
     requires entries { All IsEntry entries.now }
     requires entry { IsEntry entry.now }
-    requires term { AreTreeNodes binding.now.term.nodes }
+    requires free { HaveNoBinders schemes.old }
+    requires term { AreTermNodes binding.now.term.nodes }
+    ensures free { HaveNoBinders schemes.new }
     ensures name { IfOk result (λ s. s.name ≡ entry.now.name) }
     ensures text { IfOk result (λ s. s.text ≡ entry.now.text) }
 {

@@ -1,4 +1,8 @@
 //! What is known of the names of a section, and where their types stand in its book.
+ghost use Rattle.std.specs.Prelude.{OnOk};
+ghost use Rattle.mls_term.specs.declared.term.TermForm.TheVariants as form;
+ghost use Rattle.mls_iface.specs.Matches.{IsRead};
+ghost use Rattle.mls_emit.specs.Drafts.{HaveNoBinders, KnowsForm};
 
 use crate::derive::copies::{Showing, add_showing, push_book, shown_variables, tops_of};
 use mls_automaton::automaton::Polarity;
@@ -7,6 +11,7 @@ use mls_automaton::state_set::StateId;
 use mls_base::memory::Memory;
 use mls_book::book::{Book, NodeId};
 use mls_deriv::derivation::BinderNodes;
+use mls_scheme::read::scheme_of_read;
 use mls_typetext::scheme::ReadScheme;
 use std::alloc::Global;
 use std::collections::BTreeMap;
@@ -39,6 +44,29 @@ pub(crate) type Globals = BTreeMap<usize, GlobalAt>;
 
 /// First parts by the numbers of their lets.
 pub(crate) type FirstParts = BTreeMap<usize, FirstPart>;
+
+/// Makes the type of a name of the environment known, where it was not read before.
+///
+/// # Errors
+///
+/// `Memory` where memory is wanting.
+pub(crate) fn know_type(
+    alloc: Global,
+    schemes: &mut Schemes,
+    read: &ReadScheme,
+    g: usize,
+) -> Result<(), Memory>
+    requires read { IsRead read.now }
+    requires free { HaveNoBinders schemes.old }
+    ensures { OnOk result (KnowsForm schemes.old schemes.new (form.Global g)) }
+{
+    if schemes.contains_key(&g) {
+        return Ok(());
+    }
+    let scheme = scheme_of_read(alloc, read)?;
+    schemes.insert(g, scheme)?;
+    Ok(())
+}
 
 fn is_negative(scheme: &Scheme, state: usize) -> bool {
     state < scheme.automaton.len()

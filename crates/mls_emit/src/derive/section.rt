@@ -1,37 +1,44 @@
 //! The section of a binding, part by part.
-ghost use Rattle.std.specs.Prelude.{◌≡◌, ℕ, [], All, IfOk, IfSome};
+ghost use Rattle.std.specs.Prelude.{◌≡◌, ℕ, ◌<◌, ◌+◌, [], length, All, IfOk, IfSome, OnOk, Some};
+ghost use Rattle.mls_automaton.specs.Environments.{BindersRise};
 ghost use Rattle.mls_automaton.specs.Models.{IsClosed};
 ghost use Rattle.mls_automaton.specs.Schemes.{IsScheme};
 ghost use Rattle.mls_biunify.specs.Rooms.{HoldsStates};
+ghost use Rattle.mls_term.specs.declared.term.TermForm.TheVariants as form;
 ghost use Rattle.mls_scheme.specs.ReadTypes.{IsReadFromBook};
 ghost use Rattle.mls_iface.specs.Matches.{IsRead};
 ghost use Rattle.mls_iface.specs.Signatures.{IsEntry};
+ghost use Rattle.mls_deriv.specs.Steps.{HasFrom};
+ghost use Rattle.mls_parts.specs.MetCopies.{AreSeparate};
+ghost use Rattle.mls_parts.specs.PartUses.{HaveOwnLabels, KnowTypes};
 ghost use Rattle.mls_parts.specs.PosedParts.{IsPartList};
-ghost use Rattle.mls_parts.specs.TermParts.{IsTermPart};
-ghost use Rattle.mls_parts.specs.TreeNodes.{AreTreeNodes};
+ghost use Rattle.mls_parts.specs.TermParts.{AreTermParts, IsTermPart};
+ghost use Rattle.mls_emit.specs.Drafts.{AreTermNodes, HaveNoBinders, KnowGlobals, KnowsBefore, KnowsFirst, KnowsForm};
+ghost use Rattle.mls_emit.specs.OneEach.{HasOneEach};
+ghost use Rattle.mls_emit.specs.ReadPlaces.{IsReadLaid};
 
 use crate::derive::copies::push_book;
-use crate::derive::known::{FirstPart, FirstParts, Globals, Schemes, put_global};
+use crate::derive::known::{FirstPart, FirstParts, Globals, Schemes, know_type, put_global};
 use crate::derive::prune::{Written, pruned};
+use crate::derive::read_places::read_places;
 use crate::derive::spines::Spines;
 use crate::derive::steps::Steps;
 use crate::derive::writer::{PartView, Writer};
+use crate::rising::read_sets;
 use mls_automaton::scheme::{Env, EnvEntry, Scheme};
 use mls_automaton::state_set::StateId;
 use mls_base::memory::Memory;
-use mls_book::book::{Book, Node, NodeId};
+use mls_book::book::{Book, Node};
 use mls_deriv::derivation::{BinderNode, BinderNodes};
 use mls_iface::signature::SigEntry;
 use mls_layout::layout::{LaidOut, Places, lay_out};
-use mls_layout::tree::NodeIds;
 use mls_layout::type_layout::lay_out_type;
 use mls_layout::walk::walk_of;
 use mls_parts::binders::binders_of;
 use mls_parts::first_type::first_type_of;
-use mls_parts::posable::posed;
-use mls_parts::pose::{KnownTypes, Posing};
+use mls_parts::pose::{KnownTypes, Posing, pose_part};
 use mls_parts::solve::{Solution, solution_of};
-use mls_parts::split::{Numbers, TermPart, parts_of};
+use mls_parts::split::{Numbers, TermPart, TermParts, parts_of};
 use mls_scheme::read::scheme_of_read;
 use mls_term::term::{TermForm, TermNode};
 use mls_typetext::scheme::ReadScheme;
@@ -92,15 +99,6 @@ struct SolvedPart {
     around: Numbers,
 }
 
-// The nodes of a book, each as its own state.
-fn own_places(alloc: Global, length: usize, past: NodeId) -> Result<Places, Memory> {
-    let mut nodes = NodeIds::new(alloc);
-    for i in 0..length {
-        nodes.push(NodeId(i))?;
-    }
-    Ok(Places { nodes, past })
-}
-
 // Binders with their states, as the environment of a scheme.
 fn env_of(alloc: Global, posing: &Posing, binders: &[usize]) -> Result<Env, Memory> {
     let mut env = Env::new(alloc);
@@ -130,7 +128,9 @@ fn states_of(
 }
 
 // The nodes of the binders of a type.
-fn type_env(alloc: Global, at: &TypeAt) -> Result<BinderNodes, Memory> {
+fn type_env(alloc: Global, at: &TypeAt) -> Result<BinderNodes, Memory>
+    ensures { BindersRise at.now.scheme.env }
+{
     let mut env = BinderNodes::new(alloc);
     for entry in at.scheme.env.as_slice() {
         env.push(BinderNode {
@@ -143,7 +143,9 @@ fn type_env(alloc: Global, at: &TypeAt) -> Result<BinderNodes, Memory> {
 
 impl Draft {
     // A section that begins with the nodes of a type, where the types of these names were read before.
-    fn new(alloc: Global, read: &ReadScheme, schemes: Schemes) -> Result<Draft, Memory> {
+    fn new(alloc: Global, read: &ReadScheme, schemes: Schemes) -> Result<Draft, Memory>
+        ensures { IfOk result (λ draft. draft.known.globals ≡ schemes) }
+    {
         let mut book = Book::new(alloc);
         push_book(alloc, &mut book, &read.book)?;
         Ok(Draft {
@@ -159,24 +161,10 @@ impl Draft {
         })
     }
 
-    // Reads the type of a name, and puts it into the book, each where that was not done.
-    fn add_global(
-        &mut self,
-        alloc: Global,
-        declared: &[ReadScheme],
-        entries: &[SigEntry],
-        g: usize,
-    ) -> Result<(), Memory>
-        requires declared { All IsRead declared.now }
-        requires entries { All IsEntry entries.now }
+    // Puts the type of a name into the book.
+    fn place_global(&mut self, alloc: Global, read: &ReadScheme, g: usize) -> Result<(), Memory>
+        ensures { self.new.known ≡ self.old.known }
     {
-        if self.globals.contains_key(&g) {
-            return Ok(());
-        }
-        let read = read_at(declared, entries, g).ok_or(Memory)?;
-        if !self.known.globals.contains_key(&g) {
-            self.known.globals.insert(g, scheme_of_read(alloc, read)?)?;
-        }
         let scheme = self.known.globals.get(&g).ok_or(Memory)?;
         let global = put_global(alloc, &mut self.book, read, scheme)?;
         // The variables of first parts come behind those of all names, since both may be put in at once.
@@ -187,7 +175,48 @@ impl Draft {
         Ok(())
     }
 
-    // Puts the types of the names of the environment into the book.
+    // Makes the type of a name known, and puts it into the book, where that was not done.
+    fn add_global(
+        &mut self,
+        alloc: Global,
+        declared: &[ReadScheme],
+        entries: &[SigEntry],
+        g: usize,
+    ) -> Result<(), Memory>
+        requires declared { All IsRead declared.now }
+        requires entries { All IsEntry entries.now }
+        requires free { HaveNoBinders self.old.known.globals }
+        ensures { OnOk result (KnowsForm self.old.known.globals self.new.known.globals (form.Global g)) }
+    {
+        let read = read_at(declared, entries, g).ok_or(Memory)?;
+        know_type(alloc, &mut self.known.globals, read, g)?;
+        if self.globals.contains_key(&g) {
+            return Ok(());
+        }
+        self.place_global(alloc, read, g)?;
+        Ok(())
+    }
+
+    // Does so for the name of a node, if it is one of the environment.
+    fn add_named(
+        &mut self,
+        alloc: Global,
+        declared: &[ReadScheme],
+        entries: &[SigEntry],
+        named: &TermForm,
+    ) -> Result<(), Memory>
+        requires declared { All IsRead declared.now }
+        requires entries { All IsEntry entries.now }
+        requires free { HaveNoBinders self.old.known.globals }
+        ensures { OnOk result (KnowsForm self.old.known.globals self.new.known.globals named.now) }
+    {
+        match named {
+            TermForm::Global(g) => self.add_global(alloc, declared, entries, *g),
+            _ => Ok(()),
+        }
+    }
+
+    // Does so for the names of all nodes.
     fn add_globals(
         &mut self,
         alloc: Global,
@@ -197,11 +226,12 @@ impl Draft {
     ) -> Result<(), Memory>
         requires declared { All IsRead declared.now }
         requires entries { All IsEntry entries.now }
+        requires free { HaveNoBinders self.old.known.globals }
+        ensures free { OnOk result (HaveNoBinders self.new.known.globals) }
+        ensures known { OnOk result (KnowGlobals nodes.now self.new.known.globals (length nodes.now)) }
     {
         for node in nodes {
-            if let TermForm::Global(g) = &node.form {
-                self.add_global(alloc, declared, entries, *g)?;
-            }
+            self.add_named(alloc, declared, entries, &node.form)?;
         }
         Ok(())
     }
@@ -214,7 +244,11 @@ impl Draft {
         solution: &Solution,
         root: usize,
         around: &[usize],
-    ) -> Result<TypeAt, Memory> {
+    ) -> Result<TypeAt, Memory>
+        ensures scheme { IfOk result (λ at. IsScheme at.scheme) }
+        ensures separate { IfOk result (λ at. AreSeparate at.scheme) }
+        ensures known { self.new.known ≡ self.old.known }
+    {
         let states = states_of(alloc, posing, around)?;
         let scheme = first_type_of(alloc, &solution.automaton, root, states.as_slice())?;
         let book = replace_book(&mut self.book, alloc);
@@ -227,16 +261,24 @@ impl Draft {
         })
     }
 
-    // The type of the whole term: its nodes are the first of the book.
+    // The type of the whole term: its nodes are the first of the book. They are laid out so where each layer has one
+    // function and one record at most, as those of a printed type have.
     fn whole_type(&mut self, alloc: Global, read: &ReadScheme) -> Result<TypeAt, Memory>
         requires { IsRead read.now }
         ensures scheme { IfOk result (λ at. IsScheme at.scheme) }
         ensures env { IfOk result (λ at. at.scheme.env ≡ []) }
+        ensures separate { IfOk result (λ at. AreSeparate at.scheme) }
         ensures book { IfOk result (λ at. IsReadFromBook read.now at.scheme) }
+        ensures laid { IfOk result (λ at. HasFrom self.old.book 0 read.now.book
+            → ((i : ℕ) → i < length read.now.book → HasOneEach read.now.book i)
+            → IsReadLaid read.now self.new.book at.scheme at.places) }
+        ensures known { self.new.known ≡ self.old.known }
     {
-        let past = self.book.push(Node::Bot)?;
-        let places = own_places(alloc, read.book.len(), past)?;
+        let bot = self.book.push(Node::Bot)?;
+        let top = self.book.push(Node::Top)?;
         let scheme = scheme_of_read(alloc, read)?;
+        read_sets(&scheme.automaton);
+        let places = read_places(alloc, &scheme, bot, top)?;
         Ok(TypeAt { scheme, places })
     }
 
@@ -252,6 +294,7 @@ impl Draft {
     ) -> Result<LaidOut, Memory>
         requires closed { IsClosed posing.now.automaton }
         requires related { HoldsStates posing.now.automaton solution.found }
+        ensures { self.new.known ≡ self.old.known }
     {
         let general = Scheme {
             automaton: solution.automaton,
@@ -274,7 +317,9 @@ impl Draft {
     }
 
     // What writes the lines of a part.
-    fn writer(&mut self, alloc: Global, laid: LaidOut) -> Writer {
+    fn writer(&mut self, alloc: Global, laid: LaidOut) -> Writer
+        ensures { self.new.known ≡ self.old.known }
+    {
         Writer {
             laid,
             steps: replace_steps(&mut self.steps, alloc),
@@ -314,7 +359,9 @@ impl Draft {
         posing: &Posing,
         laid: LaidOut,
         at: &TypeAt,
-    ) -> Result<usize, Memory> {
+    ) -> Result<usize, Memory>
+        ensures { self.new.known ≡ self.old.known }
+    {
         let root = *part.last().ok_or(Memory)?;
         let mut writer = self.writer(alloc, laid);
         self.write_nodes(alloc, &mut writer, nodes, part, posing)?;
@@ -335,7 +382,12 @@ impl Draft {
         step: usize,
         variable: usize,
         at: TypeAt,
-    ) -> Result<(), Memory> {
+    ) -> Result<(), Memory>
+        requires scheme { IsScheme at.scheme }
+        requires separate { AreSeparate at.scheme }
+        ensures globals { self.new.known.globals ≡ self.old.known.globals }
+        ensures first { OnOk result (KnowsFirst self.old.known.lets self.new.known.lets k) }
+    {
         self.steps.name(k, step)?;
         let first = FirstPart {
             step,
@@ -355,12 +407,14 @@ impl Draft {
         nodes: &[TermNode],
         list: &[usize],
     ) -> Result<SolvedPart, Memory>
-        requires { IsPartList nodes.now list.now }
+        requires list { IsPartList nodes.now list.now }
+        requires labels { HaveOwnLabels nodes.now }
+        requires known { KnowTypes self.now.known.globals self.now.known.lets nodes.now list.now }
         ensures closed { IfOk result (λ s. IsClosed s.posing.automaton) }
         ensures related { IfOk result (λ s. HoldsStates s.posing.automaton s.solution.found) }
     {
         let binders = binders_of(alloc, nodes, list, &self.known.lets)?;
-        let posing = posed(alloc, nodes, list, binders.all.as_slice(), &self.known)?;
+        let posing = pose_part(alloc, nodes, list, binders.all.as_slice(), &self.known)?;
         let solution = solution_of(alloc, &posing.automaton, posing.goals.as_slice())?;
         Ok(SolvedPart {
             posing,
@@ -378,7 +432,10 @@ impl Draft {
         of_let: Option<usize>,
         read: &ReadScheme,
     ) -> Result<TypeAt, Memory>
-        requires read { IsRead read.now }
+        requires { IsRead read.now }
+        ensures scheme { IfOk result (λ at. IsScheme at.scheme) }
+        ensures separate { IfOk result (λ at. AreSeparate at.scheme) }
+        ensures known { self.new.known ≡ self.old.known }
     {
         match of_let {
             Some(_) => self.first_type(
@@ -404,6 +461,7 @@ impl Draft {
     ) -> Result<usize, Memory>
         requires closed { IsClosed solved.posing.automaton }
         requires related { HoldsStates solved.posing.automaton solved.solution.found }
+        ensures { self.new.known ≡ self.old.known }
     {
         let posing = solved.posing;
         let solution = solved.solution;
@@ -412,26 +470,50 @@ impl Draft {
         self.write(alloc, nodes, list, &posing, laid, at)
     }
 
-    // Writes a part.
+    // Writes the part with this root.
     fn add_part(
         &mut self,
         alloc: Global,
         nodes: &[TermNode],
+        root: usize,
         part: &TermPart,
         read: &ReadScheme,
     ) -> Result<(), Memory>
-        requires term { AreTreeNodes nodes.now }
-        requires part { (r : ℕ) × IsTermPart nodes.now r part.now }
+        requires term { AreTermNodes nodes.now }
+        requires part { IsTermPart nodes.now root part.now }
+        requires known { KnowsBefore nodes.now self.old.known root }
         requires read { IsRead read.now }
+        ensures { OnOk result (KnowsBefore nodes.now self.new.known (root + 1)) }
     {
         let list = part.nodes.as_slice();
         let solved = self.solved(alloc, nodes, list)?;
-        let root = solved.posing.root(*list.last().ok_or(Memory)?);
+        let state = solved.posing.root(root);
         let variable = self.variable;
-        let at = self.type_of(alloc, &solved, root, part.of_let, read)?;
-        let step = self.add_lines(alloc, nodes, list, solved, root, &at)?;
+        let at = self.type_of(alloc, &solved, state, part.of_let, read)?;
+        let step = self.add_lines(alloc, nodes, list, solved, state, &at)?;
         match part.of_let {
             Some(k) => self.add_first(alloc, k, step, variable, at),
+            None => Ok(()),
+        }
+    }
+
+    // Writes the part with this root, if the node is one.
+    fn add_root(
+        &mut self,
+        alloc: Global,
+        nodes: &[TermNode],
+        parts: &TermParts,
+        root: usize,
+        read: &ReadScheme,
+    ) -> Result<(), Memory>
+        requires term { AreTermNodes nodes.now }
+        requires parts { AreTermParts nodes.now parts.now }
+        requires known { KnowsBefore nodes.now self.old.known root }
+        requires read { IsRead read.now }
+        ensures { OnOk result (KnowsBefore nodes.now self.new.known (root + 1)) }
+    {
+        match parts.get(&root) {
+            Some(part) => self.add_part(alloc, nodes, root, part, read),
             None => Ok(()),
         }
     }
@@ -445,7 +527,10 @@ fn replace_book(book: &mut Book, alloc: Global) -> Book
 }
 
 // Takes the types of names out.
-fn replace_schemes(schemes: &mut Schemes, alloc: Global) -> Schemes {
+fn replace_schemes(schemes: &mut Schemes, alloc: Global) -> Schemes
+    ensures result { result ≡ schemes.old }
+    ensures none { HaveNoBinders schemes.new }
+{
     std::mem::replace(schemes, Schemes::new(alloc))
 }
 
@@ -470,17 +555,17 @@ pub(crate) fn write_section(
 ) -> Result<Written, Memory>
     requires declared { All IsRead declared.now }
     requires entries { All IsEntry entries.now }
-    requires term { AreTreeNodes nodes.now }
+    requires free { HaveNoBinders schemes.old }
+    requires term { AreTermNodes nodes.now }
     requires read { IsRead read.now }
+    ensures { HaveNoBinders schemes.new }
 {
     let parts = parts_of(alloc, nodes)?;
     let mut draft = Draft::new(alloc, read, replace_schemes(schemes, alloc))?;
     draft.add_globals(alloc, declared, entries, nodes)?;
     let fixed = draft.book.len();
     for root in 0..nodes.len() {
-        if let Some(part) = parts.get(&root) {
-            draft.add_part(alloc, nodes, part, read)?;
-        }
+        draft.add_root(alloc, nodes, &parts, root, read)?;
     }
     let written = pruned(alloc, &draft.book, draft.steps.lines.as_slice(), fixed)?;
     let known = draft.known;

@@ -1,4 +1,4 @@
-use Rattle.mls_parts.proofs.TreeNodes.{term_nodes}
+use Rattle.mls_emit.proofs.KnownNames.{term_nodes}
 use Rattle.mls_emit.proofs.derive.sections_of.Goals as goal
 
 pub section_of-requires-clause-term : goal.section_of-requires-clause-term

@@ -1,0 +1,211 @@
+-- The types of the names of a part are known before it is written.
+--     term_nodes            the nodes of a term, and of each term of a module
+--     read_type             a type that was read has no binders, so it may be copied everywhere
+--     no_name, one_name, same_name      what is known of no name, of one name more, and of one that is known
+--     globals_none, globals_more      what is known of the names of the environment, one node after another
+--     firsts_none           no first part stands before the first node
+--     firsts_same           where the root is that of no first part
+--     firsts_more           where the type of the first part with the root is known
+--     before_same, before_more      so with all that is known
+--     no_first              a root that is none of a part is that of no first part
+--     know_types            what a part needs to be known
+use Rattle.std.proofs.Common.{◌≡◌, ◌⊎◌, inl, inr, ℕ, zero, suc, ◌+◌, Bool, true, false, List, [], ◌∷◌, length, refl, sym, ap, ◌∙◌, subst, arith, Contains, slice_get, Option, Some, None}
+use Rattle.std.specs.Prelude.{IsSome, is_some, cond}
+use Rattle.std.specs.BTreeMap.{BTreeMap, IsEmpty, Updates, get, is_at}
+use Rattle.std.specs.Map.{lookup}
+use Rattle.std.specs.Ordering.{nat_cmp, is_eq}
+use Rattle.mls_book.proofs.LongerBooks.{below_or_more}
+use Rattle.mls_automaton.specs.declared.scheme.EnvEntry.{EnvEntry}
+use Rattle.mls_automaton.specs.declared.scheme.Scheme.{Scheme}
+use Rattle.mls_automaton.specs.Automata.{head_at, polarity_at, IsState}
+use Rattle.mls_automaton.specs.Schemes.{IsScheme}
+use Rattle.mls_automaton.proofs.Passing.{states_more}
+use Rattle.mls_term.specs.declared.term.ResolvedBinding.{ResolvedBinding}
+use Rattle.mls_term.specs.declared.term.TermForm.{TermForm}
+use Rattle.mls_term.specs.declared.term.TermForm.TheVariants as form
+use Rattle.mls_term.specs.declared.term.TermNode.{TermNode}
+use Rattle.mls_term.specs.WellFormed.{IsTerm}
+use Rattle.mls_typing.proofs.Lists.{Contains-here}
+use Rattle.mls_deriv.specs.Laws.{AreTerms}
+use Rattle.mls_deriv.specs.Steps.{form_at}
+use Rattle.mls_layout.proofs.KeySets.{number_self}
+use Rattle.mls_layout.proofs.WorkedParts.{nothing}
+use Rattle.mls_parts.specs.declared.pose.KnownTypes.{KnownTypes}
+use Rattle.mls_parts.specs.declared.split.TermPart.{TermPart}
+use Rattle.mls_parts.specs.MetCopies.{IsOfNoBinder}
+use Rattle.mls_parts.specs.PartUses.{HasOwnType, IsBehindFirst, KnowTypes, KnowsType}
+use Rattle.mls_parts.specs.PosedParts.{HasKnownType, IsKnownType}
+use Rattle.mls_parts.specs.Posings.{known_in}
+use Rattle.mls_parts.specs.TermParts.{AreTermParts, IsTermPart}
+use Rattle.mls_parts.specs.TreeNodes.{AreTreeNodes}
+use Rattle.mls_parts.proofs.SplitParts.{own_labels, behind_firsts, first_before_let, first_before_use}
+use Rattle.mls_parts.proofs.TreeNodes.{tree_nodes}
+use Rattle.mls_emit.specs.Drafts.{AreTermNodes, HaveNoBinders, KnowGlobals, KnowFirsts, KnowsBefore, KnowsForm, KnowsFirst}
+
+-- the nodes of a term, and of each term of a module
+of_term : (globals : ℕ) (nodes : List TermNode) (binders lets : ℕ) → IsTerm globals nodes binders lets → AreTermNodes nodes
+of_term globals nodes binders lets term = record {
+  tree = tree_nodes nodes term.tree term.nodes_are;
+  labels = own_labels globals nodes binders lets term;
+  firsts = behind_firsts globals nodes binders lets term;
+}
+
+pub term_nodes : (count : ℕ) (bindings : List ResolvedBinding) → AreTerms count bindings → (k : ℕ) (b : ResolvedBinding) → slice_get bindings k ≡ Some b → AreTermNodes b.term.nodes
+term_nodes count [] all k b is = absurd (cc)
+term_nodes count (first ∷ rest) all zero b is =
+    let same : first ≡ b = cc in
+    subst (λ (c : ResolvedBinding). AreTermNodes c.term.nodes) same (of_term count first.term.nodes first.term.binders first.term.lets all.0)
+term_nodes count (first ∷ rest) all (suc k) b is = term_nodes (suc count) rest all.1 k b is
+
+-- a type without binders
+pub read_type : (s : Scheme) → IsScheme s → s.env ≡ [] → IsKnownType [] s
+read_type s is free = record {
+  closed = is.automaton;
+  root = is.root;
+  states = λ entry there. absurd (none entry there);
+  around = λ entry there. absurd (none entry there);
+  found = λ entry there. absurd (none entry there);
+  separate = record {
+    apart = λ entry other there. absurd (none entry there);
+    free = λ k.
+        states_more (IsState s.automaton) (λ q. IsOfNoBinder s) (λ q j state entry there. absurd (none entry there)) (polarity_at s.automaton k) (head_at s.automaton k) (is.automaton.heads k);
+  };
+}
+  where
+    none : (entry : EnvEntry) → Contains s.env entry → ⊥
+    none entry there = nothing entry (subst (λ (env : List EnvEntry). Contains env entry) free there)
+
+-- what a map knows after a name was added
+at_key : (old new : BTreeMap ℕ Scheme) (k : ℕ) (s : Scheme) → Updates nat_cmp old new k (Some s) → (q : ℕ) → (known_in new q ≡ Some s) ⊎ ((k ≡ q → ⊥) × (known_in new q ≡ known_in old q))
+at_key old new k s updates q = go (is_eq (nat_cmp k q)) refl
+  where
+    go : (b : Bool) → is_eq (nat_cmp k q) ≡ b → (known_in new q ≡ Some s) ⊎ ((k ≡ q → ⊥) × (known_in new q ≡ known_in old q))
+    go true e = inl (updates.0 q ∙ (λ i. cond (e i) (Some s) (get nat_cmp old q)))
+    go false e = inr (
+      (λ same. absurd (let wrong : is_eq (nat_cmp k q) ≡ true = subst (λ x. is_eq (nat_cmp k x) ≡ true) same (number_self k) in cc)),
+      updates.0 q ∙ (λ i. cond (e i) (Some s) (get nat_cmp old q)),
+    )
+
+at_own : (old new : BTreeMap ℕ Scheme) (k : ℕ) (s : Scheme) → Updates nat_cmp old new k (Some s) → known_in new k ≡ Some s
+at_own old new k s updates =
+    let e : is_eq (nat_cmp k k) ≡ true = number_self k in
+    updates.0 k ∙ (λ i. cond (e i) (Some s) (get nat_cmp old k))
+
+pub no_name : (globals : BTreeMap ℕ Scheme) → IsEmpty globals → HaveNoBinders globals
+no_name globals none g s is =
+    let empty : known_in globals g ≡ None = ap (lookup (is_at (nat_cmp g))) none in
+    absurd (let wrong : None ≡ Some s = sym empty ∙ is in cc)
+
+pub one_name : (old new : BTreeMap ℕ Scheme) (g : ℕ) (s : Scheme) → HaveNoBinders old → Updates nat_cmp old new g (Some s) → IsKnownType [] s → KnowsForm old new (form.Global g)
+one_name old new g s free updates is = record {
+  free = λ h t has. elim (at_key old new g s updates h) [
+    | inl at ↦ (let alike : s ≡ t = (let both : Some s ≡ Some t = sym at ∙ has in cc) in subst (IsKnownType []) alike is)
+    | inr other ↦ free h t (sym other.1 ∙ has)
+  ];
+  there = λ h same. (let alike : g ≡ h = cc in subst (λ j. IsSome (known_in new j)) alike (ap is_some (at_own old new g s updates)));
+  kept = λ h has. elim (at_key old new g s updates h) [
+    | inl at ↦ ap is_some at
+    | inr other ↦ ap is_some other.1 ∙ has
+  ];
+}
+
+pub same_name : (old : BTreeMap ℕ Scheme) (g : ℕ) → HaveNoBinders old → IsSome (known_in old g) → KnowsForm old old (form.Global g)
+same_name old g free there = record {
+  free = free;
+  there = λ h same. (let alike : g ≡ h = cc in subst (λ j. IsSome (known_in old j)) alike there);
+  kept = λ h has. has;
+}
+
+-- the names among the nodes, one node after another
+pub globals_none : (nodes : List TermNode) (globals : BTreeMap ℕ Scheme) → KnowGlobals nodes globals 0
+globals_none nodes globals i g low e = absurd (omega (arith, low))
+
+pub globals_more : (nodes : List TermNode) (old new : BTreeMap ℕ Scheme) (n : ℕ) (f : TermForm) → KnowGlobals nodes old n → form_at nodes n ≡ Some f → KnowsForm old new f → KnowGlobals nodes new (n + 1)
+globals_more nodes old new n f know is name i h low e = elim (below_or_more i n) [
+  | inl before ↦ name.kept h (know i h before e)
+  | inr it ↦ name.there h (alike it.0 it.1)
+]
+  where
+    alike : (d : ℕ) → i ≡ n + d → f ≡ form.Global h
+    alike d over =
+        let same : i ≡ n = omega (arith, low, over) in
+        let at : form_at nodes n ≡ Some (form.Global h) = subst (λ j. form_at nodes j ≡ Some (form.Global h)) same e in
+        let both : Some f ≡ Some (form.Global h) = sym is ∙ at in
+        cc
+
+-- first parts, one root after another
+pub firsts_none : (nodes : List TermNode) (lets : BTreeMap ℕ Scheme) → KnowFirsts nodes lets 0
+firsts_none nodes lets i k j l e low = absurd (omega (arith, low))
+
+module _ (nodes : List TermNode) (r : ℕ) where
+  -- node r is the first part of no let
+  abbrev pub IsNoFirst : Type 0
+  IsNoFirst = (i k l : ℕ) → form_at nodes i ≡ Some (form.Let k r l) → ⊥
+
+  pub firsts_same : (lets : BTreeMap ℕ Scheme) → KnowFirsts nodes lets r → IsNoFirst → KnowFirsts nodes lets (r + 1)
+  firsts_same lets know none i k j l e low = elim (below_or_more j r) [
+    | inl before ↦ know i k j l e before
+    | inr it ↦ absurd (let same : j ≡ r = (let is : j ≡ r + it.0 = it.1 in omega (arith, low, is)) in none i k l (subst (λ q. form_at nodes i ≡ Some (form.Let k q l)) same e))
+  ]
+
+  pub firsts_more : AreTreeNodes nodes → (old new : BTreeMap ℕ Scheme) (i k l : ℕ) → KnowFirsts nodes old r → form_at nodes i ≡ Some (form.Let k r l) → KnowsFirst old new k
+      → KnowFirsts nodes new (r + 1)
+  firsts_more tree old new i k l know is first j h f m e low = elim (at_key old new k first.scheme first.updates h) [
+    | inl at ↦ subst HasOwnType (sym at) first.own
+    | inr other ↦ subst HasOwnType (sym other.1) (elim (below_or_more f r) [
+      | inl before ↦ know j h f m e before
+      | inr it ↦ absurd (other.0 (alike it.0 it.1))
+    ])
+  ]
+    where
+      alike : (d : ℕ) → f ≡ r + d → k ≡ h
+      alike d over =
+          let same : f ≡ r = omega (arith, low, over) in
+          let here : form_at nodes j ≡ Some (form.Let h r m) = subst (λ q. form_at nodes j ≡ Some (form.Let h q m)) same e in
+          let one : i ≡ j = tree.one i j r (form.Let k r l) (form.Let h r m) is here (Contains-here r (l ∷ [])) (Contains-here r (m ∷ [])) in
+          let there : form_at nodes j ≡ Some (form.Let k r l) = subst (λ q. form_at nodes q ≡ Some (form.Let k r l)) one is in
+          let both : Some (form.Let k r l) ≡ Some (form.Let h r m) = sym there ∙ here in
+          cc
+
+  pub no_first : (parts : BTreeMap ℕ TermPart) → AreTermParts nodes parts → get nat_cmp parts r ≡ None → IsNoFirst
+  no_first parts are none i k l e =
+      let some : IsSome (get nat_cmp parts r) = are.there r (inr (i, form.Let k r l, e, refl)) in
+      absurd (let wrong : is_some (get nat_cmp parts r) ≡ false = ap is_some none in cc)
+
+-- what is known before the next root
+pub before_same : (nodes : List TermNode) (r : ℕ) (old new : KnownTypes) → new ≡ old → KnowsBefore nodes old r → IsNoFirst nodes r → KnowsBefore nodes new (r + 1)
+before_same nodes r old new same before none =
+    subst (λ (known : KnownTypes). KnowsBefore nodes known (r + 1)) (sym same)
+    (record { free = before.free; globals = before.globals; firsts = firsts_same nodes r old.lets before.firsts none })
+
+pub before_more : (nodes : List TermNode) (r : ℕ) → AreTreeNodes nodes → (old new : KnownTypes) (k : ℕ) → KnowsBefore nodes old r → new.globals ≡ old.globals → (i l : ℕ) → form_at nodes i ≡ Some (form.Let k r l) → KnowsFirst old.lets new.lets k
+    → KnowsBefore nodes new (r + 1)
+before_more nodes r tree old new k before same i l is first = record {
+  free = subst HaveNoBinders (sym same) before.free;
+  globals = subst (λ (globals : BTreeMap ℕ Scheme). KnowGlobals nodes globals (length nodes)) (sym same) before.globals;
+  firsts = firsts_more nodes r tree old.lets new.lets i k l before.firsts is first;
+}
+
+-- what a part needs to be known
+pub know_types : (nodes : List TermNode) → AreTermNodes nodes → (known : KnownTypes) (r : ℕ) → KnowsBefore nodes known r → (part : TermPart) → IsTermPart nodes r part → KnowTypes known.globals known.lets nodes part.nodes
+know_types nodes term known r before part it i f there e = by_form f e
+  where
+    is_known : (o : Option Scheme) (g : ℕ) → known_in known.globals g ≡ o → IsSome o → HasKnownType [] o
+    is_known None g at some = absurd (cc)
+    is_known (Some s) g at some = before.free g s at
+
+    by_form : (f : TermForm) → form_at nodes i ≡ Some f → KnowsType known.globals known.lets f
+    by_form (form.Bound x) e = tt
+    by_form (form.Inner k) e =
+        let behind : IsBehindFirst nodes k i = term.firsts i k e in
+        before.firsts behind.node k behind.first behind.second behind.is (first_before_use nodes term.tree r i k it.root (it.only i there).1 behind)
+    by_form (form.Global g) e = is_known (known_in known.globals g) g refl (before.globals i g (it.only i there).0 e)
+    by_form (form.Number value) e = tt
+    by_form (form.Truth value) e = tt
+    by_form (form.Fun x j) e = tt
+    by_form (form.Apply j k) e = tt
+    by_form (form.Make parts) e = tt
+    by_form (form.Project j label) e = tt
+    by_form (form.If j k l) e = tt
+    by_form (form.Let k j l) e = before.firsts i k j l e (first_before_let nodes term.tree r i k j l it.root (it.only i there).1 e)
+    by_form (form.Rec x j) e = tt

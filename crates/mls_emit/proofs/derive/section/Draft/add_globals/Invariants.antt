@@ -1,0 +1,6 @@
+use Rattle.mls_emit.specs.Drafts.{HaveNoBinders, KnowGlobals}
+use Rattle.mls_emit.proofs.derive.section.Draft.add_globals.Given as goal
+
+-- the names of the nodes so far
+abbrev pub invariant-loop-node : goal.invariant-loop-node
+invariant-loop-node l = HaveNoBinders l.self.known.globals × KnowGlobals l.nodes l.self.known.globals l.node-index

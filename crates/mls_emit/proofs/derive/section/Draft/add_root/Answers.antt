@@ -1,0 +1,12 @@
+use Rattle.std.proofs.Common.{refl, sym}
+use Rattle.mls_emit.proofs.KnownNames.{before_same, no_first}
+use Rattle.mls_emit.proofs.derive.section.Draft.add_root.Goals as goal
+
+pub add_part-requires-clause-part : goal.add_part-requires-clause-part
+add_part-requires-clause-part c = c.requires.parts.part c.args.root c.in-Some.part.now (sym c.in-Some.ensures.value)
+
+-- a node that is the root of no part is the first part of no let
+pub returns-in-None : goal.returns-in-None
+returns-in-None c =
+    before_same c.args.nodes.now c.args.root c.args.self.now.known c.args.self.now.known refl c.requires.known
+    (no_first c.args.nodes.now c.args.root c.args.parts.now c.requires.parts (sym c.in-None.ensures.value))

@@ -1,0 +1,55 @@
+-- What is known of the names of a term while its section is written, part by part.
+use Rattle.std.specs.Prelude.{◌≡◌, ℕ, ◌<◌, List, [], length, IsSome, Some}
+use Rattle.std.specs.BTreeMap.{BTreeMap, Updates}
+use Rattle.std.specs.Ordering.{nat_cmp}
+use Rattle.mls_automaton.specs.declared.scheme.Scheme.{Scheme}
+use Rattle.mls_term.specs.declared.term.TermForm.{TermForm}
+use Rattle.mls_term.specs.declared.term.TermForm.TheVariants as form
+use Rattle.mls_term.specs.declared.term.TermNode.{TermNode}
+use Rattle.mls_deriv.specs.Steps.{form_at}
+use Rattle.mls_parts.specs.declared.pose.KnownTypes.{KnownTypes}
+use Rattle.mls_parts.specs.PartUses.{AreBehindFirsts, HasOwnType, HaveOwnLabels}
+use Rattle.mls_parts.specs.PosedParts.{IsKnownType}
+use Rattle.mls_parts.specs.Posings.{known_in}
+use Rattle.mls_parts.specs.TreeNodes.{AreTreeNodes}
+
+-- Nodes of one tree, in which no record has a label twice, and each use of a let's name stands behind the let's first
+-- part.
+pub record AreTermNodes (nodes : List TermNode) : Type 0 where
+  pub tree : AreTreeNodes nodes
+  pub labels : HaveOwnLabels nodes
+  pub firsts : AreBehindFirsts nodes
+
+-- the types that are known of names of the environment have no binders, and may be copied everywhere
+abbrev pub HaveNoBinders : BTreeMap ℕ Scheme → Type 0
+HaveNoBinders globals = (g : ℕ) (s : Scheme) → known_in globals g ≡ Some s → IsKnownType [] s
+
+-- the types are known of the names of the environment that stand among the first n nodes
+abbrev pub KnowGlobals : List TermNode → BTreeMap ℕ Scheme → ℕ → Type 0
+KnowGlobals nodes globals n =
+    (i g : ℕ) → i < n → form_at nodes i ≡ Some (form.Global g) → IsSome (known_in globals g)
+
+-- the types are known of the lets whose first parts have roots before node r
+abbrev pub KnowFirsts : List TermNode → BTreeMap ℕ Scheme → ℕ → Type 0
+KnowFirsts nodes lets r =
+    (i k j l : ℕ) → form_at nodes i ≡ Some (form.Let k j l) → j < r → HasOwnType (known_in lets k)
+
+-- What is known before the part with root r is written: the types of all names of the environment, and those of the
+-- first parts before it.
+pub record KnowsBefore (nodes : List TermNode) (known : KnownTypes) (r : ℕ) : Type 0 where
+  pub free : HaveNoBinders known.globals
+  pub globals : KnowGlobals nodes known.globals (length nodes)
+  pub firsts : KnowFirsts nodes known.lets r
+
+-- The second map knows all names that the first one does, and that of a node of this form, if it is one of the
+-- environment.
+pub record KnowsForm (old new : BTreeMap ℕ Scheme) (f : TermForm) : Type 0 where
+  pub free : HaveNoBinders new
+  pub there : (g : ℕ) → f ≡ form.Global g → IsSome (known_in new g)
+  pub kept : (h : ℕ) → IsSome (known_in old h) → IsSome (known_in new h)
+
+-- The second map knows the type of the first part of let k besides.
+pub record KnowsFirst (old new : BTreeMap ℕ Scheme) (k : ℕ) : Type 0 where
+  pub scheme : Scheme
+  pub updates : Updates nat_cmp old new k (Some scheme)
+  pub own : HasOwnType (Some scheme)
