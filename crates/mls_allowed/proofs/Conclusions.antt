@@ -5,10 +5,14 @@
 --     placed_outer, offered_outer, joined_outer       environments whose variables are all put in
 --     over_itself, over_then, over_first, over_second, offered_covers
 --     ruled                       the step of a rule
-use Rattle.std.proofs.Common.{◌≡◌, ◌⊎◌, inl, inr, ℕ, suc, ◌<◌, true, List, [], ◌∷◌, ◌++◌, length, refl, sym, ap, ◌∙◌, subst, arith, append-nil, append_assoc, Some}
+use Rattle.std.proofs.Common.{◌≡◌, inl, inr, ℕ, zero, suc, ◌<◌, true, List, [], ◌∷◌, ◌++◌, length, refl, sym, ap, ◌∙◌, subst, arith, append-nil, append_assoc, Some}
 use Rattle.std.specs.Prelude.{Contains}
 use Rattle.std.specs.FinMap as env
 use Rattle.std.proofs.lemmas.List.Elements.{All-nil}
+use Rattle.mls_book.specs.declared.book.NodeId.{NodeId}
+use Rattle.mls_book.specs.declared.book.Node.{Node}
+use Rattle.mls_book.specs.declared.book.Node.TheVariants as node
+use Rattle.mls_book.specs.Books.{node_at}
 use Rattle.mls_book.specs.Schemes.{Scheme}
 use Rattle.mls_term.specs.declared.term.TermForm.TheVariants as form
 use Rattle.mls_deriv.specs.declared.derivation.BinderNode.{BinderNode}
@@ -21,7 +25,7 @@ use Rattle.mls_deriv.specs.declared.claim.Pair.{Pair}
 use Rattle.mls_deriv.specs.declared.claim.Put.{Put}
 use Rattle.mls_deriv.specs.Steps.{env_of, form_at, Before, Says, IsAllowed, var}
 use Rattle.mls_deriv.proofs.CheckedSubs.{justified_more}
-use Rattle.mls_emit.specs.Conclusions.{IsGood, AreClear, Extends, IsUnread, Conclusion, Concluded, a_binder, by_step, IsAdapted, as_it_is, by_pairs, bound_as, IsBrought, IsReading, IsBinderAbove, one, both, IsFit, Concludes, HasConcluded, IsOuter, IsOver, IsOffered, IsPlaced, IsJoined}
+use Rattle.mls_emit.specs.Conclusions.{IsGood, AreClear, Extends, IsUnread, Conclusion, Concluded, a_binder, by_step, IsAdapted, as_it_is, by_pairs, bound_as, IsBrought, IsReading, IsBinderAbove, one, both, IsFit, Concludes, HasConcluded, IsOuter, IsOver, ServesLater, as_it_was, below_own, first_member, second_member, IsOffered, IsPlaced, Replaces, ComesFrom, IsJoined}
 use Rattle.mls_layout.specs.Emitted.{asked_at}
 use Rattle.mls_emit.specs.Orders.{Along}
 use Rattle.mls_pairs.specs.PairLists.{IsPairList}
@@ -29,13 +33,19 @@ use Rattle.mls_layout.specs.Plans.{PlannedLine, a_step_with, planned_steps}
 use Rattle.mls_layout.specs.Rows.{at, concluded, Fits}
 use Rattle.mls_layout.specs.Runs.{a_step, lines_of, IsRun}
 use Rattle.mls_layout.specs.Scopes.{entry}
-use Rattle.mls_layout.specs.Shown.{IsShown, based, meet_right, AreShown}
+use Rattle.mls_layout.specs.Shown.{IsShown, based, meet_right, meet_first, meet_second, AreShown}
 use Rattle.mls_layout.specs.Uses.{NoClaim}
 use Rattle.mls_allowed.proofs.Orders.{along_justified}
 use Rattle.mls_allowed.proofs.Plans.{planned_append, lines_split}
 use Rattle.mls_emit.proofs.Runs.{nothing_run, run_then, step_run, says_last, says_kept}
 use Rattle.mls_emit.proofs.Scopes.{inner_back, inner_found}
 use Rattle.mls_allowed.proofs.Subs.{sub_allowed}
+
+-- a node that is no `Bot` is in the book
+pub node_low : (book : List Node) (n : ℕ) → (node_at book n ≡ node.Bot → ⊥) → n < length book
+node_low [] n other = absurd (other refl)
+node_low (first ∷ book) zero other = omega arith
+node_low (first ∷ book) (suc n) other = let low : n < length book = node_low book n other in omega arith
 
 module _ (b : Before) where
   pub good_none : (steps : List StepLine) → IsGood b steps []
@@ -109,10 +119,21 @@ module _ (b : Before) where
     above_follows puts m n (one h) = based h
     above_follows puts m n (both l r e h h') = meet_right l r e (above_follows puts m l.0 h) (above_follows puts m r.0 h')
 
+    -- node m is below node n, where it may be a meet of which one member is
+    pub data Under (puts : List Put) (n : ℕ) : ℕ → Type 0 where
+      by_above : {m : ℕ} → Above puts m n → Under puts n m
+      by_first : {m : ℕ} (l r : NodeId) → node_at b.book m ≡ node.Meet l r → Under puts n l.0 → Under puts n m
+      by_second : {m : ℕ} (l r : NodeId) → node_at b.book m ≡ node.Meet l r → Under puts n r.0 → Under puts n m
+
+    under_follows : (puts : List Put) (n m : ℕ) → Under puts n m → Follows puts Rl m n
+    under_follows puts n m (by_above h) = above_follows puts m n h
+    under_follows puts n m (by_first l r e h) = meet_first l r e (under_follows puts n l.0 h)
+    under_follows puts n m (by_second l r e h) = meet_second l r e (under_follows puts n r.0 h)
+
     -- the later environment has a node for each binder of the conclusion, and the type is below the later one
     pub record Covers (c : Conclusion) (top : ℕ) (d : List BinderNode) (u : ℕ) : Type 0 where
       pub type : Below top u
-      pub binders : (x n : ℕ) → env.get (env_of c.env) x ≡ Some n → (m : ℕ) × (env.get (env_of d) x ≡ Some m) × Above c.puts m n
+      pub binders : (x n : ℕ) → env.get (env_of c.env) x ≡ Some n → (m : ℕ) × (env.get (env_of d) x ≡ Some m) × Under c.puts n m
 
     -- the plan is good, and a step says this
     pub record Brings (steps : List StepLine) (part : ℕ) (d : List BinderNode) (u : ℕ) (plan : List PlannedLine) (number : ℕ) : Type 0 where
@@ -136,7 +157,7 @@ module _ (b : Before) where
               good_step steps step c.puts
               (sub_allowed (at b steps) c.puts (Along (Read c.puts) Below) NoClaim (follow c.puts) it.low step c.number (concluded b (env_of c.env) c.type) refl it.says refl fits.scheme fits.rising
               (based (type_behind c.puts c.type top u (it.fit.type c.puts (extends_itself c.puts)) covers.type))
-              (λ x n found. let w = covers.binders x n found in (w.0, w.1, above_follows c.puts w.0 n w.2)));
+              (λ x n found. let w = covers.binders x n found in (w.0, w.1, under_follows c.puts n w.0 w.2)));
           says = says_last (at b steps) step;
         }
 
@@ -175,15 +196,15 @@ module _ (b : Before) where
     -- what a later environment and type have to have for what a node concludes
     abbrev pub CoversAll : Concluded → ℕ → List BinderNode → ℕ → Type 0
     CoversAll (by_step c) top d u = Covers c top d u
-    CoversAll (a_binder x) top d u = Below top u × Own u × (m : ℕ) × (env.get (env_of d) x ≡ Some m) × Below m u
+    CoversAll (a_binder x) top d u = Below top u × Own u × (m : ℕ) × (env.get (env_of d) x ≡ Some m) × Under [] u m
 
-    bound_covers : (x m u number : ℕ) (d : List BinderNode) → env.get (env_of d) x ≡ Some m → Below m u → Covers (bound_as x u number) u d u
+    bound_covers : (x m u number : ℕ) (d : List BinderNode) → env.get (env_of d) x ≡ Some m → Under [] u m → Covers (bound_as x u number) u d u
     bound_covers x m u number d found below = record {
       type = laws.itself u;
       binders =
           λ y n at_y.
           let it = only_one x u y n at_y in
-          (m, subst (λ z. env.get (env_of d) z ≡ Some m) (sym it.0) found, subst (Above [] m) (sym it.1) (above_before [] m u u below (above_itself [] u (inl refl))));
+          (m, subst (λ z. env.get (env_of d) z ≡ Some m) (sym it.0) found, subst (λ z. Under [] z m) (sym it.1) below);
     }
 
     one_longer : (steps : List StepLine) (step : StepLine) → suc (length steps) ≡ length (steps ++ step ∷ [])
@@ -192,7 +213,7 @@ module _ (b : Before) where
 
     bound_brought : (steps : List StepLine) (part x u : ℕ) (scope : List ℕ) (d : List BinderNode) (m : ℕ) (rest : List PlannedLine) (number : ℕ)
         → form_at b.term_nodes part ≡ Some (form.Bound x) → u < length b.book → Own u → Below (node_of x) u → Contains scope x
-        → env.get (env_of d) x ≡ Some m → Below m u → Fits b d u → IsAdapted (bound_as x u (length steps)) (suc (length steps)) part d u rest number
+        → env.get (env_of d) x ≡ Some m → Under [] u m → Fits b d u → IsAdapted (bound_as x u (length steps)) (suc (length steps)) part d u rest number
         → Brings steps part d u (a_step_with (a_step part rule.Var (entry x u ∷ []) u) [] ∷ rest) number
     bound_brought steps part x u scope d m rest number is low own below there found below_u fits adapts =
         let step = a_step part rule.Var (entry x u ∷ []) u in
@@ -237,8 +258,8 @@ module _ (b : Before) where
 
     pub offered_outer : (steps : List StepLine) (part top : ℕ) (scope : List ℕ) (c : Concluded) (d : List BinderNode) (u : ℕ)
         → HasConcluded b Own Below Read node_of steps part top scope c → u < length b.book → Own u → Below top u → IsOffered node_of c u d → IsOuter b Own Below Read node_of scope d
-    offered_outer steps part top scope (a_binder x) d u it low own below same =
-        subst (IsOuter b Own Below Read node_of scope) (sym same)
+    offered_outer steps part top scope (a_binder x) d u it low own below is_entry =
+        subst (IsOuter b Own Below Read node_of scope) (sym is_entry)
         (record {
           rising = (All-nil (λ (later : BinderNode). x < later.binder), tt);
           low = λ y n found. subst (λ z. z < length b.book) (sym (only_one x u y n found).1) low;
@@ -249,8 +270,8 @@ module _ (b : Before) where
               subst (λ z. Above puts (node_of z) n) (sym is.0)
               (subst (Above puts (node_of x)) (sym is.1) (above_before puts (node_of x) u u (laws.further (node_of x) top u it.1 below) (above_itself puts u (own_unread puts u own more))));
         })
-    offered_outer steps part top scope (by_step c) d u it low own below (inl (none, same)) =
-        subst (IsOuter b Own Below Read node_of scope) (sym same)
+    offered_outer steps part top scope (by_step c) d u it low own below (inl (none, is_env)) =
+        subst (IsOuter b Own Below Read node_of scope) (sym is_env)
         (record {
           rising = it.fits.rising;
           low = it.fits.scheme.env;
@@ -260,78 +281,94 @@ module _ (b : Before) where
     offered_outer steps part top scope (by_step c) d u it low own below (inr placed) = placed_outer scope c.env d placed it.inside
 
     pub joined_outer : (scope : List ℕ) (d e joined : List BinderNode) → IsOuter b Own Below Read node_of scope d → IsOuter b Own Below Read node_of scope e
-        → IsJoined node_of d e joined → IsOuter b Own Below Read node_of scope joined
+        → IsJoined node_of b.book d e joined → IsOuter b Own Below Read node_of scope joined
     joined_outer scope d e joined first second it = record {
       rising = it.rising;
-      low =
-          λ x n found.
-          elim (it.from x n found) [
-            | inl h ↦ first.low x n h
-            | inr h ↦ elim h [ inl h' ↦ second.low x n h' | inr h' ↦ subst (λ z. z < length b.book) (sym h'.0) (laws.low_node x) ]
-          ];
-      inside =
-          λ x n found.
-          elim (it.from x n found) [ inl h ↦ first.inside x n h | inr h ↦ elim h [ inl h' ↦ second.inside x n h' | inr h' ↦ first.inside x h'.1 h'.2 ] ];
-      above =
-          λ puts more x n found.
-          elim (it.from x n found) [
-            | inl h ↦ first.above puts more x n h
-            | inr h ↦ elim h [ inl h' ↦ second.above puts more x n h' | inr h' ↦ node_above puts x n more h'.0 ]
-          ];
+      low = λ x n found. low_from x n (it.from x n found);
+      inside = λ x n found. inside_from x n (it.from x n found);
+      above = λ puts more x n found. above_from puts more x n (it.from x n found);
     }
+      where
+        From : ℕ → ℕ → Type 0
+        From x n = ComesFrom node_of b.book (env.get (env_of d) x) (env.get (env_of e) x) x n
+
+        low_from : (x n : ℕ) → From x n → n < length b.book
+        low_from x n (inl h) = first.low x n h
+        low_from x n (inr (inl h)) = second.low x n h
+        low_from x n (inr (inr (inl h))) = subst (λ z. z < length b.book) (sym h.0) (laws.low_node x)
+        low_from x n (inr (inr (inr (l, r, is, h, h')))) = node_low b.book n (λ none. absurd (cc))
+
+        inside_from : (x n : ℕ) → From x n → Contains scope x
+        inside_from x n (inl h) = first.inside x n h
+        inside_from x n (inr (inl h)) = second.inside x n h
+        inside_from x n (inr (inr (inl h))) = first.inside x h.1 h.2
+        inside_from x n (inr (inr (inr (l, r, is, h, h')))) = first.inside x l.0 h
+
+        above_from : (puts : List Put) → Extends b.book Own [] puts → (x n : ℕ) → From x n → Above puts (node_of x) n
+        above_from puts more x n (inl h) = first.above puts more x n h
+        above_from puts more x n (inr (inl h)) = second.above puts more x n h
+        above_from puts more x n (inr (inr (inl h))) = node_above puts x n more h.0
+        above_from puts more x n (inr (inr (inr (l, r, is, h, h')))) = both l r is (first.above puts more x l.0 h) (second.above puts more x r.0 h')
+
+    abbrev Serves : (x m n : ℕ) → Type 0
+    Serves = ServesLater b Own Below Read node_of
 
     pub over_itself : (d : List BinderNode) → IsOver b Own Below Read node_of d d
-    over_itself d x m found = (m, found, inl refl)
+    over_itself d x m found = (m, found, as_it_was)
 
-    nearer : (n m x : ℕ) → (n ≡ m) ⊎ (n ≡ node_of x) → (n ≡ m) ⊎ Below n (node_of x)
-    nearer n m x (inl e) = inl e
-    nearer n m x (inr e) = inr (subst (λ z. Below z (node_of x)) (sym e) (laws.itself (node_of x)))
+    replaced : (x m n : ℕ) → Replaces node_of b.book x m n → Serves x m n
+    replaced x m n (inl e) = subst (Serves x m) (sym e) as_it_was
+    replaced x m n (inr (inl e)) = below_own (subst (λ z. Below z (node_of x)) (sym e) (laws.itself (node_of x)))
+    replaced x m n (inr (inr (l, r, is, inl e))) = first_member l r is (subst (Serves x m) (sym e) as_it_was)
+    replaced x m n (inr (inr (l, r, is, inr e))) = second_member l r is (subst (Serves x m) (sym e) as_it_was)
 
-    pub over_first : (d e joined : List BinderNode) → IsJoined node_of d e joined → IsOver b Own Below Read node_of d joined
-    over_first d e joined it x m found = let w = it.first x m found in (w.0, w.1, nearer w.0 m x w.2)
+    pub over_first : (d e joined : List BinderNode) → IsJoined node_of b.book d e joined → IsOver b Own Below Read node_of d joined
+    over_first d e joined it x m found = let w = it.first x m found in (w.0, w.1, replaced x m w.0 w.2)
 
-    pub over_second : (d e joined : List BinderNode) → IsJoined node_of d e joined → IsOver b Own Below Read node_of e joined
-    over_second d e joined it x m found = let w = it.second x m found in (w.0, w.1, nearer w.0 m x w.2)
+    pub over_second : (d e joined : List BinderNode) → IsJoined node_of b.book d e joined → IsOver b Own Below Read node_of e joined
+    over_second d e joined it x m found = let w = it.second x m found in (w.0, w.1, replaced x m w.0 w.2)
+
+    serves_then : (x m n k : ℕ) → Serves x m n → Serves x n k → Serves x m k
+    serves_then x m n k it as_it_was = it
+    serves_then x m n k it (below_own h) = below_own h
+    serves_then x m n k it (first_member l r is h) = first_member l r is (serves_then x m n l.0 it h)
+    serves_then x m n k it (second_member l r is h) = second_member l r is (serves_then x m n r.0 it h)
 
     pub over_then : (d e f : List BinderNode) → IsOver b Own Below Read node_of d e → IsOver b Own Below Read node_of e f → IsOver b Own Below Read node_of d f
     over_then d e f first second x m found =
         let v = first x m found in
         let w = second x v.0 v.1 in
-        (w.0, w.1, go w.0 v.0 w.2 v.2)
-      where
-        go : (k n : ℕ) → (k ≡ n) ⊎ Below k (node_of x) → (n ≡ m) ⊎ Below n (node_of x) → (k ≡ m) ⊎ Below k (node_of x)
-        go k n (inr h) other = inr h
-        go k n (inl e) (inl e') = inl (e ∙ e')
-        go k n (inl e) (inr h) = inr (subst (λ z. Below z (node_of x)) (sym e) h)
+        (w.0, w.1, serves_then x m v.0 w.0 v.2 w.2)
 
-    below_either : (n u x : ℕ) → Below (node_of x) u → (n ≡ u) ⊎ Below n (node_of x) → Below n u
-    below_either n u x below (inl e) = subst (λ z. Below z u) (sym e) (laws.itself u)
-    below_either n u x below (inr h) = laws.further n (node_of x) u h below
+    -- what serves in place of a node is below all that this one and the binder's own are below
+    serves_under : (puts : List Put) (x m u : ℕ) → Above puts m u → Above puts (node_of x) u → (n : ℕ) → Serves x m n → Under puts u n
+    serves_under puts x m u at_m at_own n as_it_was = by_above at_m
+    serves_under puts x m u at_m at_own n (below_own h) = by_above (above_before puts n (node_of x) u h at_own)
+    serves_under puts x m u at_m at_own n (first_member l r is h) = by_first l r is (serves_under puts x m u at_m at_own l.0 h)
+    serves_under puts x m u at_m at_own n (second_member l r is h) = by_second l r is (serves_under puts x m u at_m at_own r.0 h)
 
     offered_binder : (c : Conclusion) (top : ℕ) (d later : List BinderNode) → IsFit b Own Below Read node_of c top → (c.puts ≡ []) × (d ≡ c.env) → IsOver b Own Below Read node_of d later
-        → (x n : ℕ) → env.get (env_of c.env) x ≡ Some n → (m : ℕ) × (env.get (env_of later) x ≡ Some m) × Above c.puts m n
-    offered_binder c top d later fit (none, same) over x n found =
-        let w = over x n (subst (λ (l : List BinderNode). env.get (env_of l) x ≡ Some n) (sym same) found) in
-        (w.0, w.1, go w.0 w.2)
-      where
-        go : (m : ℕ) → (m ≡ n) ⊎ Below m (node_of x) → Above c.puts m n
-        go m (inl e) = subst (λ z. Above c.puts z n) (sym e) (above_itself c.puts n (inl none))
-        go m (inr h) = above_before c.puts m (node_of x) n h (fit.binders c.puts (extends_itself c.puts) x n found)
+        → (x n : ℕ) → env.get (env_of c.env) x ≡ Some n → (m : ℕ) × (env.get (env_of later) x ≡ Some m) × Under c.puts n m
+    offered_binder c top d later fit (none, is) over x n found =
+        let w = over x n (subst (λ (l : List BinderNode). env.get (env_of l) x ≡ Some n) (sym is) found) in
+        (w.0, w.1, serves_under c.puts x n n (above_itself c.puts n (inl none)) (fit.binders c.puts (extends_itself c.puts) x n found) w.0 w.2)
 
     pub placed_binder : (c : Conclusion) (top : ℕ) (d later : List BinderNode) → IsFit b Own Below Read node_of c top → IsPlaced node_of c.env d → IsOver b Own Below Read node_of d later
-        → (x n : ℕ) → env.get (env_of c.env) x ≡ Some n → (m : ℕ) × (env.get (env_of later) x ≡ Some m) × Above c.puts m n
+        → (x n : ℕ) → env.get (env_of c.env) x ≡ Some n → (m : ℕ) × (env.get (env_of later) x ≡ Some m) × Under c.puts n m
     placed_binder c top d later fit placed over x n found =
         let w = over x (node_of x) (placed.each x n found) in
-        (w.0, w.1, above_before c.puts w.0 (node_of x) n (below_either w.0 (node_of x) x (laws.itself (node_of x)) w.2) (fit.binders c.puts (extends_itself c.puts) x n found))
+        let own = fit.binders c.puts (extends_itself c.puts) x n found in
+        (w.0, w.1, serves_under c.puts x (node_of x) n own own w.0 w.2)
 
     -- what is offered for a type serves it in each later environment
     pub offered_covers : (steps : List StepLine) (part top : ℕ) (scope : List ℕ) (c : Concluded) (d later : List BinderNode) (u : ℕ)
         → HasConcluded b Own Below Read node_of steps part top scope c → Own u → Below top u → IsOffered node_of c u d → IsOver b Own Below Read node_of d later
         → CoversAll c top later u
-    offered_covers steps part top scope (a_binder x) d later u it own below same over =
-        let w = over x u (subst (λ (l : List BinderNode). env.get (env_of l) x ≡ Some u) (sym same) (bound_found x u)) in
-        (below, own, w.0, w.1, below_either w.0 u x (laws.further (node_of x) top u it.1 below) w.2)
-    offered_covers steps part top scope (by_step c) d later u it own below (inl same) over = record { type = below; binders = offered_binder c top d later it.fit same over }
+    offered_covers steps part top scope (a_binder x) d later u it own below is over =
+        let w = over x u (subst (λ (l : List BinderNode). env.get (env_of l) x ≡ Some u) (sym is) (bound_found x u)) in
+        let at_u = above_itself [] u (inl refl) in
+        (below, own, w.0, w.1, serves_under [] x u u at_u (above_before [] (node_of x) u u (laws.further (node_of x) top u it.1 below) at_u) w.0 w.2)
+    offered_covers steps part top scope (by_step c) d later u it own below (inl is) over = record { type = below; binders = offered_binder c top d later it.fit is over }
     offered_covers steps part top scope (by_step c) d later u it own below (inr placed) over = record { type = below; binders = placed_binder c top d later it.fit placed over }
 
     -- the step of a rule, in an environment whose variables are all put in

@@ -33,8 +33,9 @@ use Rattle.mls_layout.specs.Rows.{at, concluded, Fits, EndsWith, HasRow}
 use Rattle.mls_layout.specs.Runs.{a_step}
 use Rattle.mls_layout.specs.Scopes.{entry}
 use Rattle.mls_layout.specs.Uses.{NamesOnly}
-use Rattle.mls_allowed.specs.Writings.{NamesKnown, IsPartOf, IsNodeOf, itself, within, AreInOrder, IsWriting}
-use Rattle.mls_allowed.proofs.Conclusions.{good_none, good_then, says_then, above_before, CoversAll, Brings, brought}
+use Rattle.mls_emit.specs.NodeLines.{NamesKnown}
+use Rattle.mls_allowed.specs.Writings.{IsPartOf, IsNodeOf, itself, within, AreInOrder, IsWriting}
+use Rattle.mls_allowed.proofs.Conclusions.{good_none, good_then, says_then, above_before, above_itself, by_above, CoversAll, Brings, brought}
 use Rattle.mls_allowed.proofs.PartClaims.{below_type_shown, above_type_shown}
 use Rattle.mls_allowed.proofs.Plans.{planned_append}
 use Rattle.mls_allowed.proofs.WrittenParts.{standing, IsUnder, Reads, laws, under, Has, Fitting, Posed, PartsPosed, node_fits}
@@ -207,9 +208,10 @@ module _ (b : Before) (c : Constraint) (general special : type_scheme.Scheme) (w
           let there = it.inside x n at_x in (
             type_place (partner x),
             envs x there,
-            above_before b Own Under (Reads b c general special walked solved place type_place laid root binder names lets IsPlace Own children own_place own_part) (λ x. place (binder x))
+            by_above
+                (above_before b Own Under (Reads b c general special walked solved place type_place laid root binder names lets IsPlace Own children own_place own_part) (λ x. place (binder x))
                 (laws b c general special walked solved place type_place laid root binder names lets IsPlace Own children own_place own_part) s.puts (type_place (partner x)) (place (binder x)) n (binder_under x there)
-                (it.fit.binders s.puts (record { same = λ y m e. e; clear = λ clear. clear }) x n at_x),
+                (it.fit.binders s.puts (record { same = λ y m e. e; clear = λ clear. clear }) x n at_x)),
           );
     }
     type_covers steps (a_binder x) d it envs =
@@ -218,7 +220,10 @@ module _ (b : Before) (c : Constraint) (general special : type_scheme.Scheme) (w
           own_type special.root.0,
           type_place (partner x),
           envs x it.2,
-          all.further (type_place (partner x)) (place (binder x)) at_type (binder_under x it.2) (all.further (place (binder x)) (place (root r)) at_type it.1 root_under),
+          by_above
+              (above_before b Own Under (Reads b c general special walked solved place type_place laid root binder names lets IsPlace Own children own_place own_part) (λ x. place (binder x)) all [] (type_place (partner x)) at_type at_type
+              (all.further (type_place (partner x)) (place (binder x)) at_type (binder_under x it.2) (all.further (place (binder x)) (place (root r)) at_type it.1 root_under))
+              (above_itself b Own Under (Reads b c general special walked solved place type_place laid root binder names lets IsPlace Own children own_place own_part) (λ x. place (binder x)) all [] at_type (inl refl))),
         )
 
     -- a row whose plan is that of the part

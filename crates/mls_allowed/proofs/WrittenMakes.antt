@@ -18,7 +18,7 @@ use Rattle.mls_emit.specs.Conclusions.{IsGood, Concluded, AreBrought, IsReading,
 use Rattle.mls_layout.specs.Plans.{PlannedLine, a_step_with, planned_steps}
 use Rattle.mls_layout.specs.Rows.{at, concluded}
 use Rattle.mls_layout.specs.Runs.{a_step}
-use Rattle.mls_allowed.specs.Writings.{by_rule}
+use Rattle.mls_emit.specs.NodeLines.{by_rule}
 use Rattle.mls_allowed.proofs.Conclusions.{good_none, good_then, says_then, fits_of, joined_outer, over_itself, over_first, over_second, over_then}
 use Rattle.mls_allowed.proofs.Plans.{planned_append}
 use Rattle.mls_allowed.proofs.WrittenRows.{Writes, rule_behind, nothing_outer, IsAsked, asked_outer, asked_brought, has_then}
@@ -38,7 +38,7 @@ module _ (b : Before) (Own : ℕ → Type 0) (Below : ℕ → ℕ → Type 0) (R
   AllOuter scope [] = Unit {0}
   AllOuter scope (offered ∷ rest) = Outer scope offered × AllOuter scope rest
 
-  all_over : (start last : List BinderNode) (offered : List (List BinderNode)) → AreJoined node_of start offered last → Over start last × AllOver offered last
+  all_over : (start last : List BinderNode) (offered : List (List BinderNode)) → AreJoined node_of b.book start offered last → Over start last × AllOver offered last
   all_over start last offered no_more = (over_itself b Own Below Read node_of laws start, tt)
   all_over start last offered (one_more {e = e} {joined = joined} {rest = rest} it more) =
       let later = all_over joined last rest more in (
@@ -46,7 +46,7 @@ module _ (b : Before) (Own : ℕ → Type 0) (Below : ℕ → ℕ → Type 0) (R
         (over_then b Own Below Read node_of laws e joined last (over_second b Own Below Read node_of laws start e joined it) later.0, later.1),
       )
 
-  all_outer : (scope : List ℕ) (start last : List BinderNode) (offered : List (List BinderNode)) → AreJoined node_of start offered last → Outer scope start → AllOuter scope offered → Outer scope last
+  all_outer : (scope : List ℕ) (start last : List BinderNode) (offered : List (List BinderNode)) → AreJoined node_of b.book start offered last → Outer scope start → AllOuter scope offered → Outer scope last
   all_outer scope start last offered no_more outer all = outer
   all_outer scope start last offered (one_more {e = e} {joined = joined} {rest = rest} it more) outer all =
       all_outer scope joined last rest more (joined_outer b Own Below Read node_of laws scope start e joined outer all.0 it) all.1
@@ -129,7 +129,7 @@ module _ (b : Before) (Own : ℕ → Type 0) (Below : ℕ → ℕ → Type 0) (R
           (parts_brought (steps ++ planned_steps first) parts offered rest others outer (parts_then steps (planned_steps first) parts offered all.1) over.1 later)))
 
     -- no part has no binder
-    no_part : (steps : List StepLine) (parts : List Part) (offered : List (List BinderNode)) (d : List BinderNode) → ArePartsAsked steps parts offered → AreJoined node_of [] offered d
+    no_part : (steps : List StepLine) (parts : List Part) (offered : List (List BinderNode)) (d : List BinderNode) → ArePartsAsked steps parts offered → AreJoined node_of b.book [] offered d
         → parts ≡ [] → env_of d ≡ env.empty
     no_part steps [] [] d all no_more e = refl
     no_part steps [] (one ∷ rest) d all joined e = absurd all
@@ -137,7 +137,7 @@ module _ (b : Before) (Own : ℕ → Type 0) (Below : ℕ → ℕ → Type 0) (R
 
     pub make_written : (steps : List StepLine) (e : ℕ) (parts : List Part) (offered : List (List BinderNode)) (d : List BinderNode) (rcd : ℕ) (plan : List PlannedLine) (numbers : List ℕ) (top : ℕ)
         → form_at b.term_nodes e ≡ Some (form.Make parts) → node_at b.book rcd ≡ node.Rcd fields → HaveLabelsOf parts fields → rcd < length b.book → Own rcd → Below rcd top
-        → ArePartsAsked steps parts offered → AreJoined node_of [] offered d → AreBrought of steps d fields parts plan numbers
+        → ArePartsAsked steps parts offered → AreJoined node_of b.book [] offered d → AreBrought of steps d fields parts plan numbers
         → Writes b Own Below Read node_of laws steps e top scope (plan ++ a_step_with (a_step e (rule.Make numbers) d rcd) [] ∷ []) (by_rule (length (steps ++ planned_steps plan)) (a_step e (rule.Make numbers) d rcd))
     make_written steps e parts offered d rcd plan numbers top is_form is_rcd labels low own below asked joined adapts =
         rule_behind b Own Below Read node_of laws steps plan (a_step e (rule.Make numbers) d rcd) top scope brings.good

@@ -1,13 +1,12 @@
 -- The lines of a part: each node that is written concludes what fits it, so the lines of all nodes are allowed.
 --     node_fits       by induction over the tree
-use Rattle.std.proofs.Common.{◌≡◌, ◌⊎◌, inl, inr, ◌↔◌, ℕ, zero, suc, ◌<◌, Bool, true, false, List, [], ◌∷◌, ◌++◌, length, map, refl, sym, ap, ◌∙◌, subst, arith, Option, Some, None, cond, bytes_eq}
+use Rattle.std.proofs.Common.{◌≡◌, ◌⊎◌, inl, inr, ◌↔◌, ℕ, ◌<◌, Bool, true, false, List, [], ◌∷◌, ◌++◌, length, map, refl, sym, ap, ◌∙◌, subst, Option, Some, None, cond, bytes_eq}
 use Rattle.std.specs.Prelude.{Contains, IsSome, option_map}
 use Rattle.std.specs.FinMap as env
 use Rattle.std.specs.Ordering.{nat_cmp}
 use Rattle.std.proofs.lemmas.Slice.Eq.{bytes_eq-Decides}
 use Rattle.mls_book.specs.declared.book.Field.{Field}
 use Rattle.mls_book.specs.declared.book.NodeId.{NodeId}
-use Rattle.mls_book.specs.declared.book.Node.{Node}
 use Rattle.mls_book.specs.declared.book.Node.TheVariants as node
 use Rattle.mls_book.specs.Books.{node_at, field_at, IsOrdered}
 use Rattle.mls_book.specs.Schemes.{Env}
@@ -46,9 +45,10 @@ use Rattle.mls_layout.specs.Runs.{a_step}
 use Rattle.mls_layout.specs.Shown.{IsShown, claimed}
 use Rattle.mls_layout.specs.Trees.{IsTree, IsPlaceIn}
 use Rattle.mls_layout.specs.Uses.{NamesOnly, below_copy, above_copy}
-use Rattle.mls_allowed.specs.Writings.{by_rule, Standing, NamesKnown, node_of, IsLeafWritten, IsFunWritten, IsRecWritten, IsApplyWritten, IsProjectWritten, IsIfWritten, AreOffered, IsMakeWritten, IsGlobalWritten, IsInnerWritten, IsLetWritten, IsBefore, IsWriting}
+use Rattle.mls_emit.specs.NodeLines.{by_rule, Standing, NamesKnown, node_of, IsLeafWritten, IsFunWritten, IsRecWritten, IsApplyWritten, IsProjectWritten, IsIfWritten, AreOffered, IsMakeWritten, IsGlobalWritten, IsInnerWritten, IsLetWritten}
+use Rattle.mls_allowed.specs.Writings.{IsBefore, IsWriting}
 use Rattle.mls_allowed.specs.WrittenUses.{IsCopyAt, IsGlobalRead, IsInnerRead, IsLetRead, IsReadAs, IsUseRead}
-use Rattle.mls_allowed.proofs.Conclusions.{good_none, says_then}
+use Rattle.mls_allowed.proofs.Conclusions.{good_none, says_then, node_low}
 use Rattle.mls_allowed.proofs.OneField.{one_field}
 use Rattle.mls_allowed.proofs.PartClaims.{related_leaf, related_shown}
 use Rattle.mls_allowed.proofs.PartReadings.{Below, Read, one_below, part_reading}
@@ -57,12 +57,6 @@ use Rattle.mls_allowed.proofs.StandingParts.{field_there, field_some, arrow_at, 
 use Rattle.mls_allowed.proofs.WrittenMakes.{IsPartAsked, ArePartsAsked, make_written}
 use Rattle.mls_allowed.proofs.WrittenNames.{AreBeside, Settles, global_written, inner_written, settled_concludes, let_written}
 use Rattle.mls_allowed.proofs.WrittenRows.{Writes, IsAsked, has_then, writes_behind, number_written, truth_written, fun_written, fix_written, proj_written, app_written, choice_written}
-
--- a node that is no `Bot` is in the book
-node_low : (book : List Node) (n : ℕ) → (node_at book n ≡ node.Bot → ⊥) → n < length book
-node_low [] n other = absurd (other refl)
-node_low (first ∷ book) zero other = omega arith
-node_low (first ∷ book) (suc n) other = let low : n < length book = node_low book n other in omega arith
 
 module _ (b : Before) (c : Constraint) (general special : type_scheme.Scheme) (walked : List StatePair) (solved : IsSolvedTo c general special walked)
     (place type_place : ℕ → ℕ) (laid : IsLaidOut b.book c special walked place type_place) (root binder : ℕ → ℕ) (names : NamesKnown) (lets : List ℕ) (IsPlace : ℕ → ℕ → Type 0)

@@ -17,11 +17,11 @@ use Rattle.mls_deriv.specs.declared.derivation.StepRule.TheVariants as rule
 use Rattle.mls_deriv.specs.declared.claim.Pair.{Pair}
 use Rattle.mls_deriv.specs.declared.claim.Put.{Put}
 use Rattle.mls_deriv.specs.Steps.{env_of, form_at, Before, Says, IsAllowed, lit_number, lit_truth, fun, app, proj, choice, fix}
-use Rattle.mls_emit.specs.Conclusions.{IsGood, Conclusion, Concluded, a_binder, by_step, IsBrought, IsWith, IsWithout, IsReading, Concludes, HasConcluded, IsOuter, IsOver, IsOffered, IsJoined}
+use Rattle.mls_emit.specs.Conclusions.{IsGood, Conclusion, Concluded, a_binder, by_step, IsBrought, IsWith, IsWithout, IsReading, Concludes, HasConcluded, IsOuter, IsOver, ServesLater, as_it_was, below_own, IsOffered, IsJoined}
 use Rattle.mls_layout.specs.Plans.{PlannedLine, a_step_with, planned_steps}
 use Rattle.mls_layout.specs.Rows.{at, concluded, Fits, EndsWith}
 use Rattle.mls_layout.specs.Runs.{id, a_step}
-use Rattle.mls_allowed.specs.Writings.{by_rule}
+use Rattle.mls_emit.specs.NodeLines.{by_rule}
 use Rattle.mls_allowed.proofs.Conclusions.{good_then, good_step, says_then, Brings, brought, fits_of, offered_outer, joined_outer, over_itself, over_first, over_second, over_then, offered_covers, ruled}
 use Rattle.mls_allowed.proofs.Plans.{planned_append}
 use Rattle.mls_emit.proofs.Scopes.{same_key, itself_key}
@@ -64,7 +64,7 @@ module _ (b : Before) (Own : ℕ → Type 0) (Below : ℕ → ℕ → Type 0) (R
   Offered = IsOffered node_of
 
   abbrev Joined : (d e joined : List BinderNode) → Type 0
-  Joined = IsJoined node_of
+  Joined = IsJoined node_of b.book
 
   -- the plan is good, and its last step concludes this about the node
   pub record Writes (steps : List StepLine) (part top : ℕ) (scope : List ℕ) (plan : List PlannedLine) (c : Conclusion) : Type 0 where
@@ -163,16 +163,13 @@ module _ (b : Before) (Own : ℕ → Type 0) (Below : ℕ → ℕ → Type 0) (R
   }
 
   -- an environment with one binder more, or one less
-  over_with : (own inner : List BinderNode) (x i : ℕ) → IsWith own x i inner → ((m : ℕ) → env.get (env_of own) x ≡ Some m → i ≡ m) ⊎ Below i (node_of x) → Over own inner
-  over_with own inner x i with at_x y m found = go (one_or_other y x)
+  over_with : (own inner : List BinderNode) (x i : ℕ) → IsWith own x i inner → Below i (node_of x) → Over own inner
+  over_with own inner x i with below y m found = go (one_or_other y x)
     where
-      at_binder : y ≡ x → ((m : ℕ) → env.get (env_of own) x ≡ Some m → i ≡ m) ⊎ Below i (node_of x) → (i ≡ m) ⊎ Below i (node_of y)
-      at_binder same (inl all) = inl (all m (subst (λ z. env.get (env_of own) z ≡ Some m) same found))
-      at_binder same (inr below) = inr (subst (λ z. Below i (node_of z)) (sym same) below)
-
-      go : (y ≡ x) ⊎ (y ≡ x → ⊥) → (n : ℕ) × (env.get (env_of inner) y ≡ Some n) × ((n ≡ m) ⊎ Below n (node_of y))
-      go (inl same) = (i, subst (λ z. env.get (env_of inner) z ≡ Some i) (sym same) with.found, at_binder same at_x)
-      go (inr other) = (m, with.others y other ∙ found, inl refl)
+      go : (y ≡ x) ⊎ (y ≡ x → ⊥) → (n : ℕ) × (env.get (env_of inner) y ≡ Some n) × ServesLater b Own Below Read node_of y m n
+      go (inl is) =
+          (i, subst (λ z. env.get (env_of inner) z ≡ Some i) (sym is) with.found, below_own (subst (λ z. Below i (node_of z)) (sym is) below))
+      go (inr other) = (m, with.others y other ∙ found, as_it_was)
 
   outer_without : (scope : List ℕ) (own d : List BinderNode) (x : ℕ) → Outer (scope ++ x ∷ []) own → IsWithout own x d → Outer scope d
   outer_without scope own d x outer without = record {
@@ -225,7 +222,7 @@ module _ (b : Before) (Own : ℕ → Type 0) (Below : ℕ → ℕ → Type 0) (R
 
       step : Brings b Own Below Read node_of laws steps body inner to plan number
       step =
-          asked_brought steps body jtop (scope ++ x ∷ []) c to own inner plan number has asked (over_with own inner x from with (inr from_below))
+          asked_brought steps body jtop (scope ++ x ∷ []) c to own inner plan number has asked (over_with own inner x from with from_below)
           (fits_with (scope ++ x ∷ []) own inner x from to own_outer with from_low asked.low) adapts
 
   -- a recursion: its body and its binder at the node of its root
@@ -251,7 +248,7 @@ module _ (b : Before) (Own : ℕ → Type 0) (Below : ℕ → ℕ → Type 0) (R
 
       step : Brings b Own Below Read node_of laws steps body inner top plan number
       step =
-          asked_brought steps body top (scope ++ x ∷ []) c top own inner plan number has asked (over_with own inner x top with (inr top_below))
+          asked_brought steps body top (scope ++ x ∷ []) c top own inner plan number has asked (over_with own inner x top with top_below)
           (fits_with (scope ++ x ∷ []) own inner x top top own_outer with asked.low asked.low) adapts
 
   -- a projection: its body at a record with the one field

@@ -10,7 +10,7 @@ use Rattle.mls_deriv.specs.Steps.{HasFrom, env_of, form_at, Before}
 use Rattle.mls_emit.specs.Conclusions.{AreClear}
 use Rattle.mls_layout.specs.Rows.{Fits}
 use Rattle.mls_layout.specs.Uses.{IsCopyOf}
-use Rattle.mls_allowed.specs.Writings.{Standing, NamesKnown}
+use Rattle.mls_emit.specs.NodeLines.{Standing, NamesKnown}
 
 -- `IsPlace i` are the places of the type that is known of the name at node i, or of the first part of the let there,
 -- and `Own` the nodes of the part. The first parts of these lets are known.

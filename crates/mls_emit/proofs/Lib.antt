@@ -2,6 +2,10 @@ pub mod Scopes
 pub mod Runs
 pub mod Stepping
 pub mod Environments
+pub mod JoinedEnvironments
+pub mod Growing
+pub mod WrittenLeaves
+pub mod Bringing
 pub mod ReadLayouts
 pub mod CombinedParts
 pub mod TypeLayers

@@ -82,7 +82,7 @@ step_run b step puts pairs it = record {
       );
 }
 
-last_found : (steps : List StepLine) (step : StepLine) → slice_get (steps ++ step ∷ []) (length steps) ≡ Some step
+pub last_found : (steps : List StepLine) (step : StepLine) → slice_get (steps ++ step ∷ []) (length steps) ≡ Some step
 last_found [] step = refl
 last_found (first ∷ steps) step = last_found steps step
 

@@ -1,13 +1,18 @@
 -- Steps that are written bring a conclusion to an environment and a type.
 --     stays_adapted       no line
 --     sub_adapted         a step by pairs
-use Rattle.std.proofs.Common.{◌≡◌, ℕ, suc, List, [], ◌∷◌, ◌++◌, length, refl, sym, ap, ◌∙◌, subst, append-nil, Option}
+--     step_adds           a step that asks for no pair
+use Rattle.std.proofs.Common.{◌≡◌, ℕ, suc, ◌<◌, List, [], ◌∷◌, ◌++◌, length, refl, sym, ap, ◌∙◌, subst, arith, append-nil, Option}
+use Rattle.std.proofs.lemmas.List.Elements.{All-nil}
 use Rattle.mls_book.specs.declared.book.Node.{Node}
 use Rattle.mls_book.specs.declared.book.NodeId.{NodeId}
 use Rattle.mls_deriv.specs.declared.derivation.BinderNode.{BinderNode}
+use Rattle.mls_deriv.specs.declared.derivation.SectionLine.TheVariants as line
 use Rattle.mls_deriv.specs.declared.derivation.StepLine.{StepLine}
 use Rattle.mls_deriv.specs.declared.derivation.StepRule.TheVariants as rule
 use Rattle.mls_deriv.specs.declared.claim.Pair.{Pair}
+use Rattle.mls_deriv.specs.declared.claim.Put.{Put}
+use Rattle.mls_deriv.specs.Pairs.{Claims, IsJustified}
 use Rattle.mls_deriv.specs.Sections.{steps_of}
 use Rattle.mls_emit.specs.declared.derive.steps.Conclusion as written
 use Rattle.mls_emit.specs.declared.derive.steps.Steps.{Steps}
@@ -16,7 +21,7 @@ use Rattle.mls_layout.specs.Emitted.{asked_at, asked_after}
 use Rattle.mls_pairs.specs.PairLists.{IsPairList}
 use Rattle.mls_layout.specs.Plans.{a_step_with}
 use Rattle.mls_layout.specs.Runs.{a_step, lines_of}
-use Rattle.mls_emit.specs.steps.Stepping.{conclusion_of, pairs_over, AddsSub, AreCounted, Stands, AddsAdapted}
+use Rattle.mls_emit.specs.steps.Stepping.{conclusion_of, pairs_over, AddsStep, Adds, AddsSub, AreCounted, Stands, AddsAdapted}
 use Rattle.mls_emit.proofs.Runs.{no_steps, steps_append}
 
 -- a step by pairs asks for the pairs that go over from the step before
@@ -29,6 +34,27 @@ asked_is steps node from d u it =
 one_more : (steps : List StepLine) (step : StepLine) → suc (length steps) ≡ length (steps ++ step ∷ [])
 one_more [] step = refl
 one_more (first ∷ steps) step = ap suc (one_more steps step)
+
+-- no pair is asked for
+no_pairs : (book : List Node) (puts : List Put) → IsPairList book puts [] []
+no_pairs book puts = record {
+  justified = All-nil (λ (pair : Pair). IsJustified book puts (Claims []) pair.mode pair.left pair.right);
+  has = λ pair there. let low : there.0 < 0 = there.1 in absurd (omega arith);
+}
+
+-- a step that asks for no pair
+pub step_adds : (book : List Node) (old new : Steps) (step : StepLine) (c : written.Conclusion) → asked_at (steps_of old.lines) step ≡ [] → AreCounted old → AddsStep old new step c
+    → Adds book old new (a_step_with step [] ∷ [])
+step_adds book old new step c none counted it = record {
+  more = line.Step step ∷ [];
+  lines = it.lines;
+  are = ([], [], subst (λ (l : List Pair). IsPairList book [] l []) (sym none) (no_pairs book []), refl, refl);
+  counted =
+      it.count
+      ∙ (ap suc counted
+      ∙ (one_more (steps_of old.lines) step
+      ∙ ap (λ (l : List StepLine). length l) (sym (ap steps_of it.lines ∙ steps_append old.lines (line.Step step ∷ [])))));
+}
 
 module _ (book : List Node) (old : Steps) (node : ℕ) (from : written.Conclusion) (d : List BinderNode) (u : NodeId) where
   pub stays_adapted : AreCounted old → from.puts ≡ [] → from.root ≡ u → from.env ≡ d → AddsAdapted book old old node from d u from

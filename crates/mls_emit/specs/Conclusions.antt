@@ -1,6 +1,6 @@
 -- What the step of a node concludes, as the steps of a section are written. A step names the binders alone that are
 -- used below its node, and variables that stand for other nodes are still to be put in by a later step.
-use Rattle.std.specs.Prelude.{◌≡◌, ◌⊎◌, ℕ, suc, ◌<◌, List, [], ◌∷◌, ◌++◌, length, Contains, Some, None}
+use Rattle.std.specs.Prelude.{◌≡◌, ◌⊎◌, ℕ, suc, ◌<◌, List, [], ◌∷◌, ◌++◌, length, Contains, Option, Some, None}
 use Rattle.std.specs.FinMap as env
 use Rattle.mls_book.specs.declared.book.Field.{Field}
 use Rattle.mls_book.specs.declared.book.NodeId.{NodeId}
@@ -107,22 +107,33 @@ module _ (node_of : ℕ → ℕ) where
   IsOffered (a_binder x) u d = d ≡ entry x u ∷ []
   IsOffered (by_step c) u d = ((c.puts ≡ []) × (d ≡ c.env)) ⊎ IsPlaced c.env d
 
-  -- both environments in one: where a binder has two nodes, it may have its own
-  pub record IsJoined (d e joined : List BinderNode) : Type 0 where
+  -- In place of this node a binder has node n: it is the same, the binder's own, or a meet of two of which it is one.
+  abbrev pub Replaces : List Node → (x m n : ℕ) → Type 0
+  Replaces book x m n = (n ≡ m) ⊎ ((n ≡ node_of x)
+      ⊎ ((l r : NodeId) × (node_at book n ≡ node.Meet l r) × ((l.0 ≡ m) ⊎ (r.0 ≡ m))))
+
+  -- Where node n of a binder comes from that has these nodes in two environments: it is one of them, the binder's own, or
+  -- the meet of both.
+  abbrev pub ComesFrom : List Node → (left right : Option ℕ) → (x n : ℕ) → Type 0
+  ComesFrom book left right x n = (left ≡ Some n) ⊎ ((right ≡ Some n)
+      ⊎ (((n ≡ node_of x) × (m : ℕ) × (left ≡ Some m))
+      ⊎ ((l r : NodeId) × (node_at book n ≡ node.Meet l r) × (left ≡ Some l.0) × (right ≡ Some r.0))))
+
+  -- both environments in one: where a binder has two nodes, it may have its own, or their meet
+  pub record IsJoined (book : List Node) (d e joined : List BinderNode) : Type 0 where
     pub rising : IsRising joined
     pub first : (x m : ℕ) → env.get (env_of d) x ≡ Some m
-        → (n : ℕ) × (env.get (env_of joined) x ≡ Some n) × ((n ≡ m) ⊎ (n ≡ node_of x))
+        → (n : ℕ) × (env.get (env_of joined) x ≡ Some n) × Replaces book x m n
     pub second : (x m : ℕ) → env.get (env_of e) x ≡ Some m
-        → (n : ℕ) × (env.get (env_of joined) x ≡ Some n) × ((n ≡ m) ⊎ (n ≡ node_of x))
-    pub from : (x n : ℕ) → env.get (env_of joined) x ≡ Some n → (env.get (env_of d) x ≡ Some n)
-        ⊎ ((env.get (env_of e) x ≡ Some n)
-        ⊎ ((n ≡ node_of x) × (m : ℕ) × (env.get (env_of d) x ≡ Some m)))
+        → (n : ℕ) × (env.get (env_of joined) x ≡ Some n) × Replaces book x m n
+    pub from : (x n : ℕ) → env.get (env_of joined) x ≡ Some n
+        → ComesFrom book (env.get (env_of d) x) (env.get (env_of e) x) x n
 
   -- environments joined one after the other
-  pub data AreJoined : List BinderNode → List (List BinderNode) → List BinderNode → Type 0 where
-    no_more : {d : List BinderNode} → AreJoined d [] d
-    one_more : {d e joined last : List BinderNode} {rest : List (List BinderNode)} → IsJoined d e joined
-        → AreJoined joined rest last → AreJoined d (e ∷ rest) last
+  pub data AreJoined (book : List Node) : List BinderNode → List (List BinderNode) → List BinderNode → Type 0 where
+    no_more : {d : List BinderNode} → AreJoined book d [] d
+    one_more : {d e joined last : List BinderNode} {rest : List (List BinderNode)} → IsJoined book d e joined
+        → AreJoined book joined rest last → AreJoined book d (e ∷ rest) last
 
   -- What a node concludes by a step of its own, for a let: a binder has its own node, and where variables are put in
   -- before, the type and the binders have their own nodes.
@@ -188,7 +199,15 @@ module _ (b : Before) (Own : ℕ → Type 0) (Below : ℕ → ℕ → Type 0) (R
     pub above : (puts : List Put) → Extends b.book Own [] puts
         → (x m : ℕ) → env.get (env_of d) x ≡ Some m → IsBinderAbove puts (node_of x) m
 
-  -- the second environment has the binders of the first, each with the same node or one that is below its own
+  -- Node n of a binder serves a later environment where it had node m: it is the same, it is below the binder's own, or it
+  -- is a meet of which one member serves.
+  pub data ServesLater (x m : ℕ) : ℕ → Type 0 where
+    as_it_was : ServesLater x m m
+    below_own : {n : ℕ} → Below n (node_of x) → ServesLater x m n
+    first_member : {n : ℕ} (l r : NodeId) → node_at b.book n ≡ node.Meet l r → ServesLater x m l.0 → ServesLater x m n
+    second_member : {n : ℕ} (l r : NodeId) → node_at b.book n ≡ node.Meet l r → ServesLater x m r.0 → ServesLater x m n
+
+  -- the second environment has the binders of the first, each with a node that serves in place of its own
   abbrev pub IsOver : (d later : List BinderNode) → Type 0
   IsOver d later = (x m : ℕ) → env.get (env_of d) x ≡ Some m
-      → (n : ℕ) × (env.get (env_of later) x ≡ Some n) × ((n ≡ m) ⊎ Below n (node_of x))
+      → (n : ℕ) × (env.get (env_of later) x ≡ Some n) × ServesLater x m n

@@ -1,5 +1,6 @@
 pub mod Orders
 pub mod Conclusions
+pub mod NodeLines
 pub mod OneEach
 pub mod Derived
 pub mod ReadPlaces

@@ -73,6 +73,13 @@ pub record Stands (steps : List StepLine) (c : written.Conclusion) : Type 0 wher
   pub env : step.env ≡ c.env
   pub root : step.root ≡ c.root
 
+-- the lines of a plan are added, with the lists of their pairs over this book
+pub record Adds (book : List Node) (old new : Steps) (plan : List PlannedLine) : Type 0 where
+  pub more : List SectionLine
+  pub lines : new.lines ≡ old.lines ++ more
+  pub are : AreLinesOf book (steps_of old.lines) plan more
+  pub counted : AreCounted new
+
 -- The lines that are added bring the conclusion to this environment and type.
 pub record AddsAdapted (book : List Node) (old new : Steps) (node : ℕ) (from : written.Conclusion) (d : List BinderNode)
     (u : NodeId) (c : written.Conclusion) : Type 0 where

@@ -1,7 +1,10 @@
 //! Environments of steps with a binder more, or without it.
 ghost use Rattle.std.specs.Prelude.{◌≡◌, ◌++◌, ◌∷◌, [], IfOk, OnOk, true, false};
+ghost use Rattle.std.specs.BTreeSet.{IsOrdered};
+ghost use Rattle.std.specs.Ordering.{nat_cmp};
 ghost use Rattle.mls_deriv.specs.Steps.{IsRising};
 ghost use Rattle.mls_emit.specs.Conclusions.{IsWith, IsWithout};
+ghost use Rattle.mls_emit.specs.steps.Environments.{AreBinders, NotesBinders};
 ghost use Rattle.mls_emit.specs.steps.Stepping.{above, below};
 
 use mls_base::memory::Memory;
@@ -9,7 +12,7 @@ use mls_book::book::NodeId;
 use mls_deriv::derivation::{BinderNode, BinderNodes};
 use mls_parts::split::Numbers;
 use std::alloc::Global;
-use std::collections::BTreeMap;
+use std::collections::BTreeSet;
 
 // Adds an entry where it is kept.
 fn push_kept(left: &mut BinderNodes, entry: BinderNode, is_kept: bool) -> Result<(), Memory>
@@ -81,6 +84,28 @@ pub(crate) fn without(
     Ok(shorter)
 }
 
+// Notes the binders of an environment.
+fn note_binders(noted: &mut BTreeSet<usize>, env: &[BinderNode]) -> Result<(), Memory>
+    ensures { OnOk result (NotesBinders env.now noted.old noted.new) }
+{
+    for entry in env {
+        noted.insert(entry.binder)?;
+    }
+    Ok(())
+}
+
+// The binders that are noted, in rising order.
+fn listed(alloc: Global, noted: &BTreeSet<usize>) -> Result<Numbers, Memory>
+    ensures keys { IfOk result (λ binders. binders ≡ noted.now.keys) }
+    ensures ordered { IsOrdered nat_cmp noted.now }
+{
+    let mut binders = Numbers::new(alloc);
+    for binder in noted {
+        binders.push(*binder)?;
+    }
+    Ok(binders)
+}
+
 /// The binders of two environments, in rising order.
 ///
 /// # Errors
@@ -90,20 +115,12 @@ pub(crate) fn both(
     alloc: Global,
     first: &[BinderNode],
     second: &[BinderNode],
-) -> Result<Numbers, Memory> {
-    let mut met = BTreeMap::new(alloc);
-    add_binders(&mut met, first)?;
-    add_binders(&mut met, second)?;
-    let mut binders = Numbers::new(alloc);
-    for (binder, _) in met.iter() {
-        binders.push(*binder)?;
-    }
+) -> Result<Numbers, Memory>
+    ensures { IfOk result (AreBinders first.now second.now) }
+{
+    let mut noted = BTreeSet::new(alloc);
+    note_binders(&mut noted, first)?;
+    note_binders(&mut noted, second)?;
+    let binders = listed(alloc, &noted)?;
     Ok(binders)
-}
-
-fn add_binders(met: &mut BTreeMap<usize, ()>, env: &[BinderNode]) -> Result<(), Memory> {
-    for entry in env {
-        met.insert(entry.binder, ())?;
-    }
-    Ok(())
 }

@@ -61,8 +61,8 @@ pub(crate) fn node_of(env: &[BinderNode], binder: usize) -> Option<NodeId>
     }
 }
 
-// Whether two environments are the same.
-fn are_same(env: &[BinderNode], other: &[BinderNode]) -> bool
+/// Whether two environments are the same.
+pub(crate) fn are_same(env: &[BinderNode], other: &[BinderNode]) -> bool
     ensures { IsTrue result → env.now ≡ other.now }
 {
     env == other
