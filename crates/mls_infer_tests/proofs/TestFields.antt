@@ -1,5 +1,5 @@
 -- The projections of the tests are terms.
-use Rattle.std.proofs.Common.{true, List, ℕ, zero, suc, ◌<◌, ◌≢◌, [], ◌∷◌, All, refl, arith}
+use Rattle.std.proofs.Common.{◌≡◌, true, List, ℕ, zero, suc, ◌≢◌, [], ◌∷◌, ap, get_or, refl, arith}
 use Rattle.std.specs.List.{AllPairs}
 use Rattle.mls_automaton.proofs.Lists.{Contains-here}
 use Rattle.mls_term.specs.declared.term.Part.{Part}
@@ -24,9 +24,12 @@ record_of e f = record { label = first_label; child = e } ∷ record { label = s
 abbrev record_tree : TermTree → TermTree → TermTree
 record_tree e f = make 0 (a_field first_label e (a_field second_label f no_field))
 
+differs : (a b : ℕ) → a ≡ 108 → b ≡ 109 → a ≡ b → ⊥
+differs a b first second same = omega arith
+
 two_labels : AllPairs {X = List ℕ} (λ x y. x ≢ y) (first_label ∷ second_label ∷ [])
 two_labels zero zero d less low = absurd (omega arith)
-two_labels zero (suc zero) d less low = λ same. absurd (cc)
+two_labels zero (suc zero) d less low = λ same. differs 108 109 refl refl (ap (λ (xs : List ℕ). get_or xs 0 0) same)
 two_labels zero (suc (suc j)) d less low = absurd (omega arith)
 two_labels (suc i) zero d less low = absurd (omega arith)
 two_labels (suc i) (suc j) d less low = absurd (omega arith)
