@@ -1,10 +1,9 @@
 -- Some of the states of a table, as the list of their numbers.
 use Rattle.std.proofs.Common.{◌≡◌, ◌↔◌, ℕ, Bool, true, false, List, [], ◌∷◌, ◌++◌, All, Contains, get_or, refl, ap, ◌∙◌}
-use Rattle.std.proofs.lemmas.List.Elements.{All-contains, All-map}
+use Rattle.std.proofs.lemmas.List.Elements.{All-map}
 use Rattle.mls_automaton.specs.declared.state_set.StateId.{StateId}
 use Rattle.mls_automaton.specs.Automata.{Automaton, HasFlow}
 use Rattle.mls_automaton.specs.Reached.{Names}
-use Rattle.mls_automaton.proofs.Lists.{All-contained}
 use Rattle.mls_biunify.specs.Live.{IsRegion, numbers_in}
 
 pub numbers-more : (old new : List StateId) (s : StateId) → new ≡ old ++ s ∷ [] → numbers_in new ≡ numbers_in old ++ s.0 ∷ []

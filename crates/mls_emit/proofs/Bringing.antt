@@ -3,7 +3,7 @@
 --     step_stands                 the step that was added last
 --     bound_taken, step_taken     the step of a node
 --     taken_brings                brought to an environment and a type
-use Rattle.std.proofs.Common.{◌≡◌, ℕ, suc, List, [], ◌∷◌, ◌++◌, length, refl, sym, ap, ◌∙◌, subst, append-nil, append_assoc, slice_get, Option, Some}
+use Rattle.std.proofs.Common.{◌≡◌, ℕ, suc, List, [], ◌∷◌, ◌++◌, length, refl, sym, ap, ◌∙◌, subst, append-nil, append_assoc, slice_get, Some}
 use Rattle.std.specs.Prelude.{option_map}
 use Rattle.std.specs.BTreeMap.{get}
 use Rattle.std.specs.Ordering.{nat_cmp}
@@ -22,7 +22,7 @@ use Rattle.mls_emit.specs.declared.derive.steps.Conclusion as written
 use Rattle.mls_emit.specs.declared.derive.steps.Steps.{Steps}
 use Rattle.mls_emit.specs.declared.derive.writer.Concluded.TheVariants.{Bound, Step}
 use Rattle.mls_emit.specs.declared.derive.writer.Writer as state
-use Rattle.mls_emit.specs.Conclusions.{Conclusion, Concluded, a_binder, by_step, bound_as, IsAdapted, IsBrought}
+use Rattle.mls_emit.specs.Conclusions.{Conclusion, Concluded, a_binder, by_step, IsAdapted, IsBrought}
 use Rattle.mls_emit.specs.steps.Stepping.{conclusion_of, AddsStep, Adds, AreCounted, Stands, AddsAdapted}
 use Rattle.mls_emit.specs.steps.Writer.{concluded_of, IsTaken, KeepsOthers, TakesStep, BringsNode}
 use Rattle.mls_emit.proofs.Runs.{no_steps, steps_append, last_found}

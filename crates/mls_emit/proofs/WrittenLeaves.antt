@@ -1,6 +1,6 @@
 -- The lines of numbers, truth values and binders.
 --     leaf_writes, bound_writes
-use Rattle.std.proofs.Common.{◌≡◌, ℕ, List, [], ◌∷◌, refl, sym, ◌∙◌, append-nil}
+use Rattle.std.proofs.Common.{◌≡◌, ℕ, [], ◌∷◌, refl, sym, ◌∙◌, append-nil}
 use Rattle.std.specs.Prelude.{Contains}
 use Rattle.mls_book.specs.declared.book.Node.{Node}
 use Rattle.mls_book.specs.declared.book.NodeId.{NodeId}

@@ -1,6 +1,5 @@
-use Rattle.std.proofs.Common.{◌↔◌, ℕ, List, Contains, get_or, subst, sym}
+use Rattle.std.proofs.Common.{ℕ, List, Contains, get_or, subst}
 use Rattle.std.proofs.lemmas.List.Elements.{Contains-get_or}
-use Rattle.mls_biunify.specs.steps.Settlement.{GetsEdges, GivenBy}
 use Rattle.mls_biunify.proofs.Collected.{Collected, collected-none, collected-more, collected-all}
 use Rattle.mls_biunify.proofs.SettledEdges.{Gives, edges-are, end-there, past-given}
 use Rattle.mls_biunify.proofs.settlement.new_edges.Goals as goal

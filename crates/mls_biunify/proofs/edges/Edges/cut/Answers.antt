@@ -1,4 +1,4 @@
-use Rattle.std.proofs.Common.{ℕ, ◌<◌, ◌∙◌, List, All, length, subst, sym}
+use Rattle.std.proofs.Common.{◌<◌, ◌∙◌, All, length, subst, sym}
 use Rattle.mls_biunify.specs.steps.TwoWay.{AreCuts, HasPair, LeavesPairs, TwoWay}
 use Rattle.mls_biunify.proofs.CutSets.{cut-is, cut-leaves}
 use Rattle.mls_biunify.proofs.edges.Edges.cut.Goals as goal

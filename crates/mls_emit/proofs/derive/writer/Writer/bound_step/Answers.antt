@@ -1,4 +1,4 @@
-use Rattle.std.proofs.Common.{List, ◌∷◌, [], subst}
+use Rattle.std.proofs.Common.{List, subst}
 use Rattle.mls_deriv.specs.declared.derivation.BinderNode.{BinderNode}
 use Rattle.mls_deriv.specs.declared.derivation.StepRule.TheVariants as rule
 use Rattle.mls_emit.specs.steps.Stepping.{AddsStep}

@@ -1,5 +1,4 @@
 use Rattle.std.proofs.Common.{◌≡◌, take, map}
-use Rattle.mls_deriv.specs.declared.derivation.BinderNode.{BinderNode}
 use Rattle.mls_emit.specs.steps.Writer.{own_node}
 use Rattle.mls_emit.proofs.JoinedEnvironments.{own_entry}
 use Rattle.mls_emit.proofs.derive.writer.Writer.placed.Given as goal
