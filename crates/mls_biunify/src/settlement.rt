@@ -47,7 +47,7 @@ pub fn touched(alloc: Global, relation: &Relation, table: &Table) -> Result<Stat
     Ok(set)
 }
 
-// The states whose old heads go into the new head of a state, and whose edges go into its own.
+// The states whose old heads go into the new head of a state.
 fn members(
     alloc: Global,
     relation: &Relation,
