@@ -91,23 +91,3 @@ impl<T: Drop> List<T> {
         self.items.as_slice()
     }
 }
-
-#[cfg(test)]
-mod tests {
-    use super::*;
-    use std::test::Fail;
-
-    #[test]
-    fn holds_items_in_order(rt: HostRuntime) -> Result<(), Fail> {
-        let mut list = List::new(rt.alloc());
-        list.reserve(2)?;
-        assert!(rt; list.is_empty());
-        list.push(3)?;
-        list.push(5)?;
-        assert_eq!(rt; list.as_slice(), [3, 5].as_slice());
-        list.reverse();
-        assert_eq!(rt; list.as_slice(), [5, 3].as_slice());
-        assert_eq!(rt; list.reversed().len(), 2);
-        Ok(())
-    }
-}

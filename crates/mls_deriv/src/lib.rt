@@ -23,10 +23,6 @@ mod stand;
 pub mod steps;
 pub mod sub;
 pub mod table;
-#[cfg(test)]
-mod tests;
-#[cfg(test)]
-mod tests_of_reading;
 pub mod verify;
 pub mod walk;
 mod words;

@@ -1,5 +1,5 @@
 -- The heads that atoms give.
-use Rattle.std.proofs.Common.{◌≡◌, ℕ, Bool, true, false, List, [], ◌∷◌, map, refl, ap, get_or, All, Some, None, cond}
+use Rattle.std.proofs.Common.{◌≡◌, ℕ, Bool, true, false, List, [], ◌∷◌, map, refl, sym, subst, ap, arith, length, get_or, All, Some, None, cond}
 use Rattle.std.specs.Prelude.{bytes_eq, find, option_map}
 use Rattle.std.specs.Ordering.{nat_cmp}
 use Rattle.std.specs.declared.cmp.Ordering.TheVariants.{Less}
@@ -12,11 +12,13 @@ use Rattle.mls_book.specs.declared.book.Node.TheVariants as node
 use Rattle.mls_book.specs.Books.{node_at, field_at, AreRising, IsBook, IsOrdered}
 use Rattle.mls_automaton.specs.declared.automaton.Polarity.{Polarity}
 use Rattle.mls_automaton.specs.declared.automaton.FieldSet.{FieldSet}
-use Rattle.mls_automaton.specs.Heads.{combined, parts_of, set_at, AreRising as AreRisingSets}
+use Rattle.mls_automaton.specs.declared.automaton.Head.{Head}
+use Rattle.mls_automaton.specs.Heads.{combined, combined_two, no_parts, parts_of, set_at, AreRising as AreRisingSets, IsSameParts}
 use Rattle.mls_automaton.specs.Models.{HasRisingLabels}
 use Rattle.mls_scheme.specs.ReadAutomata.{atom_parts}
 use Rattle.mls_scheme.specs.steps.Heads.{atom_head_of, field_set_of, heads_of}
-use Rattle.mls_scheme.proofs.CombinedAll.{all_parts, HasLabels}
+use Rattle.mls_scheme.proofs.CombinedAll.{all_parts, same-refl, HasLabels}
+use Rattle.mls_scheme.proofs.MetStates.{combined-none}
 
 set-of : (fields : List Field) (label : List ℕ) → set_at (map field_set_of fields) label ≡ option_map (λ (id : NodeId). id.0 ∷ []) (field_at label fields)
 set-of [] label = refl
@@ -64,3 +66,16 @@ heads-parts p nodes atoms = ap (combined p) (go atoms)
 
 pub heads-labels : (nodes : List Node) → IsBook nodes → (atoms : List ℕ) → All HasLabels (heads_of nodes atoms)
 heads-labels nodes is atoms = All-map HasLabels (λ j. atom_head_of (node_at nodes j)) atoms (λ k d low. atom-labels (get_or atoms k d) (node_at nodes (get_or atoms k d)) (is (get_or atoms k d)))
+
+-- the head of a list of one atom
+pub one-atom : (p : Polarity) (nodes : List Node) (atoms : List ℕ) (d : ℕ) (head : Head) → IsBook nodes → length atoms ≡ 1
+    → head ≡ atom_head_of (node_at nodes (get_or atoms 0 d))
+    → HasRisingLabels head.fields × IsSameParts (parts_of head) (combined p (map (λ j. atom_parts (node_at nodes j)) atoms))
+one-atom p nodes [] d head is one at = absurd (omega arith)
+one-atom p nodes (j ∷ []) d head is one at = (
+  subst (λ (h : Head). HasRisingLabels h.fields) (sym at) (atom-labels j (node_at nodes j) (is j)),
+  subst (λ (h : Head). IsSameParts (parts_of h) (combined_two p (atom_parts (node_at nodes j)) no_parts)) (sym at)
+      (subst (IsSameParts (parts_of (atom_head_of (node_at nodes j)))) (sym (combined-none p (atom_parts (node_at nodes j))))
+      (subst (IsSameParts (parts_of (atom_head_of (node_at nodes j)))) (atom-is (node_at nodes j)) (same-refl (parts_of (atom_head_of (node_at nodes j)))))),
+)
+one-atom p nodes (j ∷ k ∷ rest) d head is one at = absurd (omega arith)

@@ -156,6 +156,10 @@ pub fn layer_head(alloc: Global, book: &Book, p: Polarity, atoms: &[usize]) -> R
     ensures same { IfOk result (λ head. IsSameParts (parts_of head)
         (combined p (map (λ j. atom_parts (node_at book.now j)) atoms.now))) }
 {
+    if atoms.len() == 1 {
+        let alone = atom_head(alloc, book.node(NodeId(atoms[0])))?;
+        return Ok(alone);
+    }
     let heads = atom_heads(alloc, book, atoms)?;
     let head = combine_all(alloc, p, heads)?;
     Ok(head)

@@ -6,15 +6,14 @@ ghost use Rattle.mls_scheme.specs.steps.Layers.{atom_step, left_step, AreAtoms};
 use crate::visits::Visits;
 use mls_base::memory::Memory;
 use mls_book::book::{Book, Node, NodeId};
+use smallvec::SmallVec;
 use std::alloc::Global;
 
+/// Atoms of a node. Nearly all nodes have so few, and need no allocation.
+pub type Atoms = SmallVec<usize, 2>;
+
 // What is left to look at behind a node, and the node itself if it is an atom.
-fn look_at(
-    atoms: &mut Vec<usize>,
-    left: &mut Vec<usize>,
-    i: usize,
-    node: &Node,
-) -> Result<(), Memory>
+fn look_at(atoms: &mut Atoms, left: &mut Vec<usize>, i: usize, node: &Node) -> Result<(), Memory>
     ensures atoms { OnOk result (atoms.new.items ≡ atoms.old.items ++ atom_step i node.now) }
     ensures left { OnOk result (left.new.items ≡ left.old.items ++ left_step node.now) }
 {
@@ -47,6 +46,15 @@ fn is_atom(node: &Node) -> bool
     }
 }
 
+// One atom.
+fn alone(alloc: Global, atom: usize) -> Atoms
+    ensures { result.items ≡ atom ∷ [] }
+{
+    let mut atoms = SmallVec::new(alloc);
+    atoms.push_reserved(atom);
+    atoms
+}
+
 /// The atoms of a node, each once: those that are no join and no meet, which it reaches through joins and meets alone.
 /// It takes no recursion, and looks at each node of the layer once.
 ///
@@ -58,7 +66,7 @@ pub fn atoms_of(
     visits: &mut Visits,
     book: &Book,
     top: usize,
-) -> Result<Vec<usize>, Memory>
+) -> Result<Atoms, Memory>
     requires book { IsClosedBook book.now }
     requires top { top < length book.now }
     requires limit { visits.old.limit ≡ length book.now }
@@ -66,11 +74,10 @@ pub fn atoms_of(
     ensures atoms { IfOk result (λ found. AreAtoms book.now top found.items) }
 {
     if is_atom(book.node(NodeId(top))) {
-        let alone = vec![in alloc; top]?;
-        return Ok(alone);
+        return Ok(alone(alloc, top));
     }
     visits.restart();
-    let mut found = Vec::new(alloc);
+    let mut found = SmallVec::new(alloc);
     let mut left = vec![in alloc; top]?;
     while let Some(i) = left.pop() {
         if !visits.contains(i) {

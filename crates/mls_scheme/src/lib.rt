@@ -10,13 +10,5 @@ mod layer;
 pub mod read;
 mod signs;
 mod states;
-#[cfg(test)]
-mod tables;
-#[cfg(test)]
-mod tests;
-#[cfg(test)]
-mod tests_of_books;
-#[cfg(test)]
-mod tests_of_reading;
 mod uses;
 mod visits;

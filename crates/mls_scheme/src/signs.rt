@@ -101,7 +101,7 @@ fn no_signs(alloc: Global, many: usize) -> Result<Vec<Option<Polarity>>, Memory>
     ensures size { IfOk result (λ signs. length signs.items ≡ many) }
     ensures none { IfOk result (λ signs. (i : _) → sign_at signs.items i ≡ None) }
 {
-    let mut signs = Vec::new(alloc);
+    let mut signs = Vec::with_capacity(alloc, many)?;
     while signs.len() < many {
         signs.push(None)?;
     }

@@ -78,7 +78,7 @@ pub fn states_of(
     ensures { IfOk result (AreNodeStates book.now signs.now) }
 {
     let mut visits = Visits::new(alloc, book.len())?;
-    let mut automaton = Automaton::new(alloc);
+    let mut automaton = Automaton::with_room(alloc, signs.len())?;
     for i in 0..signs.len() {
         add_node(alloc, &mut visits, &mut automaton, book, i, signs[i])?;
     }

@@ -17,7 +17,7 @@ fn no_uses(alloc: Global, vars: usize) -> Result<Vec<StateSet>, Memory>
     ensures size { IfOk result (λ uses. length uses.items ≡ vars) }
     ensures none { IfOk result (λ uses. (x : _) → uses_at uses.items x ≡ []) }
 {
-    let mut uses = Vec::new(alloc);
+    let mut uses = Vec::with_capacity(alloc, vars)?;
     while uses.len() < vars {
         uses.push(StateSet::new(alloc))?;
     }

@@ -1,5 +1,5 @@
 //! The nodes of the book of a type.
-ghost use Rattle.std.specs.Prelude.{◌≡◌, [], ◌∷◌, reverse, None, IfOk, OnOk};
+ghost use Rattle.std.specs.Prelude.{◌≡◌, ◌+◌, [], ◌∷◌, reverse, None, IfOk, OnOk};
 ghost use Rattle.mls_book.specs.declared.book.Node.TheVariants.{Rcd};
 ghost use Rattle.mls_typetext.specs.Books.{id, node_in};
 ghost use Rattle.mls_typetext.specs.steps.Laying.{AreNodesOf, at_place, closed, end_at, enter, hold, in_order};
@@ -115,31 +115,16 @@ impl Layout {
             Member::Top => self.hold(Node::Top),
             Member::Bot => self.hold(Node::Bot),
             Member::Arrow(domain, codomain) => {
-                let next = sum(below, sum(domain.here, domain.under)?)?;
-                let node = Node::Arrow(self.node_of(below, domain)?, self.node_of(next, codomain)?);
-                self.todo(
-                    LayoutPlace::Block(below, domain),
-                    LayoutPlace::Block(next, codomain),
-                )?;
-                self.hold(node)
+                let (from, to) = self.two_blocks(below, domain, codomain)?;
+                self.hold(Node::Arrow(from, to))
             }
             Member::Join(left, right) => {
-                let (next, under) = (sum(layer, left.here)?, sum(below, left.under)?);
-                let node = Node::Join(self.node_of(layer, left)?, self.node_of(next, right)?);
-                self.todo(
-                    LayoutPlace::Part(layer, below, left),
-                    LayoutPlace::Part(next, under, right),
-                )?;
-                self.hold(node)
+                let (first, second) = self.two_parts(layer, below, left, right)?;
+                self.hold(Node::Join(first, second))
             }
             Member::Meet(left, right) => {
-                let (next, under) = (sum(layer, left.here)?, sum(below, left.under)?);
-                let node = Node::Meet(self.node_of(layer, left)?, self.node_of(next, right)?);
-                self.todo(
-                    LayoutPlace::Part(layer, below, left),
-                    LayoutPlace::Part(next, under, right),
-                )?;
-                self.hold(node)
+                let (first, second) = self.two_parts(layer, below, left, right)?;
+                self.hold(Node::Meet(first, second))
             }
             Member::Rec(body) => self.enter(layer, below, size, body),
             Member::Record => {
@@ -149,6 +134,57 @@ impl Layout {
             // These stand among the fields of a record.
             Member::Last | Member::Field(_, _) => Ok(()),
         }
+    }
+
+    // The nodes of the domain and codomain of a function, which are still to come, from `below` on.
+    fn two_blocks(
+        &mut self,
+        below: usize,
+        domain: Size,
+        codomain: Size,
+    ) -> Result<(NodeId, NodeId), Memory>
+        ensures first { IfOk result (λ nodes. nodes.0 ≡ id (stand below (state_of self.old).recs domain)) }
+        ensures second { IfOk result (λ nodes. nodes.1
+            ≡ id (stand (below + (domain.here + domain.under)) (state_of self.old).recs codomain)) }
+        ensures todo { OnOk result (state_of self.new
+            ≡ todo
+            (LayoutTask.At (LayoutPlace.Block (below + (domain.here + domain.under)) codomain)
+            ∷ LayoutTask.At (LayoutPlace.Block below domain) ∷ [])
+            (state_of self.old)) }
+    {
+        let next = sum(below, sum(domain.here, domain.under)?)?;
+        let nodes = (self.node_of(below, domain)?, self.node_of(next, codomain)?);
+        self.todo(
+            LayoutPlace::Block(below, domain),
+            LayoutPlace::Block(next, codomain),
+        )?;
+        Ok(nodes)
+    }
+
+    // The nodes of the two parts of a join or a meet, which are still to come.
+    fn two_parts(
+        &mut self,
+        layer: usize,
+        below: usize,
+        left: Size,
+        right: Size,
+    ) -> Result<(NodeId, NodeId), Memory>
+        ensures first { IfOk result (λ nodes. nodes.0 ≡ id (stand layer (state_of self.old).recs left)) }
+        ensures second { IfOk result (λ nodes. nodes.1
+            ≡ id (stand (layer + left.here) (state_of self.old).recs right)) }
+        ensures todo { OnOk result (state_of self.new
+            ≡ todo
+            (LayoutTask.At (LayoutPlace.Part (layer + left.here) (below + left.under) right)
+            ∷ LayoutTask.At (LayoutPlace.Part layer below left) ∷ [])
+            (state_of self.old)) }
+    {
+        let (next, under) = (sum(layer, left.here)?, sum(below, left.under)?);
+        let nodes = (self.node_of(layer, left)?, self.node_of(next, right)?);
+        self.todo(
+            LayoutPlace::Part(layer, below, left),
+            LayoutPlace::Part(next, under, right),
+        )?;
+        Ok(nodes)
     }
 
     // Takes a piece of the record that is open, where the layers of the fields to come begin at `below`.
@@ -258,142 +294,4 @@ pub fn lay_out(alloc: Global, members: Vec<Member>, size: Size) -> Result<Vec<No
     }
     layout.next()?;
     Ok(layout.nodes)
-}
-
-#[cfg(test)]
-mod tests {
-    use super::*;
-    use crate::measure::measure;
-    use crate::piece::Item;
-    use mls_book::name::Name;
-    use std::test::Fail;
-
-    // A name of these bytes.
-    fn named(alloc: Global, bytes: &[u8]) -> Result<Name, Memory> {
-        if mls_base::spelling::is_name(bytes) {
-            Name::new(alloc, bytes)
-        } else {
-            Err(Memory)
-        }
-    }
-
-    // The piece of a field with this label.
-    fn field(alloc: Global, label: &[u8]) -> Result<Item, Memory> {
-        Ok(Item::Field(named(alloc, label)?))
-    }
-
-    // A record with these labels at these nodes.
-    fn record(alloc: Global, fields: &[(&[u8], usize)]) -> Result<Node, Memory> {
-        let mut all = Fields::new(alloc);
-        for (label, node) in fields {
-            all.push(Field {
-                label: named(alloc, label)?,
-                node: NodeId(*node),
-            })?;
-        }
-        Ok(Node::Rcd(all))
-    }
-
-    // The nodes of the book of a type, from the first to the last, where its pieces are given in this order too.
-    fn book(alloc: Global, items: Vec<Item>) -> Result<Vec<Node>, Memory> {
-        let mut backward = items;
-        backward.reverse();
-        let measured = measure(alloc, backward)?;
-        let mut nodes = lay_out(alloc, measured.members, measured.size)?;
-        nodes.reverse();
-        Ok(nodes)
-    }
-
-    #[test]
-    fn parts_of_a_function_have_nodes_of_their_own(rt: HostRuntime) -> Result<(), Fail> {
-        let alloc = rt.alloc();
-        let items = vec![in alloc;
-            Item::Variable(named(alloc, b"a")?),
-            Item::Variable(named(alloc, b"a")?),
-            Item::Arrow,
-        ]?;
-        let want = vec![in alloc;
-            Node::Arrow(NodeId(1), NodeId(2)),
-            Node::Var(0),
-            Node::Var(0),
-        ]?;
-        assert_eq!(rt; book(alloc, items)?, want);
-        Ok(())
-    }
-
-    #[test]
-    fn recursive_names_stand_for_nodes_around_them(rt: HostRuntime) -> Result<(), Fail> {
-        let alloc = rt.alloc();
-        let items = vec![in alloc;
-            Item::Again(0),
-            Item::Int,
-            Item::Join,
-            Item::Last,
-            field(alloc, b"l")?,
-            Item::Record,
-            Item::Rec,
-        ]?;
-        let want = vec![in alloc;
-            record(alloc, &[(b"l", 2)])?,
-            Node::Int,
-            Node::Join(NodeId(0), NodeId(1)),
-        ]?;
-        assert_eq!(rt; book(alloc, items)?, want);
-        let items = vec![in alloc;
-            Item::Again(1),
-            Item::Rec,
-            Item::Last,
-            field(alloc, b"l")?,
-            Item::Record,
-            Item::Rec,
-        ]?;
-        let want = vec![in alloc; record(alloc, &[(b"l", 0)])?]?;
-        assert_eq!(rt; book(alloc, items)?, want);
-        Ok(())
-    }
-
-    #[test]
-    fn fields_stand_by_their_labels_and_their_nodes_by_the_text(
-        rt: HostRuntime,
-    ) -> Result<(), Fail> {
-        let alloc = rt.alloc();
-        let items = vec![in alloc;
-            Item::Int,
-            Item::Last,
-            field(alloc, b"m")?,
-            Item::Record,
-            Item::Bool,
-            Item::Top,
-            Item::Last,
-            field(alloc, b"a")?,
-            field(alloc, b"n")?,
-            field(alloc, b"l")?,
-            Item::Record,
-        ]?;
-        let want = vec![in alloc;
-            record(alloc, &[(b"a", 4), (b"l", 1), (b"n", 3)])?,
-            record(alloc, &[(b"m", 2)])?,
-            Node::Int,
-            Node::Bool,
-            Node::Top,
-        ]?;
-        assert_eq!(rt; book(alloc, items)?, want);
-        Ok(())
-    }
-
-    #[test]
-    fn goes_as_deep_as_memory_allows(rt: HostRuntime) -> Result<(), Fail> {
-        let alloc = rt.alloc();
-        let mut items = vec![in alloc; Item::Int]?;
-        for _ in 0..100_000 {
-            items.push(Item::Last)?;
-            items.push(field(alloc, b"l")?)?;
-            items.push(Item::Record)?;
-        }
-        let nodes = book(alloc, items)?;
-        assert_eq!(rt; nodes.len(), 100_001);
-        assert_eq!(rt; nodes[0], record(alloc, &[(b"l", 1)])?);
-        assert_eq!(rt; nodes[100_000], Node::Int);
-        Ok(())
-    }
 }

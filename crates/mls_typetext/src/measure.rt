@@ -38,30 +38,15 @@ impl Measuring {
         ensures { OnOk result (state_of self.new ≡ measured item (state_of self.old)) }
     {
         match item {
-            Item::Variable(name) => {
-                let number = self.number(name)?;
-                self.add(Member::Var(number), LEAF)
-            }
+            Item::Variable(name) => self.take_variable(name),
             Item::Again(k) => self.add(Member::Again(k), again_size(k)),
             Item::Bool => self.add(Member::Bool, LEAF),
             Item::Int => self.add(Member::Int, LEAF),
             Item::Top => self.add(Member::Top, LEAF),
             Item::Bot => self.add(Member::Bot, LEAF),
-            Item::Arrow => {
-                let (domain, codomain) = self.two_sizes();
-                self.add(
-                    Member::Arrow(domain, codomain),
-                    arrow_size(domain, codomain)?,
-                )
-            }
-            Item::Join => {
-                let (left, right) = self.two_sizes();
-                self.add(Member::Join(left, right), join_size(left, right)?)
-            }
-            Item::Meet => {
-                let (left, right) = self.two_sizes();
-                self.add(Member::Meet(left, right), join_size(left, right)?)
-            }
+            Item::Arrow => self.take_arrow(),
+            Item::Join => self.take_join(),
+            Item::Meet => self.take_meet(),
             Item::Rec => {
                 let body = self.last_size();
                 self.add(Member::Rec(body), rec_size(body))
@@ -71,12 +56,52 @@ impl Measuring {
                 self.add(Member::Record, record_size(total))
             }
             Item::Last => self.add_total(Member::Last, 0),
-            Item::Field(label) => {
-                let size = self.last_size();
-                let total = self.last_total();
-                self.add_total(Member::Field(label, size), sum(nodes(size)?, total)?)
-            }
+            Item::Field(label) => self.take_field(label),
         }
+    }
+
+    // Takes a variable.
+    fn take_variable(&mut self, name: Name) -> Result<(), Memory>
+        ensures { OnOk result (state_of self.new ≡ measured (Item.Variable name) (state_of self.old)) }
+    {
+        let number = self.number(name)?;
+        self.add(Member::Var(number), LEAF)
+    }
+
+    // Takes a function.
+    fn take_arrow(&mut self) -> Result<(), Memory>
+        ensures { OnOk result (state_of self.new ≡ measured Item.Arrow (state_of self.old)) }
+    {
+        let (domain, codomain) = self.two_sizes();
+        self.add(
+            Member::Arrow(domain, codomain),
+            arrow_size(domain, codomain)?,
+        )
+    }
+
+    // Takes a join.
+    fn take_join(&mut self) -> Result<(), Memory>
+        ensures { OnOk result (state_of self.new ≡ measured Item.Join (state_of self.old)) }
+    {
+        let (left, right) = self.two_sizes();
+        self.add(Member::Join(left, right), join_size(left, right)?)
+    }
+
+    // Takes a meet.
+    fn take_meet(&mut self) -> Result<(), Memory>
+        ensures { OnOk result (state_of self.new ≡ measured Item.Meet (state_of self.old)) }
+    {
+        let (left, right) = self.two_sizes();
+        self.add(Member::Meet(left, right), join_size(left, right)?)
+    }
+
+    // Takes a field.
+    fn take_field(&mut self, label: Name) -> Result<(), Memory>
+        ensures { OnOk result (state_of self.new ≡ measured (Item.Field label) (state_of self.old)) }
+    {
+        let size = self.last_size();
+        let total = self.last_total();
+        self.add_total(Member::Field(label, size), sum(nodes(size)?, total)?)
     }
 
     // The number of a variable, which is the next one where it appears for the first time.

@@ -5,7 +5,8 @@ ghost use Rattle.mls_lexer.specs.steps.Placed.{placed};
 ghost use Rattle.mls_typetext.specs.steps.PieceMachine.{a, the_field, the_rec, acts, atom_acts, advance, last_told};
 ghost use Rattle.mls_typetext.specs.steps.PieceMachine.{told_of};
 ghost use Rattle.mls_typetext.specs.Phrases.{whole, codomain, join, join_tail, meet, meet_tail, fields, more_fields};
-ghost use Rattle.mls_typetext.specs.steps.PieceReaders.{part_of, stack_of, Acted, Puts, Tells, IsNew, state_of};
+ghost use Rattle.mls_typetext.specs.steps.PieceReaders.{part_of, stack_of, Acted, IsByKind, Puts, Tells, IsNew};
+ghost use Rattle.mls_typetext.specs.steps.PieceReaders.{state_of};
 
 use crate::piece::Piece;
 use mls_base::memory::Memory;
@@ -142,19 +143,37 @@ impl PieceReader {
     {
         match part {
             PiecePart::Whole => self.begin_whole(alloc, text, token),
-            PiecePart::Codomain => self.begin_codomain(token),
             PiecePart::Join => self.begin_join(alloc, text, token),
-            PiecePart::JoinTail => self.begin_join_tail(token),
             PiecePart::Meet => self.begin_meet(alloc, text, token),
-            PiecePart::MeetTail => self.begin_meet_tail(token),
             PiecePart::Atom => self.begin_atom(alloc, text, token, []),
             PiecePart::Fields => self.begin_fields(alloc, text, token),
-            PiecePart::MoreFields => self.begin_more_fields(token),
             PiecePart::Binder => self.begin_binder(alloc, text, token),
             PiecePart::Label => self.begin_label(alloc, text, token),
+            PiecePart::Codomain
+            | PiecePart::JoinTail
+            | PiecePart::MeetTail
+            | PiecePart::MoreFields
+            | PiecePart::Dot
+            | PiecePart::Colon
+            | PiecePart::ParenRight => self.begin_by_kind(token, part),
+        }
+    }
+
+    // Reads the token as the first of a part that begins with no name, if it is one.
+    fn begin_by_kind(&mut self, token: Token, part: PiecePart) -> Result<bool, Memory>
+        requires { IsByKind part }
+        ensures { IfOk result (λ begun. (bytes : List ℕ)
+            → Acted (acts (part_of part) token.start (terminal_of token.kind bytes)) self.old self.new begun) }
+    {
+        match part {
+            PiecePart::Codomain => self.begin_codomain(token),
+            PiecePart::JoinTail => self.begin_join_tail(token),
+            PiecePart::MeetTail => self.begin_meet_tail(token),
+            PiecePart::MoreFields => self.begin_more_fields(token),
             PiecePart::Dot => Ok(token.kind == Kind::Dot),
             PiecePart::Colon => Ok(token.kind == Kind::Colon),
             PiecePart::ParenRight => Ok(token.kind == Kind::ParenRight),
+            _ => Ok(false),
         }
     }
 
@@ -358,60 +377,5 @@ impl PieceReader {
             Todo::Read(PiecePart::Colon),
         ])?;
         Ok(true)
-    }
-}
-
-#[cfg(test)]
-mod tests {
-    use super::*;
-    use mls_lexer::scan::tokens;
-    use std::test::Fail;
-
-    // The pieces of a type.
-    fn shown(alloc: Global, text: &[u8]) -> Result<String, Memory> {
-        let mut line = String::new(alloc);
-        if let Ok(found) = tokens(alloc, text) {
-            let pieces = read_pieces(alloc, text, &found)?;
-            for piece in pieces.iter() {
-                match piece {
-                    Piece::Name(at, name) => write!(line, "{}@{at} ", name.as_str())?,
-                    Piece::Rec(name) => write!(line, "rec {} ", name.as_str())?,
-                    Piece::Field(at, name) => write!(line, "field {}@{at} ", name.as_str())?,
-                    other => write!(line, "{other:?} ")?,
-                }
-            }
-        }
-        Ok(line)
-    }
-
-    #[test]
-    fn tells_each_piece_behind_its_parts(rt: HostRuntime) -> Result<(), Fail> {
-        let cases: [(&[u8], &str); 8] = [
-            (b"int", "Int "),
-            (b"a -> b -> c", "a@0 b@5 c@10 Arrow Arrow "),
-            (
-                b"a | b | c & d",
-                "a@0 b@4 Join(2) c@8 d@12 Meet(10) Join(6) ",
-            ),
-            (b"(a -> b) -> top", "a@1 b@6 Arrow Top(12) Arrow "),
-            (
-                b"rec a. {l: a | int}",
-                "a@11 Int Join(13) Last field l@8 Record rec a ",
-            ),
-            (b"{}", "Last Record "),
-            (
-                b"{x: bool, y: {z: bot}}",
-                "Bool Bot(17) Last field z@14 Record Last field y@10 field x@1 Record ",
-            ),
-            (
-                b"{x: int} & a -> b",
-                "Int Last field x@1 Record a@11 Meet(9) b@16 Arrow ",
-            ),
-        ];
-        for (text, want) in cases {
-            let line = shown(rt.alloc(), text)?;
-            assert_eq!(rt; line.as_str(), want);
-        }
-        Ok(())
     }
 }

@@ -27,6 +27,17 @@ part_of part.Dot = the_dot
 part_of part.Colon = the_colon
 part_of part.ParenRight = the_paren
 
+-- a part of which each first token has a kind alone, and no name
+abbrev pub IsByKind : PiecePart → Type 0
+IsByKind part.Whole = ⊥
+IsByKind part.Join = ⊥
+IsByKind part.Meet = ⊥
+IsByKind part.Atom = ⊥
+IsByKind part.Fields = ⊥
+IsByKind part.Binder = ⊥
+IsByKind part.Label = ⊥
+IsByKind _ = Unit {0}
+
 -- what is still to do as the machine has it
 abbrev pub todo_of : Kept → Todo
 todo_of (kept.Read part) = part_of part

@@ -15,13 +15,13 @@ loop-i-preserved c = (
       (c.contains.ensures.0 c.if-not-contains.false),
 )
 
-pub loop-i-smaller-in-Continue-branch-4 : goal.loop-i-smaller-in-Continue-branch-4
-loop-i-smaller-in-Continue-branch-4 c =
+pub loop-i-smaller-in-Continue-branch-3 : goal.loop-i-smaller-in-Continue-branch-3
+loop-i-smaller-in-Continue-branch-3 c =
     look-less c.args.book.now c.requires.book.book c.loop-i.left.items c.pop.new.self.items c.look_at.new.left.items c.in-Some.i c.in-Some.ensures.items
     (c.in_ok-look_at.ensures.left ∙ ap (λ (x : Node). c.pop.new.self.items ++ left_step x) c.node-then-not-contains.ensures.node)
 
-pub loop-i-preserved-in-Continue-branch-4 : goal.loop-i-preserved-in-Continue-branch-4
-loop-i-preserved-in-Continue-branch-4 c = (
+pub loop-i-preserved-in-Continue-branch-3 : goal.loop-i-preserved-in-Continue-branch-3
+loop-i-preserved-in-Continue-branch-3 c = (
   c.in_ok-push.ensures.limit ∙ c.loop-i.invariant.0,
   look-new c.args.book.now c.requires.book.book c.args.top c.loop-i.visits.members c.loop-i.found.items c.loop-i.left.items c.pop.new.self.items c.push.new.self.members c.look_at.new.atoms.items c.look_at.new.left.items c.in-Some.i
       c.loop-i.invariant.1 c.in-Some.ensures.items
@@ -41,5 +41,5 @@ returns-clause-atoms c =
 
 pub returns-then-is_atom-clause-atoms : goal.returns-then-is_atom-clause-atoms
 returns-then-is_atom-clause-atoms c =
-    subst (λ (xs : List ℕ). AreAtoms c.args.book.now c.args.top xs) (sym c.in_ok-alone.ensures.items)
+    subst (λ (xs : List ℕ). AreAtoms c.args.book.now c.args.top xs) (sym c.alone.ensures)
     (atom-alone c.args.book.now c.args.top (λ i. subst (λ (x : Node). atom_step i x ≡ i ∷ []) c.node.ensures.node (c.is_atom.ensures c.if-is_atom.true i)))

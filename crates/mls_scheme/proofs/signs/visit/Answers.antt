@@ -4,5 +4,5 @@ use Rattle.mls_scheme.proofs.signs.visit.Goals as goal
 
 pub push_layer-requires : goal.push_layer-requires
 push_layer-requires c =
-    subst (λ (xs : List ℕ). All (λ j. j < length c.args.book.now) xs) (sym c.as_slice.ensures.value)
+    subst (λ (xs : List ℕ). All (λ j. j < length c.args.book.now) xs) (sym c.as_slice.ensures)
     (found-low c.args.book.now c.requires.book.book c.args.task.node c.in_ok-atoms.atoms.items c.requires.task c.in_ok-atoms.ensures.atoms)

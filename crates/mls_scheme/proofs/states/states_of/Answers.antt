@@ -3,7 +3,7 @@ use Rattle.mls_scheme.proofs.NodeStates.{states-more, states-none}
 use Rattle.mls_scheme.proofs.states.states_of.Goals as goal
 
 pub loop-i-init : goal.loop-i-init
-loop-i-init c = (c.in_ok-visits.ensures.limit ∙ c.len.ensures.len, states-none c.args.book.now c.args.signs.now c.new-automaton.result c.new-automaton.ensures)
+loop-i-init c = (c.in_ok-visits.ensures.limit ∙ c.len.ensures.len, states-none c.args.book.now c.args.signs.now c.in_ok-automaton.automaton c.in_ok-automaton.ensures)
 
 pub loop-i-preserved : goal.loop-i-preserved
 loop-i-preserved c = (

@@ -1,7 +1,7 @@
 //! Texts of types, and the schemes of what they are read as.
-use crate::read::{read_is_polarised, scheme_of_read};
 use mls_automaton::sample::show_scheme;
 use mls_automaton::scheme::Scheme;
+use mls_scheme::read::{read_is_polarised, scheme_of_read};
 use mls_typetext::from_text::read_type;
 use mls_typetext::laws::read_is_closed;
 use mls_typetext::scheme::TypeFault;
@@ -18,11 +18,13 @@ fn scheme_of_text(alloc: Global, text: &[u8]) -> Result<Scheme, TypeFault> {
 
 #[test]
 fn read_types_have_schemes(rt: HostRuntime) -> Result<(), Fail> {
-    let rows: [(&[u8], &str); 16] = [
+    let rows: [(&[u8], &str); 17] = [
         (b"int", "+i *0"),
         (b"a -> a", "+f1>2 - + 1~2 *0"),
         (b"a -> b", "+f1>2 - + *0"),
         (b"top -> bot", "+f1>2 - + *0"),
+        // The top of a layer has a polarity, the atoms and the head of its layer; the nodes within have no head.
+        (b"a -> a | int", "+f1>4 - + + +i 1~4 *0"),
         (b"a & b -> a | b", "+f3>6 + + - + + + 3~6 *0"),
         (b"int | bool | {}", "+ + + + +bi{} *4"),
         (b"{}", "+{} *0"),

@@ -1,6 +1,5 @@
 //! Books of schemes: which tests their nodes pass.
-
-use crate::tables::sample;
+use crate::tests_of_schemes::sample;
 use mls_automaton::sample::show_automaton;
 use mls_automaton::scheme::Scheme;
 use mls_automaton::scheme_book::{SchemeBook, book_of};
@@ -132,6 +131,11 @@ fn all_are(
     Ok(())
 }
 
+// The book of the scheme of a text.
+fn book_of_text(rt: &impl Abort, alloc: Global, text: &str) -> Result<SchemeBook, Memory> {
+    book_of(alloc, &sample(rt, alloc, text)?)
+}
+
 #[test]
 fn roots_pass_tests(rt: HostRuntime) -> Result<(), Fail> {
     for (text, passing, failing) in [
@@ -156,7 +160,7 @@ fn roots_pass_tests(rt: HostRuntime) -> Result<(), Fail> {
             "cod.- dom.2.6",
         ),
     ] {
-        let made = book_of(rt.alloc(), &sample(&rt, rt.alloc(), text)?)?;
+        let made = book_of_text(&rt, rt.alloc(), text)?;
         all_are(&rt, rt.alloc(), &made, "", passing, true)?;
         all_are(&rt, rt.alloc(), &made, "", failing, false)?;
     }
@@ -173,7 +177,7 @@ fn binders_pass_tests(rt: HostRuntime) -> Result<(), Fail> {
         ("- + 0~1 x1=0 x2=0 *1", "2", "1", "-"),
         ("-{l:1} - + 1~2 x5=0 *2", "5", "r l.5", "no l.-"),
     ] {
-        let made = book_of(rt.alloc(), &sample(&rt, rt.alloc(), text)?)?;
+        let made = book_of_text(&rt, rt.alloc(), text)?;
         all_are(&rt, rt.alloc(), &made, binder, passing, true)?;
         all_are(&rt, rt.alloc(), &made, binder, failing, false)?;
     }

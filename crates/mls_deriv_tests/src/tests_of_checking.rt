@@ -1,15 +1,20 @@
 //! The check of derivations of `fun x -> x` and of `{a = 1}` that are made by hand.
-use crate::derivation::{
-    BinderNode, BinderNodes, Derivation, Mode, Section, SectionLine, SectionLines, Sections,
-    StepLine, StepRule,
-};
-use crate::print::print_derivation;
-use crate::verify::{Verified, verify, verify_all};
+ghost use Rattle.std.specs.Prelude.{◌≡◌, ◌∷◌, [], IfOk};
+ghost use Rattle.mls_term.specs.declared.term.Term.{Term};
+ghost use Rattle.mls_term.specs.WellFormed.{IsTerm};
+ghost use Rattle.mls_deriv.specs.Laws.{AreTerms};
+
 use mls_base::list::List;
 use mls_base::memory::Memory;
 use mls_base::spelling::is_name;
 use mls_book::book::{Book, Field, Fields, Node, NodeId};
 use mls_book::name::Name;
+use mls_deriv::derivation::{
+    BinderNode, BinderNodes, Derivation, Mode, Section, SectionLine, SectionLines, Sections,
+    StepLine, StepRule,
+};
+use mls_deriv::print::print_derivation;
+use mls_deriv::verify::{Verified, verify};
 use mls_term::term::{
     Part, Parts, Resolved, ResolvedBinding, ResolvedBindings, Term, TermForm, TermNode, TermNodes,
 };
@@ -34,7 +39,9 @@ const NONE: Change = Change {
     sections: 1,
 };
 
-fn name_of(alloc: Global, bytes: &[u8]) -> Result<Name, Memory> {
+fn name_of(alloc: Global, bytes: &[u8]) -> Result<Name, Memory>
+    ensures { IfOk result (λ name. name ≡ bytes.now) }
+{
     if is_name(bytes) {
         Name::new(alloc, bytes)
     } else {
@@ -42,16 +49,18 @@ fn name_of(alloc: Global, bytes: &[u8]) -> Result<Name, Memory> {
     }
 }
 
-fn identity_term(alloc: Global) -> Result<Term, Memory> {
+fn node(form: TermForm) -> TermNode
+    ensures { result ≡ record { at = 0; form = form } }
+{
+    TermNode { at: 0, form }
+}
+
+fn identity_term(alloc: Global) -> Result<Term, Memory>
+    ensures { IfOk result (λ (term : Term). IsTerm 0 term.nodes term.binders term.lets) }
+{
     let mut nodes = TermNodes::new(alloc);
-    nodes.push(TermNode {
-        at: 0,
-        form: TermForm::Bound(0),
-    })?;
-    nodes.push(TermNode {
-        at: 0,
-        form: TermForm::Fun(0, 0),
-    })?;
+    nodes.push(node(TermForm::Bound(0)))?;
+    nodes.push(node(TermForm::Fun(0, 0)))?;
     Ok(Term {
         nodes,
         binders: 1,
@@ -59,10 +68,25 @@ fn identity_term(alloc: Global) -> Result<Term, Memory> {
     })
 }
 
-fn bound(alloc: Global, term: Term) -> Result<Vec<ResolvedBinding>, Memory> {
+// The module with the term as its one binding.
+fn module_of(alloc: Global, term: Term) -> Result<Resolved, Memory>
+    requires { IsTerm 0 term.nodes term.binders term.lets }
+    ensures { IfOk result (λ made. AreTerms 0 made.bindings) }
+{
     let name = name_of(alloc, b"id")?;
-    let bindings = vec![in alloc; ResolvedBinding { name, at: 0, term }]?;
-    Ok(bindings)
+    let mut bindings = ResolvedBindings::new(alloc);
+    bindings.push(ResolvedBinding { name, at: 0, term })?;
+    Ok(Resolved { bindings })
+}
+
+// The check over no scheme.
+fn verified(alloc: Global, module: &Resolved, sections: Sections) -> Result<Verified, Memory>
+    requires { AreTerms 0 «module».now.bindings }
+{
+    let declared = Names {
+        schemes: List::new(alloc),
+    };
+    verify(alloc, &Derivation { sections }, module, &declared)
 }
 
 fn identity_book(alloc: Global) -> Result<Book, Memory> {
@@ -147,10 +171,8 @@ fn sections_of(alloc: Global, change: &Change) -> Result<Sections, Memory> {
 }
 
 fn answer(alloc: Global, change: &Change) -> Result<Verified, Memory> {
-    let term = identity_term(alloc)?;
-    let bindings = bound(alloc, term)?;
-    let sections = sections_of(alloc, change)?;
-    verify_all(alloc, &[], bindings.as_slice(), sections.as_slice())
+    let module = module_of(alloc, identity_term(alloc)?)?;
+    verified(alloc, &module, sections_of(alloc, change)?)
 }
 
 #[test]
@@ -235,17 +257,11 @@ fn counts_sections(rt: HostRuntime) -> Result<(), Fail> {
 #[test]
 fn checks_no_binding(rt: HostRuntime) -> Result<(), Fail> {
     let alloc = rt.alloc();
-    let derivation = Derivation {
-        sections: Sections::new(alloc),
-    };
     let module = Resolved {
         bindings: ResolvedBindings::new(alloc),
     };
-    let declared = Names {
-        schemes: List::new(alloc),
-    };
     assert_eq!(rt;
-        verify(alloc, &derivation, &module, &declared)?,
+        verified(alloc, &module, Sections::new(alloc))?,
         Verified::Yes
     );
     Ok(())
@@ -253,26 +269,28 @@ fn checks_no_binding(rt: HostRuntime) -> Result<(), Fail> {
 
 // The record `{a = 1}` and its type, where the second step has this rule.
 fn record_answer(alloc: Global, rule: StepRule) -> Result<Verified, Memory> {
-    let term = record_term(alloc)?;
-    let bindings = bound(alloc, term)?;
+    let module = module_of(alloc, record_term(alloc)?)?;
     let mut sections = Sections::new(alloc);
     sections.push(record_section(alloc, rule)?)?;
-    verify_all(alloc, &[], bindings.as_slice(), sections.as_slice())
+    verified(alloc, &module, sections)
 }
 
-fn record_term(alloc: Global) -> Result<Term, Memory> {
+// `{a = 1}`, where `1` is node 0
+fn one_part(alloc: Global) -> Result<Parts, Memory>
+    ensures { IfOk result (λ parts. parts ≡ record { label = 97 ∷ []; child = 0 } ∷ []) }
+{
     let mut parts = Parts::new(alloc);
     let label = name_of(alloc, b"a")?;
     parts.push(Part { label, child: 0 })?;
+    Ok(parts)
+}
+
+fn record_term(alloc: Global) -> Result<Term, Memory>
+    ensures { IfOk result (λ (term : Term). IsTerm 0 term.nodes term.binders term.lets) }
+{
     let mut nodes = TermNodes::new(alloc);
-    nodes.push(TermNode {
-        at: 0,
-        form: TermForm::Number(1),
-    })?;
-    nodes.push(TermNode {
-        at: 0,
-        form: TermForm::Make(parts),
-    })?;
+    nodes.push(node(TermForm::Number(1)))?;
+    nodes.push(node(TermForm::Make(one_part(alloc)?)))?;
     Ok(Term {
         nodes,
         binders: 0,

@@ -2,13 +2,13 @@
 ghost use Rattle.std.specs.Prelude.{IfOk};
 ghost use Rattle.mls_automaton.specs.Schemes.{IsScheme};
 
-use crate::absorb::absorb;
-use crate::build::{constant, drop_binder, lambda_use};
 use mls_automaton::automaton::HeadKind;
 use mls_automaton::sample::{scheme_of, show_automaton, show_scheme};
 use mls_automaton::scheme::Scheme;
 use mls_automaton::state_set::StateId;
 use mls_base::memory::Memory;
+use mls_scheme::absorb::absorb;
+use mls_scheme::build::{constant, drop_binder, lambda_use};
 use std::alloc::Global;
 use std::process::Abort;
 use std::test::Fail;
@@ -69,6 +69,14 @@ fn other_texts_are_no_schemes(rt: HostRuntime) -> Result<(), Fail> {
     Ok(())
 }
 
+// A variable, and behind it a copy of the automaton of a text.
+fn appended(rt: &impl Abort, alloc: Global, text: &str) -> Result<String, Memory> {
+    let other = sample(rt, alloc, text)?.automaton.copy()?;
+    let mut first = lambda_use(alloc, 3)?.automaton;
+    assert_eq!(rt; first.append(&other)?, 2);
+    show_automaton(alloc, &first)
+}
+
 #[test]
 fn copies_stand_behind_a_variable(rt: HostRuntime) -> Result<(), Fail> {
     for (text, row) in [
@@ -85,13 +93,16 @@ fn copies_stand_behind_a_variable(rt: HostRuntime) -> Result<(), Fail> {
         (FIELD, "- + -{l:3} - + 0~1 3~4"),
         (TWO_MEMBERS, "- + - - + +f2,3>4 0~1 2~4 3~4"),
     ] {
-        let other = sample(&rt, rt.alloc(), text)?.automaton.copy()?;
-        let mut first = lambda_use(rt.alloc(), 3)?.automaton;
-        assert_eq!(rt; first.append(&other)?, 2);
-        let line = show_automaton(rt.alloc(), &first)?;
+        let line = appended(&rt, rt.alloc(), text)?;
         assert_eq!(rt; line.as_str(), row);
     }
     Ok(())
+}
+
+// What is reached of the scheme of a text.
+fn reached(rt: &impl Abort, alloc: Global, text: &str) -> Result<String, Memory> {
+    let kept = sample(rt, alloc, text)?.keep_reachable()?;
+    show_scheme(alloc, &kept)
 }
 
 #[test]
@@ -112,8 +123,7 @@ fn reached_states_are_kept(rt: HostRuntime) -> Result<(), Fail> {
         // The use of a binder that was dropped.
         ("- + 0~1 *1", "+ *0"),
     ] {
-        let kept = sample(&rt, rt.alloc(), text)?.keep_reachable()?;
-        let line = show_scheme(rt.alloc(), &kept)?;
+        let line = reached(&rt, rt.alloc(), text)?;
         assert_eq!(rt; line.as_str(), row);
     }
     Ok(())

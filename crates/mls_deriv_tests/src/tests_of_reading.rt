@@ -1,9 +1,9 @@
 //! The texts of derivations read, and the first bad lines of others.
-use crate::fault::DerivFault;
-use crate::print::print_derivation;
-use crate::printable::has_text;
-use crate::read::read_derivation;
 use mls_base::memory::Memory;
+use mls_deriv::fault::DerivFault;
+use mls_deriv::print::print_derivation;
+use mls_deriv::printable::has_text;
+use mls_deriv::read::read_derivation;
 use std::alloc::Global;
 use std::test::Fail;
 
@@ -60,12 +60,16 @@ fn bad_line(alloc: Global, text: &[u8]) -> Result<usize, Fail> {
 #[test]
 fn reads_the_identity(rt: HostRuntime) -> Result<(), Fail> {
     let alloc = rt.alloc();
-    assert_eq!(rt; bad_line(alloc, IDENTITY.as_bytes())?, 0);
-    assert_eq!(rt; bad_line(alloc, b"derivation 1\n")?, 0);
-    assert_eq!(rt; bad_line(alloc, b"")?, 1);
-    assert_eq!(rt; bad_line(alloc, b"derivation 1")?, 1);
-    assert_eq!(rt; bad_line(alloc, b"derivation 2\n")?, 1);
-    assert_eq!(rt; bad_line(alloc, b"derivation 1\nnode bot\n")?, 2);
+    for (text, bad) in [
+        (IDENTITY.as_bytes(), 0),
+        (b"derivation 1\n".as_slice(), 0),
+        (b"".as_slice(), 1),
+        (b"derivation 1".as_slice(), 1),
+        (b"derivation 2\n".as_slice(), 1),
+        (b"derivation 1\nnode bot\n".as_slice(), 2),
+    ] {
+        assert_eq!(rt; bad_line(alloc, text)?, bad, "{text:?}");
+    }
     assert_eq!(rt; DerivFault::BadLine(3).number(), 19);
     assert_eq!(rt; DerivFault::Memory.number(), 0);
     assert_eq!(rt;
