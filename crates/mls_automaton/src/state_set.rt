@@ -78,6 +78,9 @@ impl StateSet {
         ensures rises { Rises self.new }
         ensures err { OnErr result (self.new ≡ self.old) }
     {
+        if is_above(self.numbers.as_slice(), s.0) {
+            return self.push(s);
+        }
         match self.numbers.binary_search(&s.0) {
             Ok(_) => Ok(()),
             Err(at) => {
@@ -134,6 +137,13 @@ impl StateSet {
         }
     }
 
+    /// Takes out all states.
+    pub fn clear(&mut self)
+        ensures { self.new ≡ [] }
+    {
+        self.numbers.clear();
+    }
+
     /// How many members the set has.
     pub fn len(&self) -> usize
         ensures len { result ≡ length self.now }
@@ -170,6 +180,17 @@ impl StateSet {
         ensures { IsTrue result ↔ Contains self.now s.0 }
     {
         self.numbers.binary_search(&s.0).is_ok()
+    }
+}
+
+// Whether a number is above all of these, which rise.
+fn is_above(numbers: &[usize], s: usize) -> bool
+    requires { Rises numbers.now }
+    ensures { IsTrue result → All (λ j. j < s) numbers.now }
+{
+    match numbers.last() {
+        Some(last) => *last < s,
+        None => true,
     }
 }
 

@@ -138,7 +138,7 @@ fn renamed_heads(
     requires rises { Rises numbers.now }
     ensures { IfOk result (λ heads. AreRenamedHeads a.now numbers.now (length a.now.states) heads.items) }
 {
-    let mut heads = Vec::new(alloc);
+    let mut heads = Vec::with_capacity(alloc, a.len())?;
     for i in 0..a.len() {
         let head = rename_head(alloc, a.head(StateId(i)), &Numbers::At(numbers))?;
         heads.push((numbers[i], head))?;
@@ -156,7 +156,7 @@ fn renamed_flows(
     requires count { length numbers.now ≡ length a.now.states }
     ensures { IfOk result (λ edges. edges.items ≡ map (renamed_pair numbers.now) a.now.flows) }
 {
-    let mut edges = Vec::new(alloc);
+    let mut edges = Vec::with_capacity(alloc, a.flows().len())?;
     for flow in a.flows() {
         edges.push((numbers[flow.negative.0], numbers[flow.positive.0]))?;
     }

@@ -55,6 +55,15 @@ impl Edges {
         Ok(())
     }
 
+    // Makes room for so many more numbers.
+    pub fn make_room(&mut self, more: usize) -> Result<(), Memory>
+        ensures { self.new ≡ self.old }
+    {
+        self.forward.reserve(more)?;
+        self.backward.reserve(more)?;
+        Ok(())
+    }
+
     // One more number may have pairs from now on.
     fn add_number(&mut self) -> Result<(), Memory>
         ensures size { OnOk result (length self.old.forward < length self.new.forward) }
@@ -203,5 +212,5 @@ fn clear_set(sets: &mut Vec<StateSet>, s: usize)
     requires { s < length sets.old.items }
     ensures { IsCleared s sets.old.items sets.new.items }
 {
-    sets[s].truncate(0);
+    sets[s].clear();
 }

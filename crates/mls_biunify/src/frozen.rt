@@ -79,7 +79,7 @@ fn placed_states(alloc: Global, table: &Table, numbers: &[usize]) -> Result<Auto
         ≡ map (λ s. renamed_state (place_among numbers.now) (state_at table.now.automaton s)) numbers.now) }
     ensures flows { IfOk result (λ b. b.flows ≡ []) }
 {
-    let mut states = Automaton::new(alloc);
+    let mut states = Automaton::with_room(alloc, numbers.len())?;
     for s in numbers {
         let head = table.head(StateId(*s));
         let renamed = rename_head(alloc, head, &Numbers::PlaceIn(numbers))?;

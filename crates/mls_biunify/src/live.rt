@@ -72,6 +72,18 @@ impl Live {
         }
     }
 
+    /// Makes room for so many more states, and changes nothing.
+    ///
+    /// # Errors
+    ///
+    /// `Memory` where memory is wanting.
+    pub fn make_room(&mut self, more: usize) -> Result<(), Memory>
+        ensures { self.new ≡ self.old }
+    {
+        self.table.make_room(more)?;
+        self.relation.make_room(more)
+    }
+
     /// The states that are there.
     ///
     /// # Errors

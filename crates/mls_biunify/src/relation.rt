@@ -40,6 +40,13 @@ impl Relation {
         }
     }
 
+    // Makes room for so many more numbers.
+    pub fn make_room(&mut self, more: usize) -> Result<(), Memory>
+        ensures { self.new ≡ self.old }
+    {
+        self.index.make_room(more)
+    }
+
     // Makes the numbers below this one fit.
     pub fn grow(&mut self, size: usize) -> Result<(), Memory>
         ensures positives { OnOk result (size ≤ self.new.positives) }

@@ -112,6 +112,11 @@ fn combined_head(
     if members.len() == 1 {
         return copied_head(table.head(StateId(members[0])));
     }
+    if members.len() == 2 {
+        let first = table.head(StateId(members[0]));
+        let second = table.head(StateId(members[1]));
+        return combine_heads(alloc, polarity, first, second);
+    }
     let half = members.len() / 2;
     let first = combined_head(alloc, table, polarity, &members[..half])?;
     let second = combined_head(alloc, table, polarity, &members[half..])?;
@@ -146,7 +151,7 @@ pub fn new_heads(
     requires columns { table.now.limit ≤ relation.now.negatives }
     ensures { IfOk result (λ heads. AreNewHeads table.now (Holds relation.now) states.now heads.items) }
 {
-    let mut heads = Vec::new(alloc);
+    let mut heads = Vec::with_capacity(alloc, states.len())?;
     for s in states {
         let head = new_head(alloc, relation, table, StateId(*s))?;
         heads.push((*s, head))?;

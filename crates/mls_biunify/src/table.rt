@@ -51,6 +51,14 @@ impl Table {
         }
     }
 
+    // Makes room for so many more states.
+    pub fn make_room(&mut self, more: usize) -> Result<(), Memory>
+        ensures { self.new ≡ self.old }
+    {
+        self.states.reserve(more)?;
+        self.flows.make_room(more)
+    }
+
     // A number above all that are there.
     pub fn limit(&self) -> usize
         ensures limit { result ≡ self.now.limit }

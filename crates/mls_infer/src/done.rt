@@ -29,6 +29,9 @@ use std::alloc::Global;
 use std::mem;
 use std::rc::Rc;
 
+// The table begins with room for no more states.
+const SMALL: usize = 32;
+
 /// What is known of a node: its part waits in the table for the node above, or its type stands apart, as that of the
 /// first part of a let and of each known name, until the node above copies it; or it was taken.
 #[derive(Drop)]
@@ -46,17 +49,20 @@ pub(crate) struct Done {
 }
 
 impl Done {
-    /// No node.
-    pub(crate) fn new(alloc: Global) -> Done
-        ensures done { IsDone result }
-        ensures none { finished_in result ≡ [] }
+    /// No node, with room for so many, and in the table for the states of a small term.
+    ///
+    /// # Errors
+    ///
+    /// `Memory` where memory is wanting.
+    pub(crate) fn with_room(alloc: Global, count: usize) -> Result<Done, Memory>
+        ensures done { IfOk result IsDone }
+        ensures none { IfOk result (λ done. finished_in done ≡ []) }
     {
-        let live = Live::new(alloc);
+        let nodes = Vec::with_capacity(alloc, count)?;
+        let mut live = Live::new(alloc);
+        live.make_room(count.saturating_mul(4).min(SMALL))?;
         let _empty = live.ready();
-        Done {
-            live,
-            nodes: Vec::new(alloc),
-        }
+        Ok(Done { live, nodes })
     }
 
     /// Adds the part of the next node.

@@ -101,7 +101,7 @@ fn infer_nodes(
     ensures kind { IfErr result (λ fault. (t : _) → nodes.now ≡ postorder 0 t
         → HasKindIn (schemes_in names.now) t fault) }
 {
-    let mut done = Done::new(alloc);
+    let mut done = Done::with_room(alloc, nodes.len())?;
     let named = named_parts(alloc, nodes)?;
     for i in 0..nodes.len() {
         let node = &nodes[i].form;

@@ -41,7 +41,7 @@ pub(crate) fn copied(alloc: Global, live: &mut Live, scheme: &Scheme) -> Result<
     let _before = live.ready();
     let numbers = live.absorb(&scheme.automaton)?;
     let _after = live.ready();
-    let mut states = Vec::new(alloc);
+    let mut states = Vec::with_capacity(alloc, numbers.len())?;
     for s in numbers.as_slice() {
         states.push(StateId(*s))?;
     }

@@ -101,7 +101,7 @@ pub fn classed_states(alloc: Global, a: &Automaton, classes: &Classes) -> Result
     ensures flows { IfOk result (λ d. d.flows ≡ []) }
 {
     let numbers = classes.numbers.as_slice();
-    let mut d = Automaton::new(alloc);
+    let mut d = Automaton::with_room(alloc, classes.chosen.len())?;
     for s in classes.chosen.as_slice() {
         let head = class_head(alloc, numbers, a.head(StateId(*s)))?;
         d.state(a.polarity(StateId(*s)), head)?;

@@ -55,7 +55,7 @@ fn states_of(alloc: Global, a: &Automaton) -> Result<Automaton, Memory>
     ensures states { IfOk result (λ b. b.states ≡ a.now.states) }
     ensures flows { IfOk result (λ b. b.flows ≡ []) }
 {
-    let mut states = Automaton::new(alloc);
+    let mut states = Automaton::with_room(alloc, a.len())?;
     for s in 0..a.len() {
         let head = copied_head(a.head(StateId(s)))?;
         states.state(a.polarity(StateId(s)), head)?;

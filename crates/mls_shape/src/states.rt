@@ -23,7 +23,7 @@ pub fn states_of(register: &mut Register, alloc: Global, a: &Automaton) -> Resul
     ensures register { OnOk result (IsRegister register.new) }
     ensures states { IfOk result (AreStatesOf a.now (sets_in register.old) (sets_in register.new)) }
 {
-    let mut d = Automaton::new(alloc);
+    let mut d = Automaton::with_room(alloc, a.len())?;
     for _ in 0..usize::MAX {
         if d.len() == register.sets.len() {
             return Ok(d);

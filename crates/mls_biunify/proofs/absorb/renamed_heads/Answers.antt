@@ -8,7 +8,7 @@ use Rattle.mls_biunify.proofs.Renames.{head-order}
 use Rattle.mls_biunify.proofs.absorb.renamed_heads.Goals as goal
 
 pub loop-i-init : goal.loop-i-init
-loop-i-init c = upto-none (renamed_at c.args.a.now c.args.numbers.now) c.new-heads.result.items c.new-heads.ensures.items
+loop-i-init c = upto-none (renamed_at c.args.a.now c.args.numbers.now) c.in_ok-heads.heads.items c.in_ok-heads.ensures.items
 
 pub rename_head-requires-clause-order : goal.rename_head-requires-clause-order
 rename_head-requires-clause-order c =

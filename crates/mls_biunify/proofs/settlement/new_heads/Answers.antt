@@ -6,7 +6,7 @@ use Rattle.mls_biunify.proofs.SettledHeads.{heads-none, heads-more}
 use Rattle.mls_biunify.proofs.settlement.new_heads.Goals as goal
 
 pub loop-s-init : goal.loop-s-init
-loop-s-init c = heads-none c.args.table.now (Holds c.args.relation.now) c.args.states.now c.new-heads.result.items c.new-heads.ensures.items
+loop-s-init c = heads-none c.args.table.now (Holds c.args.relation.now) c.args.states.now c.in_ok-heads.heads.items c.in_ok-heads.ensures.items
 
 pub loop-s-preserved : goal.loop-s-preserved
 loop-s-preserved c =

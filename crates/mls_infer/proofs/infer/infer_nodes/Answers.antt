@@ -9,7 +9,7 @@ use Rattle.mls_infer.proofs.infer.infer_nodes.Goals as goal
 
 pub loop-i-init : goal.loop-i-init
 loop-i-init c =
-    stands_first (scope_of c.args.names.now c.args.firsts.now) c.args.nodes.now c.requires.goes c.new-done.result.live c.new-done.result.nodes.items c.new-done.ensures.done c.new-done.ensures.none
+    stands_first (scope_of c.args.names.now c.args.firsts.now) c.args.nodes.now c.requires.goes c.in_ok-done.done.live c.in_ok-done.done.nodes.items c.in_ok-done.ensures.done c.in_ok-done.ensures.none
 
 pub add_node-requires-clause-done : goal.add_node-requires-clause-done
 add_node-requires-clause-done c =
