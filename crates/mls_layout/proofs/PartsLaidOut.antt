@@ -5,8 +5,9 @@
 --     places_below        places stand before the end of what is planned
 --     known_below         the known nodes stand before the trees
 --     layout_made         the layout of the part
+--     own_parts           its own nodes are parts of heads
 --     laid_out            the part is laid out
-use Rattle.std.proofs.Common.{◌≡◌, ◌⊎◌, inl, inr, ℕ, ◌+◌, ◌<◌, ◌≤◌, List, [], ◌∷◌, ◌++◌, length, refl, sym, ap, ◌∙◌, subst, arith, append_assoc, length-append}
+use Rattle.std.proofs.Common.{◌≡◌, ◌⊎◌, inl, inr, ℕ, ◌+◌, ◌<◌, ◌≤◌, true, false, Some, None, List, [], ◌∷◌, ◌++◌, length, refl, sym, ap, ◌∙◌, subst, arith, append_assoc, length-append}
 use Rattle.std.specs.Prelude.{◌↔◌, All, Contains, get_or}
 use Rattle.std.proofs.lemmas.List.{get_or_default, get_or_past, get_or-append-add}
 use Rattle.std.proofs.lemmas.List.Elements.{All-cons, All-append}
@@ -29,14 +30,16 @@ use Rattle.mls_subsume.specs.declared.verdict.StatePair.{StatePair}
 use Rattle.mls_subsume.specs.Walks.{IsIn}
 use Rattle.mls_layout.specs.declared.layout.Places.{Places}
 use Rattle.mls_layout.specs.declared.layout.leaves.Leaves.{Leaves}
+use Rattle.mls_layout.specs.declared.layout.numbers.Owned.{Owned}
 use Rattle.mls_layout.specs.declared.layout.sources.Sources.{Sources}
 use Rattle.mls_layout.specs.Trees.{IsTree, IsNodeIn, IsOfTree}
 use Rattle.mls_layout.specs.Heads.{AreParts}
 use Rattle.mls_layout.specs.Layouts.{IsTypeLayout, Enters, IsLayout}
 use Rattle.mls_layout.specs.Parts.{IsRelatedIn, IsLaidOut}
-use Rattle.mls_layout.specs.LaidOut.{place_of, LaysOut}
+use Rattle.mls_layout.specs.LaidOut.{place_of, HasOwnParts, LaysOut}
 use Rattle.mls_layout.specs.steps.Planned.{Planned, Extends, HasTree, AddsPlanned, end_of}
-use Rattle.mls_layout.specs.steps.Sources.{AddsLeaves, AreParted, ArePartners, AreBelow, IsEntering, IsPlaced, IsValued, own_before, parts_in}
+use Rattle.mls_layout.specs.steps.Sources.{AddsLeaves, AreParted, ArePartners, AreBelow, IsEntering, IsPlaced, IsValued, head_parts, own_before, parts_in}
+use Rattle.mls_layout.specs.steps.OwnNumbers.{AreOwned, function_at, record_at}
 use Rattle.mls_layout.specs.steps.Owned.{HaveTrees, AddsStates, HasOwn}
 use Rattle.mls_layout.proofs.TreesMade.{book_pushed, tree_same}
 use Rattle.mls_layout.proofs.LongerLayouts.{type_kept}
@@ -44,7 +47,7 @@ use Rattle.mls_layout.proofs.WorkedParts.{nothing, empty_tree, empty_parts}
 use Rattle.mls_layout.proofs.PlannedTrees.{extends_none, extends_then, planned_is, tree_more}
 use Rattle.mls_layout.proofs.KnownNodes.{sources_below}
 use Rattle.mls_layout.proofs.OwnNodes.{all_children_more, own_more}
-use Rattle.mls_layout.proofs.HeadParts.{numbers, in_numbers, head_parts_are}
+use Rattle.mls_layout.proofs.HeadParts.{numbers, in_numbers, there_if, boolean_in, integer_in, own_function, own_record, head_parts_are}
 
 -- a node of a tree names nodes before it
 tree_children : (i n : ℕ) (x : Node) → i < n → IsOfTree x → IsOrdered i x → HasChildrenBelow n x
@@ -321,6 +324,35 @@ module _ (old one two new : List Node) (a : Automaton) (leaves : Leaves) (source
       negative = negative_made;
     }
 
+  -- the own nodes of states are parts of their heads
+  own_parts : (own : Owned) → AreOwned a (length one) own → HasOwnParts new own leaves.boolean leaves.integer a parts
+  own_parts own are = record {
+    functions = λ s id found.
+        let at : function_at (first_of s) (head_at a s) ≡ Some id = sym (are.functions s) ∙ found in
+        by_state s id.0 (own_function leaves (first_of s) (head_at a s) id at) (λ h_is. let none : None ≡ Some id = sym (ap (function_at (first_of s)) h_is) ∙ at in absurd (cc));
+    records = λ s id found.
+        let at : record_at (first_of s) (head_at a s) ≡ Some id = sym (are.records s) ∙ found in
+        by_state s id.0 (own_record leaves (first_of s) (head_at a s) id at) (λ h_is. let none : None ≡ Some id = sym (ap (record_at (first_of s)) h_is) ∙ at in absurd (cc));
+    boolean = λ s is.
+        by_state s leaves.boolean.0 (boolean_in leaves (first_of s) (head_at a s) leaves.boolean.0 (there_if (head_at a s).boolean leaves.boolean is))
+        (λ h_is. let no : false ≡ true = sym (ap (λ (h : Head). h.boolean) h_is) ∙ is in absurd (cc));
+    integer = λ s is.
+        by_state s leaves.integer.0 (integer_in leaves (first_of s) (head_at a s) leaves.integer.0 (there_if (head_at a s).integer leaves.integer is))
+        (λ h_is. let no : false ≡ true = sym (ap (λ (h : Head). h.integer) h_is) ∙ is in absurd (cc));
+    is_boolean = is_boolean;
+    is_integer = is_integer;
+  }
+    where
+      first_of : ℕ → ℕ
+      first_of s = length one + own_before a s
+
+      by_state : (s i : ℕ) → Contains (numbers (head_parts leaves (first_of s) (head_at a s))) i → (head_at a s ≡ empty_head → ⊥) → Contains (parts s) i
+      by_state s i it other = go (below_or_more s (length a.states))
+        where
+          go : (s < length a.states) ⊎ ((j : ℕ) × (s ≡ length a.states + j)) → Contains (parts s) i
+          go (inl low) = subst (λ (ids : List NodeId). Contains (numbers ids) i) (sym (parted.are s low)) it
+          go (inr (j, e)) = absurd (other (ap (λ (t : State). t.head) (past_state a s (omega (arith, e)))))
+
   laid_out_here : (goals : List (ℕ × ℕ)) (special : Scheme) → HoldsJust found (IsRelatedIn (record { automaton = a; goals = goals })) → IsTypeLayout old special.automaton type_place
       → IsLaidOut new (record { automaton = a; goals = goals }) special pairs place type_place
   unfolding layout_made
@@ -339,12 +371,14 @@ module _ (old one two new : List Node) (a : Automaton) (leaves : Leaves) (source
         omega (arith, low, all);
   }
 
-  pub laid_out : LaysOut old a found pairs type_place new place
-  laid_out = record {
+  pub laid_out : (own : Owned) → AreOwned a (length one) own → LaysOut old a found pairs type_place new place own leaves.boolean leaves.integer
+  unfolding layout_made laid_out_here
+  laid_out own are = record {
     more = more;
     longer = all_longer;
     closed = closed_made;
     laid_out = λ c special same.
-        subst (λ (x : Automaton). HoldsJust found (IsRelatedIn (record { automaton = x; goals = c.goals })) → IsTypeLayout old special.automaton type_place → IsLaidOut new (record { automaton = x; goals = c.goals }) special pairs place type_place)
-        (sym same) (laid_out_here c.goals special);
+        subst (λ (x : Automaton). HoldsJust found (IsRelatedIn (record { automaton = x; goals = c.goals })) → IsTypeLayout old special.automaton type_place
+        → (it : IsLaidOut new (record { automaton = x; goals = c.goals }) special pairs place type_place) × HasOwnParts new own leaves.boolean leaves.integer a it.layout.parts) (sym same)
+        (λ holds type. (laid_out_here c.goals special holds type, own_parts own are));
   }

@@ -110,7 +110,8 @@ pub fn lay_out(
     requires related { HoldsStates a.now found.now }
     requires places { (s : ℕ) → place_of type_places.now s < length book }
     ensures { IfOk result (λ laid. IsClosedBook book
-        → LaysOut book a.now found.now pairs.now (place_of type_places.now) laid.book (place_of laid.places)) }
+        → LaysOut book a.now found.now pairs.now (place_of type_places.now) laid.book (place_of laid.places) laid.own
+        laid.boolean laid.integer) }
 {
     let mut book = book;
     let leaves = push_leaves(&mut book)?;

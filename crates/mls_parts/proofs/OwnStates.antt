@@ -4,13 +4,19 @@
 --     own_none, own_more          a state for each binder, one after another
 --     own_separate                so no two binders have one state, and no head names one
 --     own_binders, own_subsumes   the scheme has no other binders, and subsumes the first one
---     subsumes_equivalent         and what is equivalent to that
-use Rattle.std.proofs.Common.{◌≡◌, ◌⊎◌, inl, inr, ℕ, zero, suc, ◌+◌, ◌<◌, ◌≤◌, List, [], ◌∷◌, ◌++◌, length, get_or, refl, sym, ap, ◌∙◌, subst, arith, Contains, Option, Some, None, length-append}
-use Rattle.std.specs.Prelude.{◌↔◌, IsSome, is_some}
+--     own_deterministic, own_all, own_subsumed
+--                                 it is deterministic where that is, has all its binders, and is subsumed by it
+--     subsumes_equivalent, equivalent_subsumes
+--                                 so with what is equivalent to that
+use Rattle.std.proofs.Common.{◌≡◌, ◌⊎◌, inl, inr, ℕ, zero, suc, ◌+◌, ◌==◌, ◌≢◌, ◌<◌, ◌≤◌, Bool, true, false, cond, List, [], ◌∷◌, ◌++◌, length, get_or, refl, sym, ap, ◌∙◌, subst, arith, Contains, Option, Some, None, length-append}
+use Rattle.std.specs.Prelude.{◌↔◌, filter, find, IsSome, is_some, option_map}
+use Rattle.std.specs.List.{range_with_len}
+use Rattle.std.proofs.lemmas.Bool.{eqb-true, eq-eqb}
+use Rattle.std.proofs.lemmas.Bool.Decides.{eqb_tells}
 use Rattle.std.proofs.lemmas.List.{get_or_append_left, get_or_past, get_or_push}
 use Rattle.std.proofs.lemmas.List.Elements.{Contains-append_left, Contains-push, Contains-push_cases}
 use Rattle.mls_book.proofs.LongerBooks.{below_or_more}
-use Rattle.mls_book.specs.Predicates.{Predicate, Implies}
+use Rattle.mls_book.specs.Predicates.{Predicate, Implies, var}
 use Rattle.mls_book.specs.Passes.{passes}
 use Rattle.mls_book.specs.Schemes.{binder_passes}
 use Rattle.mls_book.proofs.Depths.{Implies-trans, Implies-same, Implies-same_back}
@@ -24,11 +30,16 @@ use Rattle.mls_automaton.specs.declared.scheme.EnvEntry.{EnvEntry}
 use Rattle.mls_automaton.specs.declared.scheme.Scheme.{Scheme}
 use Rattle.mls_automaton.specs.Automata.{Automaton, empty_head, flow, head_at, polarity_at, state_at, HasFlow, IsPartner, IsState}
 use Rattle.mls_automaton.specs.Environments.{BindersRise}
-use Rattle.mls_automaton.specs.Heads.{head_value}
-use Rattle.mls_automaton.specs.Models.{HasStatesIn, IsClosed, IsInside, IsModel}
+use Rattle.mls_automaton.specs.Heads.{head_value, parts_of}
+use Rattle.mls_automaton.specs.Models.{HasSingleArms, HasSingleFields, HasStatesIn, IsClosed, IsDeterministic, IsInside, IsModel}
 use Rattle.mls_automaton.specs.Schemes.{state_of, AreEquivalentSchemes, IsScheme, NoGoal}
 use Rattle.mls_automaton.proofs.BooksExist.{scheme_exists}
-use Rattle.mls_automaton.proofs.Instances.{HasModel, binder_of, model-of_subsumes, subsumes_by_model}
+use Rattle.mls_automaton.proofs.Instances.{HasModel, binder_of, model-of_subsumes, plain, subsumes_by_model}
+use Rattle.mls_automaton.proofs.Bounds.{passes-model}
+use Rattle.mls_automaton.proofs.Lists.{Contains-cases, Contains-filter, Contains-filtered, Contains-here, Contains-later, Contains-range, passes-filtered, range_from-contains}
+use Rattle.mls_flow.specs.Simulations.{IsHeadWithin, IsSimulation}
+use Rattle.mls_flow.proofs.HeadsWithin.{Same, within-more, within-self}
+use Rattle.mls_flow.proofs.Simulation.{IsBinderPaired, simulation_subsumes}
 use Rattle.mls_automaton.proofs.Passing.{states_more}
 use Rattle.mls_automaton.proofs.Reaching.{entry-found, found-entry}
 use Rattle.mls_subsume.specs.Verdicts.{DoesSubsume}
@@ -43,10 +54,15 @@ abbrev past : State
 past = record { polarity = Positive; head = empty_head }
 
 pub edges_none : (a : Automaton) (from : ℕ) → AddsEdgesTo a a from []
-edges_none a from = record { states = refl; flows = λ n p edge. inl edge }
+edges_none a from = record { states = refl; flows = λ n p edge. inl edge; kept = λ n p edge. edge; added = λ p there. absurd (nothing p there) }
 
 pub edges_more : (a b c : Automaton) (from end : ℕ) (ends : List ℕ) → AddsEdgesTo a b from ends → c.states ≡ b.states → ((n p : ℕ) → HasFlow c n p ↔ (HasFlow b n p ⊎ ((n ≡ from) × (p ≡ end)))) → AddsEdgesTo a c from (ends ++ end ∷ [])
-edges_more a b c from end ends it states flows = record { states = states ∙ it.states; flows = λ n p edge. go n p ((flows n p).0 edge) }
+edges_more a b c from end ends it states flows = record {
+  states = states ∙ it.states;
+  flows = λ n p edge. go n p ((flows n p).0 edge);
+  kept = λ n p edge. (flows n p).1 (inl (it.kept n p edge));
+  added = λ p there. elim (Contains-push_cases ends end p there) [ inl old ↦ (flows from p).1 (inl (it.added p old)) | inr same ↦ (flows from p).1 (inr (refl, sym same)) ];
+}
   where
     old : (n p : ℕ) → HasFlow a n p ⊎ ((n ≡ from) × Contains ends p) → HasFlow a n p ⊎ ((n ≡ from) × Contains (ends ++ end ∷ []) p)
     old n p (inl edge) = inl edge
@@ -58,8 +74,14 @@ edges_more a b c from end ends it states flows = record { states = states ∙ it
 
 -- a state with the head of this one, and then edges to its partners
 pub twin_added : (a b c : Automaton) (n twin : ℕ) (ends : List ℕ) → twin ≡ length a.states → b.states ≡ a.states ++ record { polarity = Negative; head = head_at a n } ∷ [] → b.flows ≡ a.flows
-    → AddsEdgesTo b c twin ends → ((p : ℕ) → Contains ends p → HasFlow a n p) → AddsTwin a c n twin
-twin_added a b c n twin ends number states same it partners = record { number = number; states = it.states ∙ states; flows = λ m p edge. go m p (it.flows m p edge) }
+    → AddsEdgesTo b c twin ends → ((p : ℕ) → Contains ends p → HasFlow a n p) → ((p : ℕ) → HasFlow a n p → Contains ends p) → AddsTwin a c n twin
+twin_added a b c n twin ends number states same it partners all = record {
+  number = number;
+  states = it.states ∙ states;
+  flows = λ m p edge. go m p (it.flows m p edge);
+  kept = λ m p edge. it.kept m p (subst (λ (fs : List Flow). Contains fs (flow m p)) (sym same) edge);
+  edges = λ p edge. it.added p (all p edge);
+}
   where
     go : (m p : ℕ) → HasFlow b m p ⊎ ((m ≡ twin) × Contains ends p) → HasFlow a m p ⊎ ((m ≡ twin) × HasFlow a n p)
     go m p (inl edge) = inl (subst (λ (fs : List Flow). Contains fs (flow m p)) same edge)
@@ -80,7 +102,12 @@ own_none a closed = record {
   heads = λ k. states_more (IsState a) (λ p s. s < length a.states) (λ p s is. is.in_range) (polarity_at a k) (head_at a k) (closed.heads k);
   own = λ entry there. absurd (nothing entry there);
   apart = λ entry other there. absurd (nothing entry there);
+  old_of = λ s. s;
+  old_state = λ k low. (low, refl);
+  itself = λ s low. refl;
+  edges = λ n p k l edge low low' same same'. subst (λ z. HasFlow a z l) (sym same) (subst (HasFlow a n) (sym same') edge);
   back = λ entry there. absurd (nothing entry there);
+  forth = λ entry there. absurd (nothing entry there);
   models = λ value model. (value, model, (λ s low. refl), (λ k low. (k, low, refl, refl)), (λ entry there. absurd (nothing entry there)));
 }
 
@@ -123,9 +150,55 @@ module _ (a b c : Automaton) (entries env : List EnvEntry) (entry mine : EnvEntr
   apart_at e f (inr one) (inl two) same = let at : e.state.0 ≡ length b.states = state_of_mine e one in absurd (omega (arith, at, same, (it.own f two).1))
   apart_at e f (inr one) (inr two) same = ap (λ (x : EnvEntry). x.binder) (sym one ∙ two)
 
-  back_at : (e : EnvEntry) → Contains env e ⊎ (mine ≡ e) → (old : EnvEntry) × Contains (entries ++ entry ∷ []) old × (old.binder ≡ e.binder)
-  back_at e (inl inside) = let at = it.back e inside in (at.0, Contains-append_left entries (entry ∷ []) at.0 at.1, at.2)
-  back_at e (inr same) = (entry, Contains-push entries entry, sym same_binder ∙ ap (λ (x : EnvEntry). x.binder) same)
+  -- the twin is one of its state
+  abbrev new_of : ℕ → ℕ
+  new_of k = cond (k == length b.states) entry.state.0 (it.old_of k)
+
+  new_low : (k : ℕ) → k < length b.states → new_of k ≡ it.old_of k
+  new_low k low = elim (eqb_tells k (length b.states)) [ inl same ↦ (let at : k ≡ length b.states = same.1 in absurd (omega (arith, at, low))) | inr other ↦ ap (λ x. cond x entry.state.0 (it.old_of k)) other.0 ]
+
+  new_last : (k : ℕ) → k ≡ length b.states → new_of k ≡ entry.state.0
+  new_last k at = elim (eqb_tells k (length b.states)) [ inl same ↦ ap (λ x. cond x entry.state.0 (it.old_of k)) same.0 | inr other ↦ absurd (other.1 at) ]
+
+  old_entry : state_at b entry.state.0 ≡ state_at a entry.state.0
+  old_entry = (it.old_state entry.state.0 state_b.in_range).1 ∙ ap (state_at a) (it.itself entry.state.0 state.in_range)
+
+  new_state : (k : ℕ) → k < length c.states → (k < length b.states) ⊎ ((d : ℕ) × (k ≡ length b.states + d)) → (new_of k < length a.states) × (state_at c k ≡ state_at a (new_of k))
+  new_state k low (inl before) =
+      let at = it.old_state k before in
+      let same : state_at c k ≡ state_at b k = ap (λ (xs : List State). get_or xs k past) adds.states ∙ get_or_append_left b.states (twin_state ∷ []) past k before in (
+        subst (λ z. z < length a.states) (sym (new_low k before)) at.0,
+        same ∙ (at.1 ∙ ap (state_at a) (sym (new_low k before))),
+      )
+  new_state k low (inr (d, at)) =
+      let last : k ≡ length b.states = omega (arith, low, many, at) in
+      let twin : state_at c k ≡ twin_state = ap (λ (xs : List State). get_or xs k past) adds.states ∙ get_or_push b.states twin_state past k (sym last) in
+      let alike : state_at b entry.state.0 ≡ twin_state = λ i. record { polarity = state_b.polarity i; head = head_at b entry.state.0 } in (
+        subst (λ z. z < length a.states) (sym (new_last k last)) state.in_range,
+        twin ∙ (sym alike ∙ (old_entry ∙ ap (state_at a) (sym (new_last k last)))),
+      )
+
+  new_edges : (n p k l : ℕ) → HasFlow a n p → (k < length b.states) ⊎ (k ≡ length b.states) → (l < length b.states) ⊎ (l ≡ length b.states) → new_of k ≡ n → new_of l ≡ p → HasFlow c k l
+  new_edges n p k l edge (inl low) (inl low') same same' = adds.kept k l (it.edges n p k l edge low low' (sym (new_low k low) ∙ same) (sym (new_low l low') ∙ same'))
+  new_edges n p k l edge (inr last) (inl low') same same' =
+      let from : it.old_of entry.state.0 ≡ n = it.itself entry.state.0 state.in_range ∙ (sym (new_last k last) ∙ same) in
+      let old : HasFlow b entry.state.0 l = it.edges n p entry.state.0 l edge state_b.in_range low' from (sym (new_low l low') ∙ same') in
+      subst (λ z. HasFlow c z l) (adds.number ∙ sym last) (adds.edges l old)
+  new_edges n p k l edge before (inr last) same same' =
+      let positive : polarity_at a p ≡ Positive = (closed_a.positive (flow n p) edge).polarity in
+      let negative : polarity_at a p ≡ Negative = subst (λ z. polarity_at a z ≡ Negative) (sym (new_last l last) ∙ same') state.polarity in
+      absurd (cc)
+
+  within : (k : ℕ) → k < length c.states → (k < length b.states) ⊎ (k ≡ length b.states)
+  within k low = elim (below_or_more k (length b.states)) [ inl before ↦ inl before | inr at ↦ inr (let more : k ≡ length b.states + at.0 = at.1 in omega (arith, low, many, more)) ]
+
+  back_at : (e : EnvEntry) → Contains env e ⊎ (mine ≡ e) → (old : EnvEntry) × Contains (entries ++ entry ∷ []) old × (old.binder ≡ e.binder) × (new_of e.state.0 ≡ old.state.0)
+  back_at e (inl inside) = let at = it.back e inside in (at.0, Contains-append_left entries (entry ∷ []) at.0 at.1, at.2, new_low e.state.0 (it.own e inside).1 ∙ at.3)
+  back_at e (inr same) = (entry, Contains-push entries entry, sym same_binder ∙ ap (λ (x : EnvEntry). x.binder) same, new_last e.state.0 (state_of_mine e same))
+
+  forth_at : (e : EnvEntry) → Contains entries e ⊎ (entry ≡ e) → (m : EnvEntry) × Contains (env ++ mine ∷ []) m × (m.binder ≡ e.binder)
+  forth_at e (inl inside) = let at = it.forth e inside in (at.0, Contains-append_left env (mine ∷ []) at.0 at.1, at.2)
+  forth_at e (inr same) = (mine, Contains-push env mine, same_binder ∙ ap (λ (x : EnvEntry). x.binder) same)
 
   -- a model goes on with the value of the state for its twin
   module _ (value wide : ℕ → Predicate) (model : IsModel b wide) (old : (s : ℕ) → s < length a.states → wide s ≡ value s)
@@ -190,7 +263,12 @@ module _ (a b c : Automaton) (entries env : List EnvEntry) (entry mine : EnvEntr
     heads = λ k. good_at k (below_or_more k (length b.states));
     own = λ e inside. own_at e (cases e inside);
     apart = λ e f one two same. apart_at e f (cases e one) (cases f two) same;
+    old_of = new_of;
+    old_state = λ k low. new_state k low (below_or_more k (length b.states));
+    itself = λ s low. new_low s (let more : length a.states ≤ length b.states = it.more in omega (arith, low, more)) ∙ it.itself s low;
+    edges = λ n p k l edge low low' same same'. new_edges n p k l edge (within k low) (within l low') same same';
     back = λ e inside. back_at e (cases e inside);
+    forth = λ e inside. forth_at e (Contains-push_cases entries entry e inside);
     models = λ value model.
         let found = it.models value model in
         let wide : ℕ → Predicate = found.0 in (
@@ -201,6 +279,20 @@ module _ (a b c : Automaton) (entries env : List EnvEntry) (entry mine : EnvEntr
           (λ e inside. value_at value wide found.1 found.2 found.3 found.4 e (cases e inside)),
         );
   }
+
+-- a binder of an environment has a state
+some_state : (env : List EnvEntry) (entry : EnvEntry) → Contains env entry → IsSome (state_of env entry.binder)
+some_state [] entry there = absurd (nothing entry there)
+some_state (first ∷ rest) entry there = go (eqb_tells first.binder entry.binder) (Contains-cases first rest entry there) (some_state rest entry)
+  where
+    found : (x : Bool) → (first.binder == entry.binder) ≡ x → state_of (first ∷ rest) entry.binder ≡ option_map (λ (e : EnvEntry). e.state.0) (cond x (Some first) (find (λ (e : EnvEntry). e.binder == entry.binder) rest))
+    found x same = ap (λ b. option_map (λ (e : EnvEntry). e.state.0) (cond b (Some first) (find (λ (e : EnvEntry). e.binder == entry.binder) rest))) same
+
+    go : (((first.binder == entry.binder) ≡ true) × (first.binder ≡ entry.binder)) ⊎ (((first.binder == entry.binder) ≡ false) × (first.binder ≢ entry.binder)) → (first ≡ entry) ⊎ Contains rest entry → (Contains rest entry → IsSome (state_of rest entry.binder))
+        → IsSome (state_of (first ∷ rest) entry.binder)
+    go (inl same) cases next = ap is_some (found true same.0)
+    go (inr other) (inl same) next = absurd (other.1 (ap (λ (e : EnvEntry). e.binder) same))
+    go (inr other) (inr later) next = ap is_some (found false other.0) ∙ next later
 
 -- the scheme with these states
 module _ (s own : Scheme) (it : HasOwnStates s.automaton s.env own.automaton own.env) where
@@ -274,8 +366,96 @@ module _ (s own : Scheme) (it : HasOwnStates s.automaton s.env own.automaton own
         env = λ x. env_above x (state_of own.env x) refl;
       }
 
+  -- the other way round: each state of the scheme goes to itself and to its twins
+  pub own_deterministic : IsDeterministic s.automaton → IsDeterministic own.automaton
+  own_deterministic single k = at (below_or_more k (length own.automaton.states))
+    where
+      at : (k < length own.automaton.states) ⊎ ((d : ℕ) × (k ≡ length own.automaton.states + d)) → HasSingleArms (head_at own.automaton k).function × HasSingleFields (head_at own.automaton k).fields
+      at (inl low) = subst (λ (x : State). HasSingleArms x.head.function × HasSingleFields x.head.fields) (sym (it.old_state k low).1) (single (it.old_of k))
+      at (inr (d, more)) = subst (λ (x : State). HasSingleArms x.head.function × HasSingleFields x.head.fields) (sym (get_or_past own.automaton.states k past (omega (arith, more)))) (tt, tt)
+
+  pub own_all : HasBindersOf s own
+  own_all x some = go (state_of s.env x) refl some
+    where
+      go : (o : Option ℕ) → state_of s.env x ≡ o → IsSome o → IsSome (state_of own.env x)
+      go None e wrong = absurd (cc)
+      go (Some n) e is =
+          let entry = found-entry s.env x n e in
+          let mine = it.forth entry.0 entry.1 in
+          subst (λ y. IsSome (state_of own.env y)) (mine.2 ∙ entry.2) (some_state own.env mine.0 mine.1)
+
+  abbrev twins : ℕ → List ℕ
+  twins g = g ∷ filter (λ k. it.old_of k == g) (range_with_len 0 (length own.automaton.states))
+
+  IsTwin : ℕ → ℕ → Type 0
+  IsTwin g k = (k ≡ g) ⊎ ((k < length own.automaton.states) × (it.old_of k ≡ g))
+
+  twin_of : (g k : ℕ) → Contains (twins g) k → IsTwin g k
+  unfolding IsTwin
+  twin_of g k there = elim (Contains-cases g (filter (λ k. it.old_of k == g) (range_with_len 0 (length own.automaton.states))) k there) [
+    | inl same ↦ inl (sym same)
+    | inr later ↦ inr (
+      (let low : k < 0 + length own.automaton.states = (range_from-contains 0 (length own.automaton.states) k (Contains-filtered (λ k. it.old_of k == g) (range_with_len 0 (length own.automaton.states)) k later)).1 in omega (arith, low)),
+      eqb-true (it.old_of k) g (passes-filtered (λ k. it.old_of k == g) (range_with_len 0 (length own.automaton.states)) k later),
+    )
+  ]
+
+  own_twin : (k : ℕ) → k < length own.automaton.states → Contains (twins (it.old_of k)) k
+  own_twin k low =
+      Contains-later (it.old_of k) (filter (λ j. it.old_of j == it.old_of k) (range_with_len 0 (length own.automaton.states))) k
+      (Contains-filter (λ j. it.old_of j == it.old_of k) (range_with_len 0 (length own.automaton.states)) k (Contains-range (length own.automaton.states) k low) (eq-eqb (it.old_of k) (it.old_of k) refl))
+
+  module _ (is : IsScheme s) (is_own : IsScheme own) where
+    twin_low : (g k : ℕ) → g < length s.automaton.states → IsTwin g k → (k < length own.automaton.states) × (it.old_of k ≡ g)
+    unfolding IsTwin
+    twin_low g k low (inl same) =
+        let more : length s.automaton.states ≤ length own.automaton.states = it.more in
+        (omega (arith, low, same, more), ap it.old_of same ∙ it.itself g low)
+    twin_low g k low (inr at) = at
+
+    simulates : (value : ℕ → Predicate) → IsModel own.automaton value → IsSimulation s.automaton own.automaton twins value
+    simulates value model = record {
+      states = λ g k low there.
+          let at = twin_low g k low (twin_of g k there) in
+          record { in_range = at.0; polarity = ap (λ (x : State). x.polarity) ((it.old_state k at.0).1 ∙ ap (state_at s.automaton) at.1) };
+      heads = λ g k low there.
+          let at = twin_low g k low (twin_of g k there) in
+          subst (λ (x : State). IsHeadWithin (λ x y. Contains (twins x) y) (polarity_at s.automaton g) (parts_of (head_at s.automaton g)) (parts_of x.head)) (sym ((it.old_state k at.0).1 ∙ ap (state_at s.automaton) at.1))
+          (within-more Same (λ x y. Contains (twins x) y) (λ x y same. subst (Contains (twins x)) same (Contains-here x (filter (λ j. it.old_of j == x) (range_with_len 0 (length own.automaton.states))))) (polarity_at s.automaton g)
+          (parts_of (head_at s.automaton g)) (parts_of (head_at s.automaton g)) (within-self (polarity_at s.automaton g) (parts_of (head_at s.automaton g))));
+      flows = λ f k l edge one two.
+          let n : ℕ = f.negative.0 in
+          let p : ℕ = f.positive.0 in
+          let at = twin_low n k (is.automaton.negative f edge).in_range (twin_of n k one) in
+          let at' = twin_low p l (is.automaton.positive f edge).in_range (twin_of p l two) in
+          model.flows (flow k l) (it.edges n p k l edge at.0 at'.0 at.1 at'.1);
+    }
+
+    pub own_subsumed : BindersRise s.env → own.root.0 ≡ s.root.0 → DoesSubsume s own
+    own_subsumed rise root b t is_b is_t =
+        simulation_subsumes s own b t is is_own is_b is_t twins (simulates (plain is_t.variable own.automaton) (passes-model own.automaton is_own.automaton (λ f. var (is_t.variable f))))
+        (subst (Contains (twins s.root.0)) (sym root) (Contains-here s.root.0 (filter (λ j. it.old_of j == s.root.0) (range_with_len 0 (length own.automaton.states)))))
+        (λ x. paired x (state_of s.env x) refl (state_of own.env x) refl)
+      where
+        paired : (x : ℕ) (o : Option ℕ) → state_of s.env x ≡ o → (k : Option ℕ) → state_of own.env x ≡ k → IsBinderPaired twins o k
+        paired x None e k e' = tt
+        paired x (Some g) e None e' = let some : IsSome (state_of own.env x) = own_all x (ap is_some e) in let none : is_some (state_of own.env x) ≡ false = ap is_some e' in absurd (cc)
+        paired x (Some g) e (Some m) e' =
+            let mine = found-entry own.env x m e' in
+            let old = it.back mine.0 mine.1 in
+            let state : state_of s.env x ≡ Some old.0.state.0 = subst (λ y. state_of s.env y ≡ Some old.0.state.0) (old.2 ∙ mine.2) (entry-found s.env rise old.0 old.1) in
+            let same : g ≡ old.0.state.0 = cc in
+            let of : it.old_of m ≡ g = ap it.old_of (sym mine.3) ∙ (old.3 ∙ sym same) in
+            subst (λ z. Contains (twins z) m) of (own_twin m (is_own.env x m e').in_range)
+
 -- what subsumes a scheme subsumes what is equivalent to it
 pub subsumes_equivalent : (own simple s : Scheme) → IsScheme simple → DoesSubsume own simple → AreEquivalentSchemes s simple → DoesSubsume own s
 subsumes_equivalent own simple s is does same b c is_b is_c =
     let d = scheme_exists simple is in
     Subsumes-trans b d.0 c (does b d.0 is_b d.1) (same c d.0 is_c d.1).1
+
+-- and what a scheme subsumes is subsumed by what is equivalent to it
+pub equivalent_subsumes : (own simple s : Scheme) → IsScheme simple → DoesSubsume simple own → AreEquivalentSchemes s simple → DoesSubsume s own
+equivalent_subsumes own simple s is does same b c is_b is_c =
+    let d = scheme_exists simple is in
+    Subsumes-trans b d.0 c (same b d.0 is_b d.1).0 (does d.0 c d.1 is_c)

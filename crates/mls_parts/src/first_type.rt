@@ -5,7 +5,7 @@ ghost use Rattle.mls_automaton.specs.declared.automaton.Polarity.TheVariants.{Ne
 ghost use Rattle.mls_automaton.specs.declared.scheme.EnvEntry.{EnvEntry};
 ghost use Rattle.mls_automaton.specs.Automata.{IsState};
 ghost use Rattle.mls_automaton.specs.Environments.{BindersRise};
-ghost use Rattle.mls_automaton.specs.Models.{IsClosed};
+ghost use Rattle.mls_automaton.specs.Models.{IsClosed, IsDeterministic};
 ghost use Rattle.mls_automaton.specs.Schemes.{IsScheme};
 ghost use Rattle.mls_subsume.specs.Verdicts.{DoesSubsume};
 ghost use Rattle.mls_parts.specs.MetCopies.{AreSeparate};
@@ -94,7 +94,10 @@ fn with_own_states(alloc: Global, scheme: Scheme) -> Result<Scheme, Memory>
     ensures scheme { IfOk result IsScheme }
     ensures separate { IfOk result AreSeparate }
     ensures binders { IfOk result (λ own. HasBindersOf own scheme) }
+    ensures all { IfOk result (HasBindersOf scheme) }
+    ensures deterministic { IfOk result (λ own. IsDeterministic scheme.automaton → IsDeterministic own.automaton) }
     ensures subsumes { IfOk result (λ own. DoesSubsume own scheme) }
+    ensures subsumed { IfOk result (DoesSubsume scheme) }
 {
     let mut automaton = scheme.automaton;
     let mut env = Env::new(alloc);
@@ -111,7 +114,8 @@ fn with_own_states(alloc: Global, scheme: Scheme) -> Result<Scheme, Memory>
 
 /// The type of the first part of a let: the simplified scheme of this root and these binders over a solved automaton,
 /// in which each binder has a state of its own that no head names: a twin behind all others of its state, with the same
-/// head and the same edges. It subsumes what the solved automaton gives this root and these binders.
+/// head and the same edges. It is deterministic, has these binders and no others, and subsumes what the solved automaton
+/// gives this root and these binders, as that subsumes it.
 ///
 /// # Errors
 ///
@@ -125,8 +129,11 @@ pub fn first_type_of(
 ) -> Result<Scheme, Memory>
     ensures scheme { IfOk result IsScheme }
     ensures separate { IfOk result AreSeparate }
+    ensures deterministic { IfOk result (λ s. IsDeterministic s.automaton) }
     ensures binders { IfOk result (λ s. HasBindersOf s (solved_scheme solved.now root binders.now)) }
+    ensures all { IfOk result (HasBindersOf (solved_scheme solved.now root binders.now)) }
     ensures subsumes { IfOk result (λ s. DoesSubsume s (solved_scheme solved.now root binders.now)) }
+    ensures subsumed { IfOk result (DoesSubsume (solved_scheme solved.now root binders.now)) }
 {
     let scheme = Scheme {
         automaton: solved.copy()?,

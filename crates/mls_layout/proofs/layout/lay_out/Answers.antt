@@ -4,6 +4,7 @@ use Rattle.mls_automaton.specs.Automata.{polarity_at}
 use Rattle.mls_biunify.specs.Rooms.{Holds}
 use Rattle.mls_layout.specs.LaidOut.{place_of}
 use Rattle.mls_layout.specs.steps.Planned.{Planned}
+use Rattle.mls_layout.specs.steps.OwnNumbers.{AreOwned}
 use Rattle.mls_layout.specs.steps.Sources.{AreBelow, AreParted, IsEntering, IsPlaced, own_before}
 use Rattle.mls_layout.proofs.PartsLaidOut.{known_below, past_below, places_below, laid_out}
 use Rattle.mls_layout.proofs.layout.lay_out.Goals as goal
@@ -65,3 +66,5 @@ returns c = λ closed_book.
     (c.in_ok-values.ensures.extends.start ∙ ap (λ (plan : Planned). plan.start) c.new-trees.ensures) c.in_ok-values.ensures.trees c.in_ok-values.ensures.past
     c.in_ok-places.ensures.extends c.in_ok-places.ensures.trees c.in_ok-places.ensures.past
     c.in_ok-push_own.ensures.extends c.in_ok-push_own.ensures.adds c.in_ok-push_onto.ensures
+    c.in_ok-own.own
+    (subst (λ n. AreOwned c.args.a.now n c.in_ok-own.own) c.len-start.ensures.len c.in_ok-own.ensures)

@@ -1,4 +1,4 @@
-use Rattle.std.proofs.Common.{◌≡◌, ℕ, List, [], ◌∷◌, ◌++◌, ◌∙◌, ap, get_or, Contains, subst}
+use Rattle.std.proofs.Common.{◌≡◌, inl, ℕ, List, [], ◌∷◌, ◌++◌, ◌∙◌, sym, ap, get_or, Contains, subst}
 use Rattle.std.proofs.lemmas.List.Elements.{Contains-get_or}
 use Rattle.mls_automaton.specs.declared.automaton.Polarity.TheVariants.{Negative, Positive}
 use Rattle.mls_automaton.specs.declared.automaton.Head.{Head}
@@ -45,3 +45,4 @@ returns-clause-adds c =
     (λ p there.
     let inside : Contains c.partners.result.now p = subst (λ (xs : List ℕ). Contains xs p) (c.as_slice.ensures.members ∙ c.in_ok-ends.ensures) there in
     partner_edge a c.requires.closed n p c.requires.state ((c.partners.ensures.partners p).0 inside))
+    (λ p edge. subst (λ (xs : List ℕ). Contains xs p) (sym (c.as_slice.ensures.members ∙ c.in_ok-ends.ensures)) ((c.partners.ensures.partners p).1 (inl edge)))

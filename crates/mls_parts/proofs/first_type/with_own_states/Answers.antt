@@ -8,7 +8,7 @@ use Rattle.mls_automaton.proofs.Reaching.{entry-found}
 use Rattle.mls_automaton.specs.declared.scheme.Scheme.{Scheme}
 use Rattle.mls_automaton.specs.Automata.{Automaton, IsState}
 use Rattle.mls_parts.specs.steps.Twins.{HasOwnStates}
-use Rattle.mls_parts.proofs.OwnStates.{own_none, own_more, own_binders, own_separate, own_subsumes}
+use Rattle.mls_parts.proofs.OwnStates.{own_none, own_more, own_all, own_binders, own_deterministic, own_separate, own_subsumed, own_subsumes}
 use Rattle.mls_parts.proofs.Twins.{AreNegative, entries_kept, entries_none, wider_self, wider_then}
 use Rattle.mls_parts.proofs.first_type.with_own_states.Goals as goal
 
@@ -79,5 +79,27 @@ returns-clause-subsumes c =
     let wider = c.loop-entry.invariant.wider in
     let own : Scheme = record { automaton = c.loop-entry.automaton; env = c.loop-entry.env; root = c.args.scheme.root } in
     own_subsumes c.args.scheme own
+    (subst (λ (es : List EnvEntry). HasOwnStates c.args.scheme.automaton es c.loop-entry.automaton c.loop-entry.env) (take_all c.loop-entry.entry-index items c.loop-entry-test.false ∙ c.as_slice-entry-items.ensures.entries) c.loop-entry.invariant.own)
+    c.requires (checked own c.loop-entry.env refl wider.closed (wider.kept Positive c.args.scheme.root.0 c.requires.root) c.loop-entry.invariant.env) c.as_slice-entry-items.ensures.rise refl
+
+pub returns-clause-all : goal.returns-clause-all
+returns-clause-all c =
+    let items : List EnvEntry = c.as_slice-entry-items.result.now in
+    own_all c.args.scheme (record { automaton = c.loop-entry.automaton; env = c.loop-entry.env; root = c.args.scheme.root })
+    (subst (λ (es : List EnvEntry). HasOwnStates c.args.scheme.automaton es c.loop-entry.automaton c.loop-entry.env) (take_all c.loop-entry.entry-index items c.loop-entry-test.false ∙ c.as_slice-entry-items.ensures.entries) c.loop-entry.invariant.own)
+
+pub returns-clause-deterministic : goal.returns-clause-deterministic
+returns-clause-deterministic c single =
+    let items : List EnvEntry = c.as_slice-entry-items.result.now in
+    own_deterministic c.args.scheme (record { automaton = c.loop-entry.automaton; env = c.loop-entry.env; root = c.args.scheme.root })
+    (subst (λ (es : List EnvEntry). HasOwnStates c.args.scheme.automaton es c.loop-entry.automaton c.loop-entry.env) (take_all c.loop-entry.entry-index items c.loop-entry-test.false ∙ c.as_slice-entry-items.ensures.entries) c.loop-entry.invariant.own)
+    single
+
+pub returns-clause-subsumed : goal.returns-clause-subsumed
+returns-clause-subsumed c =
+    let items : List EnvEntry = c.as_slice-entry-items.result.now in
+    let wider = c.loop-entry.invariant.wider in
+    let own : Scheme = record { automaton = c.loop-entry.automaton; env = c.loop-entry.env; root = c.args.scheme.root } in
+    own_subsumed c.args.scheme own
     (subst (λ (es : List EnvEntry). HasOwnStates c.args.scheme.automaton es c.loop-entry.automaton c.loop-entry.env) (take_all c.loop-entry.entry-index items c.loop-entry-test.false ∙ c.as_slice-entry-items.ensures.entries) c.loop-entry.invariant.own)
     c.requires (checked own c.loop-entry.env refl wider.closed (wider.kept Positive c.args.scheme.root.0 c.requires.root) c.loop-entry.invariant.env) c.as_slice-entry-items.ensures.rise refl
