@@ -24,7 +24,7 @@ use Rattle.mls_emit.specs.declared.derive.writer.Concluded.TheVariants.{Bound, S
 use Rattle.mls_emit.specs.declared.derive.writer.Writer as state
 use Rattle.mls_emit.specs.Conclusions.{Conclusion, Concluded, a_binder, by_step, IsAdapted, IsBrought}
 use Rattle.mls_emit.specs.steps.Stepping.{conclusion_of, AddsStep, Adds, AreCounted, Stands, AddsAdapted}
-use Rattle.mls_emit.specs.steps.Writer.{concluded_of, IsTaken, KeepsOthers, TakesStep, BringsNode}
+use Rattle.mls_emit.specs.steps.Writer.{concluded_of, IsTaken, ConcludesNoMore, TakesStep, BringsNode}
 use Rattle.mls_emit.proofs.Runs.{no_steps, steps_append, last_found}
 use Rattle.mls_emit.proofs.Stepping.{step_adds}
 
@@ -79,7 +79,7 @@ step_stands old new step c counted it = record {
 }
 
 module _ (old now new : state.Writer) (i : ℕ) (u : NodeId) (from : written.Conclusion) (counted : AreCounted old.steps) (same_steps : now.steps ≡ old.steps) (same_laid : now.laid ≡ old.laid)
-    (others : KeepsOthers old now i) where
+    (fewer : ConcludesNoMore old now) where
   pub bound_taken : (x : ℕ) → get nat_cmp old.concluded i ≡ Some (Bound x) → new.laid ≡ now.laid → new.concluded ≡ now.concluded
       → AddsStep now.steps new.steps (a_step i rule.Var (entry x u.0 ∷ []) u.0) from → TakesStep old new i u from
   bound_taken x found laid concluded adds =
@@ -93,7 +93,7 @@ module _ (old now new : state.Writer) (i : ℕ) (u : NodeId) (from : written.Con
         adds = step_adds old.laid.book old.steps new.steps step from refl counted it;
         stands = step_stands old.steps new.steps step from counted it;
         laid = laid ∙ same_laid;
-        others = λ j other. ap (λ m. get nat_cmp m j) concluded ∙ others j other;
+        fewer = λ j own known. fewer j own (sym (ap (λ m. get nat_cmp m j) concluded) ∙ known);
       }
 
   pub step_taken : get nat_cmp old.concluded i ≡ Some (Step from) → Stands (steps_of old.steps.lines) from → TakesStep old now i u from
@@ -110,7 +110,7 @@ module _ (old now new : state.Writer) (i : ℕ) (u : NodeId) (from : written.Con
     };
     stands = subst (λ (s : Steps). Stands (steps_of s.lines) from) (sym same_steps) stands;
     laid = same_laid;
-    others = others;
+    fewer = fewer;
   }
 
 -- behind the step of a node, the lines that bring it to an environment and a type
@@ -130,7 +130,7 @@ taken_brings old now new i d u from to it adapts laid concluded = record {
         counted = adapts.counted;
       });
   laid = laid ∙ it.laid;
-  others = λ j other. ap (λ m. get nat_cmp m j) concluded ∙ it.others j other;
+  fewer = λ j own known. it.fewer j own (sym (ap (λ m. get nat_cmp m j) concluded) ∙ known);
 }
   where
     steps : List StepLine

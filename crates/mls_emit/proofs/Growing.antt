@@ -1,4 +1,5 @@
 -- The writer of a part's lines, while nodes are added to its book.
+--     longer_itself, longer_then      a longer book
 --     grows_itself, grows_then, grows_laid, grows_pushed      the book grows
 --     pushed_node             the node that was added last
 --     joins_more, meets_more  one binder more of two environments
@@ -15,8 +16,15 @@ use Rattle.mls_parts.specs.Posings.{binder_in}
 use Rattle.mls_emit.specs.declared.derive.writer.Writer as state
 use Rattle.mls_emit.specs.steps.Environments.{JoinsAt, JoinsIn, MeetsAt, MeetsIn, AreEntries}
 use Rattle.mls_emit.specs.steps.Stepping.{binder_node}
-use Rattle.mls_emit.specs.steps.Writer.{Grows, own_node}
+use Rattle.mls_emit.specs.steps.Writer.{Grows, IsLonger, own_node}
 use Rattle.mls_emit.proofs.JoinedEnvironments.{entries_push, entries_more, joins_stays, meets_stays}
+
+pub longer_itself : (book : List Node) → IsLonger book book
+longer_itself book = ([], sym (append-nil book))
+
+pub longer_then : (first second third : List Node) → IsLonger first second → IsLonger second third → IsLonger first third
+longer_then first second third (more, is) (others, later) =
+    (more ++ others, later ∙ (ap (λ (l : List Node). l ++ others) is ∙ append_assoc first more others))
 
 pub grows_itself : (w : state.Writer) → Grows w w
 grows_itself w = record {

@@ -4,8 +4,10 @@ pub mod Stepping
 pub mod Environments
 pub mod JoinedEnvironments
 pub mod Growing
-pub mod WrittenLeaves
 pub mod Bringing
+pub mod GoingOn
+pub mod PlainForms
+pub mod ToldForms
 pub mod ReadLayouts
 pub mod CombinedParts
 pub mod TypeLayers

@@ -1,6 +1,7 @@
 pub mod Orders
 pub mod Conclusions
 pub mod NodeLines
+pub mod Writings
 pub mod OneEach
 pub mod Derived
 pub mod ReadPlaces

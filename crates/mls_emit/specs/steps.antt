@@ -2,3 +2,4 @@
 pub mod Stepping
 pub mod Environments
 pub mod Writer
+pub mod PlainLines

@@ -1,5 +1,5 @@
 //! Derivations of the types of a signature.
-ghost use Rattle.std.specs.Prelude.{◌≡◌, ℕ, length, slice_get, All, IfOk, Some};
+ghost use Rattle.std.specs.Prelude.{◌≡◌, ℕ, length, slice_get, All, IfOk, IfSome, Some};
 ghost use Rattle.mls_deriv.specs.Laws.{AreDerivable, AreTerms};
 ghost use Rattle.mls_deriv.specs.Spellings.{derivation_text};
 ghost use Rattle.mls_deriv.specs.Texts.{IsTextOf};
@@ -33,6 +33,14 @@ use mls_typetext::scheme::{Names, ReadScheme};
 use section::{scheme_of, write_section};
 use std::alloc::Global;
 
+/// How the lines of a part are written: with few steps, and nodes that are made for them, or plainly, with the nodes
+/// that are laid out for the constraint.
+#[derive(Clone, Copy)]
+pub(crate) enum Way {
+    Short,
+    Plain,
+}
+
 // The same name once more.
 fn copied_name(name: &Name) -> Result<Name, Memory>
     ensures { IfOk result (λ copy. copy ≡ name.now) }
@@ -55,6 +63,7 @@ fn copied_bytes(alloc: Global, bytes: &[u8]) -> Result<List<u8>, Memory>
 // The section of a binding with this entry, where names mean what is declared and what the entries say.
 fn section_of(
     alloc: Global,
+    way: Way,
     declared: &[ReadScheme],
     entries: &[SigEntry],
     schemes: &mut Schemes,
@@ -72,7 +81,7 @@ fn section_of(
 {
     let nodes = binding.term.nodes.as_slice();
     let read = scheme_of(entry);
-    let written = write_section(alloc, declared, entries, schemes, nodes, read)?;
+    let written = write_section(alloc, way, declared, entries, schemes, nodes, read)?;
     Ok(Section {
         name: copied_name(&entry.name)?,
         text: copied_bytes(alloc, entry.text.as_slice())?,
@@ -94,6 +103,7 @@ fn binding_at(bindings: &[ResolvedBinding], number: usize) -> Result<&ResolvedBi
 // The sections of all entries.
 fn sections_of(
     alloc: Global,
+    way: Way,
     bindings: &[ResolvedBinding],
     declared: &[ReadScheme],
     entries: &[SigEntry],
@@ -108,15 +118,70 @@ fn sections_of(
     let mut schemes = Schemes::new(alloc);
     for entry in entries {
         let binding = binding_at(bindings, sections.len())?;
-        let section = section_of(alloc, declared, entries, &mut schemes, binding, entry)?;
+        let section = section_of(alloc, way, declared, entries, &mut schemes, binding, entry)?;
         sections.push(section)?;
     }
     Ok(sections)
 }
 
+// A derivation whose lines are written in this way, if the check allows it and it has a text.
+fn checked(
+    alloc: Global,
+    way: Way,
+    module: &Resolved,
+    declared: &Names,
+    signature: &Signature,
+) -> Result<Option<Derivation>, Memory>
+    requires names { AreNames declared.now }
+    requires terms { AreTerms (length declared.now.schemes) «module».now.bindings }
+    requires entries { All IsEntry signature.now.entries }
+    ensures steps { IfOk result (λ found. IfSome found (λ d. AreDerivations declared.now.schemes «module».now.bindings
+        signature.now.entries d.sections)) }
+    ensures derivable { IfOk result (λ found. IfSome found (λ d. AreDerivable declared.now.schemes
+        «module».now.bindings d.sections)) }
+    ensures text { IfOk result (λ found. IfSome found (λ d. IsTextOf (derivation_text d) d)) }
+{
+    let sections = sections_of(
+        alloc,
+        way,
+        module.bindings.as_slice(),
+        declared.schemes.as_slice(),
+        signature.entries.as_slice(),
+    )?;
+    let derivation = Derivation { sections };
+    if !has_text(alloc, &derivation)? {
+        return Ok(None);
+    }
+    match verify(alloc, &derivation, module, declared)? {
+        Verified::Yes => Ok(Some(derivation)),
+        Verified::No(_) => Ok(None),
+    }
+}
+
+// A derivation whose lines are written plainly.
+fn plain_derivation_of(
+    alloc: Global,
+    module: &Resolved,
+    declared: &Names,
+    signature: &Signature,
+) -> Result<Derivation, Memory>
+    requires names { AreNames declared.now }
+    requires terms { AreTerms (length declared.now.schemes) «module».now.bindings }
+    requires entries { All IsEntry signature.now.entries }
+    ensures steps { IfOk result (λ d. AreDerivations declared.now.schemes «module».now.bindings signature.now.entries
+        d.sections) }
+    ensures derivable { IfOk result (λ d. AreDerivable declared.now.schemes «module».now.bindings d.sections) }
+    ensures text { IfOk result (λ d. IsTextOf (derivation_text d) d) }
+{
+    match checked(alloc, Way::Plain, module, declared, signature)? {
+        Some(derivation) => Ok(derivation),
+        None => Err(Memory),
+    }
+}
+
 /// A derivation of the signature of a module over the schemes of its environment: the operators, and what its imports
 /// declare. There is one section for each entry, each step is allowed, and what `print_derivation` writes of it is read
-/// back as the same derivation.
+/// back as the same derivation. Its lines are short ones, and where the check refuses these, plain ones.
 ///
 /// # Errors
 ///
@@ -136,18 +201,8 @@ pub fn derivation_of(
     ensures derivable { IfOk result (λ d. AreDerivable declared.now.schemes «module».now.bindings d.sections) }
     ensures text { IfOk result (λ d. IsTextOf (derivation_text d) d) }
 {
-    let sections = sections_of(
-        alloc,
-        module.bindings.as_slice(),
-        declared.schemes.as_slice(),
-        signature.entries.as_slice(),
-    )?;
-    let derivation = Derivation { sections };
-    if !has_text(alloc, &derivation)? {
-        return Err(Memory);
-    }
-    match verify(alloc, &derivation, module, declared)? {
-        Verified::Yes => Ok(derivation),
-        Verified::No(_) => Err(Memory),
+    match checked(alloc, Way::Short, module, declared, signature)? {
+        Some(derivation) => Ok(derivation),
+        None => plain_derivation_of(alloc, module, declared, signature),
     }
 }

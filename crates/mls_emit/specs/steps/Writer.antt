@@ -1,15 +1,10 @@
 -- What the writer of a part's lines knows, as the definitions say it, and how it grows.
-use Rattle.std.specs.Prelude.{◌≡◌, ℕ, List, [], ◌∷◌, ◌++◌, length, Contains, Option, Some, option_map}
+use Rattle.std.specs.Prelude.{◌≡◌, ℕ, List, [], ◌∷◌, ◌++◌, length, Option, Some, option_map}
 use Rattle.std.specs.BTreeMap.{get}
 use Rattle.std.specs.Ordering.{nat_cmp}
 use Rattle.mls_book.specs.declared.book.NodeId.{NodeId}
 use Rattle.mls_book.specs.declared.book.Node.{Node}
-use Rattle.mls_book.specs.declared.book.Node.TheVariants as node
-use Rattle.mls_book.specs.Books.{node_at}
-use Rattle.mls_term.specs.declared.term.TermForm.{TermForm}
-use Rattle.mls_term.specs.declared.term.TermForm.TheVariants as form
 use Rattle.mls_deriv.specs.declared.derivation.BinderNode.{BinderNode}
-use Rattle.mls_deriv.specs.declared.derivation.StepLine.{StepLine}
 use Rattle.mls_deriv.specs.declared.derivation.StepRule.TheVariants as rule
 use Rattle.mls_deriv.specs.Sections.{steps_of}
 use Rattle.mls_deriv.specs.Steps.{IsRising}
@@ -23,8 +18,7 @@ use Rattle.mls_emit.specs.declared.derive.steps.Conclusion as conclusion
 use Rattle.mls_emit.specs.declared.derive.writer.Concluded as written
 use Rattle.mls_emit.specs.declared.derive.writer.Concluded.TheVariants.{Bound, Step}
 use Rattle.mls_emit.specs.declared.derive.writer.Writer as state
-use Rattle.mls_emit.specs.Conclusions.{Concluded, Conclusion, a_binder, by_step, bound_as, IsBrought}
-use Rattle.mls_emit.specs.NodeLines.{Standing}
+use Rattle.mls_emit.specs.Conclusions.{Concluded, Conclusion, a_binder, by_step, bound_as, IsBrought, IsOffered}
 use Rattle.mls_emit.specs.steps.Stepping.{conclusion_of, Adds, Stands}
 
 -- what a node concludes
@@ -54,9 +48,10 @@ IsTaken (by_step c) count part u plan from = (plan ≡ []) × (from ≡ c)
 IsTaken (a_binder x) count part u plan from =
     (plan ≡ a_step_with (a_step part rule.Var (entry x u ∷ []) u) [] ∷ []) × (from ≡ bound_as x u count)
 
--- what the other nodes conclude is as it was
-abbrev pub KeepsOthers : (old new : state.Writer) → ℕ → Type 0
-KeepsOthers old new i = (j : ℕ) → (j ≡ i → ⊥) → get nat_cmp new.concluded j ≡ get nat_cmp old.concluded j
+-- no node concludes what it did not conclude before
+abbrev pub ConcludesNoMore : (old new : state.Writer) → Type 0
+ConcludesNoMore old new = (i : ℕ) (own : written.Concluded) → get nat_cmp new.concluded i ≡ Some own
+    → get nat_cmp old.concluded i ≡ Some own
 
 -- the step of a node is taken out, and a binder gets one of this type
 pub record TakesStep (old new : state.Writer) (i : ℕ) (u : NodeId) (from : conclusion.Conclusion) : Type 0 where
@@ -67,7 +62,7 @@ pub record TakesStep (old new : state.Writer) (i : ℕ) (u : NodeId) (from : con
   pub adds : Adds old.laid.book old.steps new.steps plan
   pub stands : Stands (steps_of new.steps.lines) from
   pub laid : new.laid ≡ old.laid
-  pub others : KeepsOthers old new i
+  pub fewer : ConcludesNoMore old new
 
 -- The lines that are added bring what a node concludes to this environment and type.
 pub record BringsNode (old new : state.Writer) (i : ℕ) (d : List BinderNode) (u : NodeId) (number : ℕ) : Type 0 where
@@ -77,7 +72,18 @@ pub record BringsNode (old new : state.Writer) (i : ℕ) (d : List BinderNode) (
   pub brought : IsBrought own (length (steps_of old.steps.lines)) i d u.0 plan number
   pub adds : Adds old.laid.book old.steps new.steps plan
   pub laid : new.laid ≡ old.laid
-  pub others : KeepsOthers old new i
+  pub fewer : ConcludesNoMore old new
+
+-- What a node is offered where it has this type: the environment in which it has it with least effort.
+pub record Offers (w : state.Writer) (p : Posing) (i u : ℕ) (d : List BinderNode) : Type 0 where
+  pub own : Concluded
+  pub known : concluded_in w i ≡ Some own
+  pub offers : IsOffered (own_node w p) own u d
+  pub rising : IsRising d
+
+-- the second book is the first and more nodes
+abbrev pub IsLonger : (old new : List Node) → Type 0
+IsLonger old new = (more : List Node) × (new ≡ old ++ more)
 
 -- The book has more nodes, and what was laid out, the lines and the conclusions are as they were.
 pub record Grows (old new : state.Writer) : Type 0 where
@@ -89,23 +95,3 @@ pub record Grows (old new : state.Writer) : Type 0 where
   pub integer : new.laid.integer ≡ old.laid.integer
   pub steps : new.steps ≡ old.steps
   pub concluded : new.concluded ≡ old.concluded
-
--- Lines are added as this relation tells, behind those so far: the book has the nodes with which their lists of pairs were
--- made.
-pub record Writes (Tells : List StepLine → List PlannedLine → Concluded → Type 0) (old new : state.Writer) (own : Concluded) :
-    Type 0 where
-  pub plan : List PlannedLine
-  pub tells : Tells (steps_of old.steps.lines) plan own
-  pub made : List Node
-  pub rest : List Node
-  pub longer : new.laid.book ≡ made ++ rest
-  pub adds : Adds made old.steps new.steps plan
-
--- Where a number, a truth value or a binder stands: the node of `int` or of `bool` is a part of the head of its root.
-abbrev pub HasLeaf : state.Writer → Standing → ℕ → TermForm → Type 0
-HasLeaf w at i (form.Bound x) = Unit {0}
-HasLeaf w at i (form.Number value) =
-    Contains (at.parts (at.root i)) w.laid.integer.0 × (node_at w.laid.book w.laid.integer.0 ≡ node.Int)
-HasLeaf w at i (form.Truth value) =
-    Contains (at.parts (at.root i)) w.laid.boolean.0 × (node_at w.laid.book w.laid.boolean.0 ≡ node.Bool)
-HasLeaf w at i _ = ⊥

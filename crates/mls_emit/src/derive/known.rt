@@ -1,5 +1,7 @@
 //! What is known of the names of a section, and where their types stand in its book.
-ghost use Rattle.std.specs.Prelude.{OnOk};
+ghost use Rattle.std.specs.Prelude.{◌≡◌, IfOk, OnOk, Some};
+ghost use Rattle.std.specs.BTreeMap.{get};
+ghost use Rattle.std.specs.Ordering.{nat_cmp};
 ghost use Rattle.mls_term.specs.declared.term.TermForm.TheVariants as form;
 ghost use Rattle.mls_iface.specs.Matches.{IsRead};
 ghost use Rattle.mls_emit.specs.Drafts.{HaveNoBinders, KnowsForm};
@@ -44,6 +46,34 @@ pub(crate) type Globals = BTreeMap<usize, GlobalAt>;
 
 /// First parts by the numbers of their lets.
 pub(crate) type FirstParts = BTreeMap<usize, FirstPart>;
+
+/// Where the type of a name of the environment stands.
+///
+/// # Errors
+///
+/// `Memory` where that is not known.
+pub(crate) fn global_at(globals: &Globals, g: usize) -> Result<&GlobalAt, Memory>
+    ensures { IfOk result (λ global. get nat_cmp globals.now g ≡ Some global.now) }
+{
+    match globals.get(&g) {
+        None => Err(Memory),
+        Some(global) => Ok(global),
+    }
+}
+
+/// The first part of a let.
+///
+/// # Errors
+///
+/// `Memory` where that is not known.
+pub(crate) fn first_part(firsts: &FirstParts, k: usize) -> Result<&FirstPart, Memory>
+    ensures { IfOk result (λ part. get nat_cmp firsts.now k ≡ Some part.now) }
+{
+    match firsts.get(&k) {
+        None => Err(Memory),
+        Some(part) => Ok(part),
+    }
+}
 
 /// Makes the type of a name of the environment known, where it was not read before.
 ///

@@ -1,5 +1,7 @@
 //! What the variables of a name's type stand for at a use: what flows in at the copies of the negative places that show
 //! them.
+ghost use Rattle.std.specs.Prelude.{IfOk};
+ghost use Rattle.mls_emit.specs.steps.Writer.{IsLonger};
 
 use crate::derive::known::GlobalAt;
 use mls_automaton::automaton::Polarity;
@@ -45,12 +47,15 @@ fn is_among(number: usize, first: usize, count: usize) -> bool {
 }
 
 // The join of nodes of the book.
-fn joined(book: &mut Book, ids: &NodeIds) -> Result<NodeId, Memory> {
+fn joined(book: &mut Book, ids: &NodeIds) -> Result<NodeId, Memory>
+    ensures { IfOk result (λ id. IsLonger book.old book.new) }
+{
     let length = book.len();
     if !ids.as_slice().iter().all(|id| id.0 < length) {
         return Err(Memory);
     }
-    push_tree(book, Polarity::Positive, ids.as_slice())
+    let node = push_tree(book, Polarity::Positive, ids.as_slice())?;
+    Ok(node)
 }
 
 // The node of the copy of a state, where copies begin with this number.
@@ -84,7 +89,9 @@ pub(crate) fn global_puts(
     places: &Places,
     global: &GlobalAt,
     first: usize,
-) -> Result<Puts, Memory> {
+) -> Result<Puts, Memory>
+    ensures { IfOk result (λ puts. IsLonger book.old book.new) }
+{
     let mut puts = Puts::new(alloc);
     for variable in 0..global.variables {
         let ids = match global.showing.get(&variable) {

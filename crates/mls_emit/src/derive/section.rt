@@ -17,6 +17,7 @@ ghost use Rattle.mls_emit.specs.Drafts.{AreTermNodes, HaveNoBinders, KnowGlobals
 ghost use Rattle.mls_emit.specs.OneEach.{HasOneEach};
 ghost use Rattle.mls_emit.specs.ReadPlaces.{IsReadLaid};
 
+use crate::derive::Way;
 use crate::derive::copies::push_book;
 use crate::derive::known::{FirstPart, FirstParts, Globals, Schemes, know_type, put_global};
 use crate::derive::prune::{Written, pruned};
@@ -54,6 +55,7 @@ struct Draft {
     globals: Globals,
     firsts: FirstParts,
     variable: usize,
+    way: Way,
 }
 
 // The type of a part in the book.
@@ -143,7 +145,7 @@ fn type_env(alloc: Global, at: &TypeAt) -> Result<BinderNodes, Memory>
 
 impl Draft {
     // A section that begins with the nodes of a type, where the types of these names were read before.
-    fn new(alloc: Global, read: &ReadScheme, schemes: Schemes) -> Result<Draft, Memory>
+    fn new(alloc: Global, way: Way, read: &ReadScheme, schemes: Schemes) -> Result<Draft, Memory>
         ensures { IfOk result (λ draft. draft.known.globals ≡ schemes) }
     {
         let mut book = Book::new(alloc);
@@ -158,6 +160,7 @@ impl Draft {
             globals: Globals::new(alloc),
             firsts: FirstParts::new(alloc),
             variable: read.vars,
+            way,
         })
     }
 
@@ -339,7 +342,10 @@ impl Draft {
         part: &[usize],
         posing: &Posing,
     ) -> Result<(), Memory> {
-        let spines = Spines::of(alloc, nodes, part, &self.known.lets)?;
+        let spines = match self.way {
+            Way::Short => Spines::of(alloc, nodes, part, &self.known.lets)?,
+            Way::Plain => Spines::new(alloc),
+        };
         let view = PartView {
             posing,
             spines: &spines,
@@ -347,7 +353,10 @@ impl Draft {
             globals: &self.globals,
             firsts: &self.firsts,
         };
-        writer.write_part(alloc, &view, nodes, part)
+        match self.way {
+            Way::Short => writer.write_part(alloc, &view, nodes, part),
+            Way::Plain => writer.write_plain_part(alloc, &view, nodes, part),
+        }
     }
 
     // Writes the lines of a part, and answers its last step, which has the type of the part.
@@ -539,7 +548,8 @@ fn replace_steps(steps: &mut Steps, alloc: Global) -> Steps {
     std::mem::replace(steps, Steps::new(alloc))
 }
 
-/// The section of a term that has this type: its nodes begin with those of the type, and each other node serves a line.
+/// The section of a term that has this type: its nodes begin with those of the type, and where the short way is taken
+/// each other node serves a line.
 /// The types of names that were read before are read once for all sections; where memory is wanting, none is left.
 ///
 /// # Errors
@@ -547,6 +557,7 @@ fn replace_steps(steps: &mut Steps, alloc: Global) -> Steps {
 /// `Memory` where memory is wanting.
 pub(crate) fn write_section(
     alloc: Global,
+    way: Way,
     declared: &[ReadScheme],
     entries: &[SigEntry],
     schemes: &mut Schemes,
@@ -561,14 +572,24 @@ pub(crate) fn write_section(
     ensures { HaveNoBinders schemes.new }
 {
     let parts = parts_of(alloc, nodes)?;
-    let mut draft = Draft::new(alloc, read, replace_schemes(schemes, alloc))?;
+    let mut draft = Draft::new(alloc, way, read, replace_schemes(schemes, alloc))?;
     draft.add_globals(alloc, declared, entries, nodes)?;
     let fixed = draft.book.len();
     for root in 0..nodes.len() {
         draft.add_root(alloc, nodes, &parts, root, read)?;
     }
-    let written = pruned(alloc, &draft.book, draft.steps.lines.as_slice(), fixed)?;
-    let known = draft.known;
+    let Draft {
+        book,
+        steps,
+        known,
+        ..
+    } = draft;
     *schemes = known.globals;
-    Ok(written)
+    match way {
+        Way::Short => pruned(alloc, &book, steps.lines.as_slice(), fixed),
+        Way::Plain => Ok(Written {
+            book,
+            lines: steps.lines,
+        }),
+    }
 }

@@ -82,7 +82,8 @@ fn listed(alloc: Global, binders: &Binders) -> Result<Numbers, Memory> {
 }
 
 impl Spines {
-    fn new(alloc: Global) -> Spines {
+    /// No chain.
+    pub(crate) fn new(alloc: Global) -> Spines {
         Spines {
             firsts: BTreeMap::new(alloc),
             links: BTreeMap::new(alloc),

@@ -1,13 +1,10 @@
 //! The lines of a part, written node by node: each has the step of its rule, behind those that bring its parts to the
 //! types that the rule asks for.
-ghost use Rattle.std.specs.Prelude.{◌≡◌, ℕ, Contains, IfOk};
-ghost use Rattle.mls_book.specs.Books.{node_at};
-ghost use Rattle.mls_book.specs.declared.book.Node.{Node as IsNode};
-ghost use Rattle.mls_layout.specs.Parts.{Constraint};
-ghost use Rattle.mls_emit.specs.Conclusions.{Concluded as IsConcluded};
-ghost use Rattle.mls_emit.specs.NodeLines.{IsLeafWritten, IsWrittenAs, NamesKnown, Standing};
-ghost use Rattle.mls_emit.specs.steps.Stepping.{AreCounted};
-ghost use Rattle.mls_emit.specs.steps.Writer.{HasLeaf, Writes, concluded_of};
+ghost use Rattle.std.specs.Prelude.{◌≡◌, [], IfOk, Ok, OnOk};
+ghost use Rattle.mls_deriv.specs.declared.derivation.StepRule.TheVariants.{Lit};
+ghost use Rattle.mls_emit.specs.declared.derive.steps.Conclusion.{Conclusion as IsConclusion};
+ghost use Rattle.mls_emit.specs.declared.derive.writer.Concluded.TheVariants.{Step};
+ghost use Rattle.mls_emit.specs.steps.Stepping.{AddsStep};
 
 mod chains;
 mod choices;
@@ -15,6 +12,7 @@ mod functions;
 mod joined;
 mod names;
 mod nodes;
+mod plain;
 mod records;
 
 use crate::derive::known::{FirstParts, Globals};
@@ -60,22 +58,24 @@ pub(crate) enum Concluded {
 }
 
 // A step as what a node concludes.
-fn stepped(own: Result<Conclusion, Memory>) -> Result<Concluded, Memory> {
+fn stepped(own: Result<Conclusion, Memory>) -> Result<Concluded, Memory>
+    ensures { IfOk result (λ made. (c : IsConclusion) × (own ≡ Ok c) × (made ≡ Step c)) }
+{
     let own = own?;
     Ok(Concluded::Step(own))
 }
 
 impl Writer {
     // A number or a truth value.
-    fn literal(&mut self, alloc: Global, node: usize, root: NodeId) -> Result<Concluded, Memory>
-        ensures { (c : Constraint) (at : Standing) (names : NamesKnown) (of : ℕ → IsConcluded) (leaf : IsNode)
-            → AreCounted self.old.steps → Contains (at.parts (at.root node)) root.0
-            → node_at self.old.laid.book root.0 ≡ leaf → IfOk result (λ own. Writes
-            (IsLeafWritten self.old.laid.book c at names of leaf node) self.old self.new (concluded_of own)) }
+    fn literal(&mut self, alloc: Global, node: usize, root: NodeId) -> Result<Conclusion, Memory>
+        ensures laid { OnOk result (self.new.laid ≡ self.old.laid) }
+        ensures concluded { OnOk result (self.new.concluded ≡ self.old.concluded) }
+        ensures lines { IfOk result (AddsStep self.old.steps self.new.steps
+            (record { node = node; rule = Lit; env = []; root = root })) }
     {
         let env = BinderNodes::new(alloc);
         let own = self.steps.step(alloc, node, StepRule::Lit, env, root)?;
-        Ok(Concluded::Step(own))
+        Ok(own)
     }
 
     // What a node concludes by its rule, behind what its rule asks for.
@@ -85,17 +85,13 @@ impl Writer {
         view: &PartView,
         node: usize,
         form: &TermForm,
-    ) -> Result<Concluded, Memory>
-        ensures { (c : Constraint) (at : Standing) (names : NamesKnown) (of : ℕ → IsConcluded)
-            → AreCounted self.old.steps → HasLeaf self.old at node form.now → IfOk result (λ own. Writes
-            (IsWrittenAs self.old.laid.book c at names of form.now node) self.old self.new (concluded_of own)) }
-    {
+    ) -> Result<Concluded, Memory> {
         match form {
             TermForm::Bound(x) => Ok(Concluded::Bound(*x)),
             TermForm::Inner(k) => stepped(self.inner(alloc, view, node, *k)),
             TermForm::Global(g) => stepped(self.global(alloc, view, node, *g)),
-            TermForm::Number(_) => self.literal(alloc, node, self.laid.integer),
-            TermForm::Truth(_) => self.literal(alloc, node, self.laid.boolean),
+            TermForm::Number(_) => stepped(self.literal(alloc, node, self.laid.integer)),
+            TermForm::Truth(_) => stepped(self.literal(alloc, node, self.laid.boolean)),
             TermForm::Fun(x, body) => stepped(self.fun(alloc, view, node, *x, *body)),
             TermForm::Apply(function, argument) => {
                 stepped(self.apply(alloc, view, node, *function, *argument))

@@ -1,4 +1,9 @@
 //! The lines of functions, recursions and applications.
+ghost use Rattle.std.specs.Prelude.{ℕ, List, IfOk};
+ghost use Rattle.mls_term.specs.declared.term.TermForm.TheVariants as form;
+ghost use Rattle.mls_layout.specs.Parts.{Constraint};
+ghost use Rattle.mls_emit.specs.declared.derive.writer.Concluded.TheVariants.{Step};
+ghost use Rattle.mls_emit.specs.steps.PlainLines.{HasOwnParts, IsSound, WritesNode};
 
 use crate::derive::envs::{with, without};
 use crate::derive::steps::{Conclusion, node_of};
@@ -57,13 +62,20 @@ impl Writer {
         node: usize,
         x: usize,
         body: usize,
-    ) -> Result<Conclusion, Memory> {
+    ) -> Result<Conclusion, Memory>
+        ensures { (c : Constraint) (parts : ℕ → List ℕ) → IsSound self.old
+            → HasOwnParts self.old c.automaton parts → IfOk result (λ own. WritesNode view.now.globals.now
+            view.now.firsts.now c view.now.posing.now parts node (form.Rec x body) self.old self.new (Step own)) }
+    {
         let root = self.place(view.posing.root(body));
-        let own = self.offered(alloc, view, body, root)?;
-        let inner = with(alloc, own.as_slice(), x, root)?;
+        let offer = self.offered(alloc, view, body, root)?;
+        let inner = with(alloc, offer.as_slice(), x, root)?;
         let step = self.adapted(alloc, body, inner.as_slice(), root)?;
-        let env = without(alloc, own.as_slice(), x)?;
-        self.steps.step(alloc, node, StepRule::Rec(step), env, root)
+        let env = without(alloc, offer.as_slice(), x)?;
+        let own = self
+            .steps
+            .step(alloc, node, StepRule::Rec(step), env, root)?;
+        Ok(own)
     }
 
     // The type of the function of an application: that which the function has, if it is one of functions, or else that

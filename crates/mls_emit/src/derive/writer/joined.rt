@@ -1,12 +1,12 @@
 //! Environments of several parts: what each part offers, and all of it in one.
-ghost use Rattle.std.specs.Prelude.{◌≡◌, ℕ, IfOk, OnOk, Some};
+ghost use Rattle.std.specs.Prelude.{◌≡◌, ℕ, IfOk, OnOk};
 ghost use Rattle.mls_book.specs.Books.{node_at};
 ghost use Rattle.mls_book.specs.declared.book.Node.TheVariants.{Meet};
 ghost use Rattle.mls_deriv.specs.Steps.{IsRising};
-ghost use Rattle.mls_emit.specs.Conclusions.{Concluded as IsConcluded, IsJoined, IsOffered, IsPlaced, by_step};
+ghost use Rattle.mls_emit.specs.Conclusions.{IsJoined, IsOffered, IsPlaced, by_step};
 ghost use Rattle.mls_emit.specs.steps.Environments.{Agrees, AreEntries, IsMetIn, JoinsAt, JoinsIn, MeetsAt, MeetsIn};
 ghost use Rattle.mls_emit.specs.steps.Stepping.{binder_node, conclusion_of};
-ghost use Rattle.mls_emit.specs.steps.Writer.{Grows, HaveRisingSteps, concluded_in, own_node};
+ghost use Rattle.mls_emit.specs.steps.Writer.{Grows, HaveRisingSteps, Offers, own_node};
 
 use crate::derive::envs::{both, with};
 use crate::derive::steps::{Conclusion, are_same, copied, node_of};
@@ -74,9 +74,7 @@ impl Writer {
         node: usize,
         root: NodeId,
     ) -> Result<BinderNodes, Memory>
-        ensures { HaveRisingSteps self.now → IfOk result (λ d. (own : IsConcluded)
-            × (concluded_in self.now node ≡ Some own)
-            × IsOffered (own_node self.now view.now.posing.now) own root.0 d) }
+        ensures { HaveRisingSteps self.now → IfOk result (Offers self.now view.now.posing.now node root.0) }
     {
         let own = self.concluded_at(node)?;
         match own {

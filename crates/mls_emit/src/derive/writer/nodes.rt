@@ -1,15 +1,15 @@
 //! The nodes of states, what a node of the term concludes, and the step that brings it to another type.
-ghost use Rattle.std.specs.Prelude.{◌≡◌, ◌∷◌, [], IfOk, OnOk, Some};
+ghost use Rattle.std.specs.Prelude.{◌≡◌, ◌+◌, ◌∷◌, [], get_or, IfOk, IfSome, None, OnOk, Some};
 ghost use Rattle.std.specs.BTreeMap.{get};
 ghost use Rattle.std.specs.Ordering.{nat_cmp};
 ghost use Rattle.mls_book.specs.Books.{node_at};
-ghost use Rattle.mls_book.specs.declared.book.Node.TheVariants.{Meet};
+ghost use Rattle.mls_book.specs.declared.book.Node.TheVariants.{Arrow, Meet};
 ghost use Rattle.mls_deriv.specs.Steps.{IsRising};
 ghost use Rattle.mls_deriv.specs.declared.derivation.StepRule.TheVariants.{Var};
 ghost use Rattle.mls_layout.specs.LaidOut.{node_of};
 ghost use Rattle.mls_layout.specs.Scopes.{entry};
 ghost use Rattle.mls_emit.specs.steps.Stepping.{AddsStep, AreCounted};
-ghost use Rattle.mls_emit.specs.steps.Writer.{BringsNode, Grows, HaveSteps, KeepsOthers, TakesStep};
+ghost use Rattle.mls_emit.specs.steps.Writer.{BringsNode, ConcludesNoMore, Grows, HaveSteps, TakesStep};
 
 use crate::derive::envs::with;
 use crate::derive::steps::Conclusion;
@@ -32,8 +32,11 @@ pub(crate) struct ArrowNode {
 /// # Errors
 ///
 /// `Memory` where memory is wanting.
-pub(crate) fn behind(number: usize, by: usize) -> Result<usize, Memory> {
-    number.checked_add(by).ok_or(Memory)
+pub(crate) fn behind(number: usize, by: usize) -> Result<usize, Memory>
+    ensures { IfOk result (λ later. later ≡ by + number) }
+{
+    let later = by.checked_add(number).ok_or(Memory)?;
+    Ok(later)
 }
 
 impl Writer {
@@ -49,9 +52,13 @@ impl Writer {
     /// # Errors
     ///
     /// `Memory` where memory is wanting.
-    pub(crate) fn function(&self, state: usize) -> Result<ArrowNode, Memory> {
+    pub(crate) fn function(&self, state: usize) -> Result<ArrowNode, Memory>
+        ensures own { IfOk result (λ arrow. get_or self.now.laid.own.functions state None ≡ Some arrow.node) }
+        ensures node { IfOk result (λ arrow. node_at self.now.laid.book arrow.node.0 ≡ Arrow arrow.from arrow.to) }
+    {
         let node = self.laid.function(state).ok_or(Memory)?;
-        self.arrow_at(node).ok_or(Memory)
+        let arrow = self.arrow_at(node).ok_or(Memory)?;
+        Ok(arrow)
     }
 
     /// The node of the record of a state.
@@ -59,7 +66,9 @@ impl Writer {
     /// # Errors
     ///
     /// `Memory` where memory is wanting.
-    pub(crate) fn record(&self, state: usize) -> Result<NodeId, Memory> {
+    pub(crate) fn record(&self, state: usize) -> Result<NodeId, Memory>
+        ensures { IfOk result (λ id. get_or self.now.laid.own.records state None ≡ Some id) }
+    {
         let id = self.laid.record(state).ok_or(Memory)?;
         if id.0 >= self.laid.book.len() {
             return Err(Memory);
@@ -68,7 +77,10 @@ impl Writer {
     }
 
     /// The node, if it is a function.
-    pub(crate) fn arrow_at(&self, node: NodeId) -> Option<ArrowNode> {
+    pub(crate) fn arrow_at(&self, node: NodeId) -> Option<ArrowNode>
+        ensures is { IfSome result (λ arrow. arrow.node ≡ node) }
+        ensures node { IfSome result (λ arrow. node_at self.now.laid.book node.0 ≡ Arrow arrow.from arrow.to) }
+    {
         if node.0 >= self.laid.book.len() {
             return None;
         }
@@ -130,7 +142,7 @@ impl Writer {
     // Takes out what a node concludes.
     fn take_concluded(&mut self, node: usize) -> Result<Concluded, Memory>
         ensures found { IfOk result (λ own. get nat_cmp self.old.concluded node ≡ Some own) }
-        ensures others { KeepsOthers self.old self.new node }
+        ensures fewer { ConcludesNoMore self.old self.new }
         ensures laid { self.new.laid ≡ self.old.laid }
         ensures steps { self.new.steps ≡ self.old.steps }
     {

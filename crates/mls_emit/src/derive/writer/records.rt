@@ -1,4 +1,8 @@
 //! The lines of records and projections.
+ghost use Rattle.std.specs.Prelude.{◌≡◌, List, IfOk, Some};
+ghost use Rattle.mls_book.specs.Books.{field_at, node_at};
+ghost use Rattle.mls_book.specs.declared.book.Field.{Field as IsField};
+ghost use Rattle.mls_book.specs.declared.book.Node.TheVariants.{Rcd};
 
 use crate::derive::copies::push_checked;
 use crate::derive::steps::Conclusion;
@@ -16,8 +20,11 @@ use std::alloc::Global;
 use std::collections::BTreeMap;
 
 // The node of the field with this label.
-fn field_at(fields: &Fields, label: &Name) -> Result<NodeId, Memory> {
-    labelled(fields, fields.is_rising(), label).ok_or(Memory)
+fn field_at(fields: &Fields, label: &Name) -> Result<NodeId, Memory>
+    ensures { IfOk result (λ to. field_at label.now fields.now ≡ Some to) }
+{
+    let to = labelled(fields, fields.is_rising(), label).ok_or(Memory)?;
+    Ok(to)
 }
 
 // The nodes of the fields with the labels of these parts.
@@ -59,8 +66,15 @@ fn with_nodes(
 }
 
 impl Writer {
-    // The node of a field of a record.
-    fn field(&self, record: NodeId, label: &Name) -> Result<NodeId, Memory> {
+    /// The node of a field of a record.
+    ///
+    /// # Errors
+    ///
+    /// `Memory` where memory is wanting.
+    pub(crate) fn field(&self, record: NodeId, label: &Name) -> Result<NodeId, Memory>
+        ensures { IfOk result (λ to. (fields : List IsField) × (node_at self.now.laid.book record.0 ≡ Rcd fields)
+            × (field_at label.now fields ≡ Some to)) }
+    {
         if record.0 >= self.laid.book.len() {
             return Err(Memory);
         }
@@ -84,8 +98,17 @@ impl Writer {
         }
     }
 
-    // The nodes of the fields of a record at the labels of these parts.
-    fn fields(&self, alloc: Global, record: NodeId, parts: &[Part]) -> Result<NodeIds, Memory> {
+    /// The nodes of the fields of a record at the labels of these parts.
+    ///
+    /// # Errors
+    ///
+    /// `Memory` where memory is wanting.
+    pub(crate) fn fields(
+        &self,
+        alloc: Global,
+        record: NodeId,
+        parts: &[Part],
+    ) -> Result<NodeIds, Memory> {
         if record.0 >= self.laid.book.len() {
             return Err(Memory);
         }
@@ -128,8 +151,12 @@ impl Writer {
         push_checked(&mut self.laid.book, node)
     }
 
-    // The steps of the parts of a record at these types.
-    fn parts(
+    /// The steps of the parts of a record at these types.
+    ///
+    /// # Errors
+    ///
+    /// `Memory` where memory is wanting.
+    pub(crate) fn parts(
         &mut self,
         alloc: Global,
         fields: &[NodeId],
@@ -144,8 +171,12 @@ impl Writer {
         Ok(steps)
     }
 
-    // The environment of the parts of a record.
-    fn env_of_parts(
+    /// The environment of the parts of a record.
+    ///
+    /// # Errors
+    ///
+    /// `Memory` where memory is wanting.
+    pub(crate) fn env_of_parts(
         &mut self,
         alloc: Global,
         view: &PartView,

@@ -5,9 +5,9 @@ use Rattle.mls_emit.proofs.derive.writer.Writer.taken.Goals as goal
 pub returns-in_ok-step-in-Bound : goal.returns-in_ok-step-in-Bound
 returns-in_ok-step-in-Bound c = λ counted have.
     bound_taken c.args.self.now c.take_concluded.new.self c.bound_step.new.self c.args.node c.args.root c.in_ok-step-in-Bound.step counted c.take_concluded.ensures.steps c.take_concluded.ensures.laid
-    c.take_concluded.ensures.others c.in-Bound.x (c.in_ok-own.ensures.found ∙ ap Some c.in-Bound.is) c.in_ok-step-in-Bound.ensures.laid c.in_ok-step-in-Bound.ensures.concluded c.in_ok-step-in-Bound.ensures.lines
+    c.take_concluded.ensures.fewer c.in-Bound.x (c.in_ok-own.ensures.found ∙ ap Some c.in-Bound.is) c.in_ok-step-in-Bound.ensures.laid c.in_ok-step-in-Bound.ensures.concluded c.in_ok-step-in-Bound.ensures.lines
 
 pub returns-in-Step : goal.returns-in-Step
 returns-in-Step c = λ counted have.
     step_taken c.args.self.now c.take_concluded.new.self c.take_concluded.new.self c.args.node c.args.root c.in-Step.from counted c.take_concluded.ensures.steps c.take_concluded.ensures.laid
-    c.take_concluded.ensures.others (c.in_ok-own.ensures.found ∙ ap Some c.in-Step.is) (have c.args.node c.in-Step.from (c.in_ok-own.ensures.found ∙ ap Some c.in-Step.is))
+    c.take_concluded.ensures.fewer (c.in_ok-own.ensures.found ∙ ap Some c.in-Step.is) (have c.args.node c.in-Step.from (c.in_ok-own.ensures.found ∙ ap Some c.in-Step.is))
