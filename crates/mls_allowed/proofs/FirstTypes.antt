@@ -27,7 +27,8 @@ use Rattle.mls_term.specs.Terms.{TermTree, local, before}
 use Rattle.mls_term.specs.Derivations.{Known, Derives}
 use Rattle.mls_typing.specs.Typed.{Types, IsTyped, needs_of, type_of}
 use Rattle.mls_typing.proofs.Instances.{Allows-subsumes, IsTyped-derived}
-use Rattle.mls_allowed.specs.FirstTypes.{HasFirstType, HaveFirstTypes}
+use Rattle.mls_layout.specs.PosedNodes.{IsNamed}
+use Rattle.mls_allowed.specs.FirstTypes.{AreLetsIn, HasFirstType, HaveFirstTypes}
 use Rattle.mls_parts.specs.declared.pose.Posing.{Posing}
 use Rattle.mls_parts.specs.NodeTypes.{AllowsAll, IsKnownHere, IsNodeOf, LetsAllow}
 use Rattle.mls_parts.specs.NumberedNodes.{IsPlaced}
@@ -62,13 +63,13 @@ module _ (nodes : List TermNode) (known : Known) (globals lets : BTreeMap ℕ Sc
       known over here n t refl placed known_here inside it.inside types f typed
 
   -- all lets of a part have types that allow all of their first parts
-  pub firsts_allow : HaveFirstTypes nodes known globals lets → (t : TermTree) (scope : List ℕ) (here : Known) (n : ℕ) → IsPlaced nodes scope n t → IsKnownHere known scope here → LetsAllow known scope here t
-  firsts_allow firsts = lets_allow nodes known step
+  pub firsts_allow : (let_scope : ℕ → List ℕ) → HaveFirstTypes nodes known globals lets let_scope → (t : TermTree) (scope : List ℕ) (here : Known) (n : ℕ) → IsPlaced nodes scope n t → AreLetsIn let_scope scope t → IsKnownHere known scope here → LetsAllow known scope here t
+  firsts_allow let_scope firsts = lets_allow nodes known let_scope step
     where
-      step : (scope : List ℕ) (here : Known) (n at k : ℕ) (e f : TermTree) → IsPlaced nodes scope n (local at k e f) → IsKnownHere known scope here → LetsAllow known scope here e
+      step : (scope : List ℕ) (here : Known) (n at k : ℕ) (e f : TermTree) → IsPlaced nodes scope n (local at k e f) → IsNamed let_scope scope k → IsKnownHere known scope here → LetsAllow known scope here e
           → (s : book.Scheme) × (env.get known.lets k ≡ Some s) × AllowsAll scope here e s
-      step scope here n at k e f placed known_here inside =
-          let it = firsts scope n at k e f placed in
+      step scope here n at k e f placed named known_here inside =
+          let it = firsts scope n at k e f placed named in
           (it.0, it.1, first_allows scope here n e (placed_first nodes scope n at e f k placed) known_here inside it.0 it.2)
 
 -- The type that is made of the solved constraint of a part: each book of a scheme that subsumes it, and has no binders but its own.

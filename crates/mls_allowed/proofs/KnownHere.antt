@@ -19,8 +19,10 @@ use Rattle.mls_typing.specs.InferenceLaws.{at_start, AllSchemes}
 use Rattle.mls_typing.proofs.Contexts.{same_key}
 use Rattle.mls_typing.proofs.Instances.{Allows-subsumed, best_allows, best_by_types, typed_under}
 use Rattle.mls_typing.proofs.Lists.{Contains-later}
+use Rattle.mls_layout.specs.PosedNodes.{IsNamed}
 use Rattle.mls_parts.specs.NodeTypes.{NeedsOnly, AllowsAll, LetsAllow, AllLetsAllow, IsKnownHere}
 use Rattle.mls_parts.specs.NumberedNodes.{behind, IsPlaced}
+use Rattle.mls_allowed.specs.FirstTypes.{AreLetsIn, AreFieldLetsIn}
 use Rattle.mls_allowed.proofs.PlacedParts.{ArePlaced, placed_fun, placed_fix, placed_project, placed_function, placed_argument, placed_condition, placed_first_branch, placed_second_branch, placed_first, placed_second, placed_fields, placed_field, placed_rest}
 
 -- at the root the names of the environment are known, which need no binders
@@ -79,41 +81,41 @@ pub allows_all_more : (scope : List ℕ) (here : Known) (t : TermTree) (s u : Sc
 allows_all_more scope here t s u is needs general it = record { is = is; needs = needs; all = λ types f h. Allows-subsumed s it.is types f (it.all types f h) u general }
 
 -- Each let has a scheme that allows all types of its first part, if it has one once the lets inside the first part have.
-module _ (nodes : List TermNode) (known : Known)
-    (step : (scope : List ℕ) (here : Known) (n at k : ℕ) (e f : TermTree) → IsPlaced nodes scope n (local at k e f) → IsKnownHere known scope here → LetsAllow known scope here e
+module _ (nodes : List TermNode) (known : Known) (let_scope : ℕ → List ℕ)
+    (step : (scope : List ℕ) (here : Known) (n at k : ℕ) (e f : TermTree) → IsPlaced nodes scope n (local at k e f) → IsNamed let_scope scope k → IsKnownHere known scope here → LetsAllow known scope here e
     → (s : Scheme) × (env.get known.lets k ≡ Some s) × AllowsAll scope here e s) where
   mutual
-    pub lets_allow : (t : TermTree) (scope : List ℕ) (here : Known) (n : ℕ) → IsPlaced nodes scope n t → IsKnownHere known scope here → LetsAllow known scope here t
-    lets_allow (bound at x) scope here n placed known_here = tt
-    lets_allow (inner at k) scope here n placed known_here = tt
-    lets_allow (global at g) scope here n placed known_here = tt
-    lets_allow (number at value) scope here n placed known_here = tt
-    lets_allow (truth at value) scope here n placed known_here = tt
-    lets_allow (fun at x e) scope here n placed known_here = lets_allow e (x ∷ scope) here n (placed_fun nodes scope n at x e placed) (known_more known scope here x known_here)
-    lets_allow (fix at x e) scope here n placed known_here = lets_allow e (x ∷ scope) here n (placed_fix nodes scope n at x e placed) (known_more known scope here x known_here)
-    lets_allow (project at e label) scope here n placed known_here = lets_allow e scope here n (placed_project nodes scope n at e label placed) known_here
-    lets_allow (apply at e f) scope here n placed known_here = (
-      lets_allow e scope here n (placed_function nodes scope n at e f placed) known_here,
-      lets_allow f scope here (behind n e) (placed_argument nodes scope n at e f placed) known_here,
+    pub lets_allow : (t : TermTree) (scope : List ℕ) (here : Known) (n : ℕ) → IsPlaced nodes scope n t → AreLetsIn let_scope scope t → IsKnownHere known scope here → LetsAllow known scope here t
+    lets_allow (bound at x) scope here n placed inside_scope known_here = tt
+    lets_allow (inner at k) scope here n placed inside_scope known_here = tt
+    lets_allow (global at g) scope here n placed inside_scope known_here = tt
+    lets_allow (number at value) scope here n placed inside_scope known_here = tt
+    lets_allow (truth at value) scope here n placed inside_scope known_here = tt
+    lets_allow (fun at x e) scope here n placed inside_scope known_here = lets_allow e (x ∷ scope) here n (placed_fun nodes scope n at x e placed) inside_scope (known_more known scope here x known_here)
+    lets_allow (fix at x e) scope here n placed inside_scope known_here = lets_allow e (x ∷ scope) here n (placed_fix nodes scope n at x e placed) inside_scope (known_more known scope here x known_here)
+    lets_allow (project at e label) scope here n placed inside_scope known_here = lets_allow e scope here n (placed_project nodes scope n at e label placed) inside_scope known_here
+    lets_allow (apply at e f) scope here n placed inside_scope known_here = (
+      lets_allow e scope here n (placed_function nodes scope n at e f placed) inside_scope.0 known_here,
+      lets_allow f scope here (behind n e) (placed_argument nodes scope n at e f placed) inside_scope.1 known_here,
     )
-    lets_allow (choice at c e f) scope here n placed known_here = (
-      lets_allow c scope here n (placed_condition nodes scope n at c e f placed) known_here,
-      lets_allow e scope here (behind n c) (placed_first_branch nodes scope n at c e f placed) known_here,
-      lets_allow f scope here (behind (behind n c) e) (placed_second_branch nodes scope n at c e f placed) known_here,
+    lets_allow (choice at c e f) scope here n placed inside_scope known_here = (
+      lets_allow c scope here n (placed_condition nodes scope n at c e f placed) inside_scope.0 known_here,
+      lets_allow e scope here (behind n c) (placed_first_branch nodes scope n at c e f placed) inside_scope.1 known_here,
+      lets_allow f scope here (behind (behind n c) e) (placed_second_branch nodes scope n at c e f placed) inside_scope.2 known_here,
     )
-    lets_allow (make at parts) scope here n placed known_here = all_lets_allow parts scope here n (placed_fields nodes scope n at parts placed) known_here
-    lets_allow (local at k e f) scope here n placed known_here =
-        let inside : LetsAllow known scope here e = lets_allow e scope here n (placed_first nodes scope n at e f k placed) known_here in
-        let it = step scope here n at k e f placed known_here inside in (
+    lets_allow (make at parts) scope here n placed inside_scope known_here = all_lets_allow parts scope here n (placed_fields nodes scope n at parts placed) inside_scope known_here
+    lets_allow (local at k e f) scope here n placed inside_scope known_here =
+        let inside : LetsAllow known scope here e = lets_allow e scope here n (placed_first nodes scope n at e f k placed) inside_scope.1 known_here in
+        let it = step scope here n at k e f placed inside_scope.0 known_here inside in (
           it.0,
           it.1,
           it.2,
-          lets_allow f scope (with_let here k it.0) (behind n e) (placed_second nodes scope n at e f k placed) (known_let known scope here k it.0 it.1 it.2.is it.2.needs known_here),
+          lets_allow f scope (with_let here k it.0) (behind n e) (placed_second nodes scope n at e f k placed) inside_scope.2 (known_let known scope here k it.0 it.1 it.2.is it.2.needs known_here),
         )
 
-    pub all_lets_allow : (parts : TermFields) (scope : List ℕ) (here : Known) (n : ℕ) → ArePlaced nodes scope n parts → IsKnownHere known scope here → AllLetsAllow known scope here parts
-    all_lets_allow no_field scope here n placed known_here = tt
-    all_lets_allow (a_field label e rest) scope here n placed known_here = (
-      lets_allow e scope here n (placed_field nodes scope n label e rest placed) known_here,
-      all_lets_allow rest scope here (behind n e) (placed_rest nodes scope n label e rest placed) known_here,
+    pub all_lets_allow : (parts : TermFields) (scope : List ℕ) (here : Known) (n : ℕ) → ArePlaced nodes scope n parts → AreFieldLetsIn let_scope scope parts → IsKnownHere known scope here → AllLetsAllow known scope here parts
+    all_lets_allow no_field scope here n placed inside_scope known_here = tt
+    all_lets_allow (a_field label e rest) scope here n placed inside_scope known_here = (
+      lets_allow e scope here n (placed_field nodes scope n label e rest placed) inside_scope.0 known_here,
+      all_lets_allow rest scope here (behind n e) (placed_rest nodes scope n label e rest placed) inside_scope.1 known_here,
     )

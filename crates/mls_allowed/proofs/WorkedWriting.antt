@@ -23,7 +23,7 @@ use Rattle.mls_layout.specs.Posed.{IsPosed}
 use Rattle.mls_layout.specs.Runs.{a_step}
 use Rattle.mls_layout.specs.Uses.{NamesOnly}
 use Rattle.mls_emit.specs.NodeLines.{Standing, NamesKnown, IsInnerWritten, IsLetWritten, IsWrittenAs}
-use Rattle.mls_allowed.specs.Writings.{IsBefore, AreWrittenBefore, IsNodeOf, itself, within, IsWriting}
+use Rattle.mls_emit.specs.Writings.{IsBefore, AreWrittenBefore, IsNodeOf, itself, within, IsWriting}
 use Rattle.mls_allowed.specs.WrittenParts.{IsPartWritten}
 use Rattle.mls_allowed.specs.WrittenUses.{IsInnerRead, IsLetRead, IsUseRead}
 use Rattle.mls_allowed.proofs.NamesEmitted.{no_binder}

@@ -34,7 +34,7 @@ use Rattle.mls_layout.specs.Runs.{a_step}
 use Rattle.mls_layout.specs.Scopes.{entry}
 use Rattle.mls_layout.specs.Uses.{NamesOnly}
 use Rattle.mls_emit.specs.NodeLines.{NamesKnown}
-use Rattle.mls_allowed.specs.Writings.{IsPartOf, IsNodeOf, itself, within, AreInOrder, IsWriting}
+use Rattle.mls_emit.specs.Writings.{IsPartOf, IsNodeOf, itself, within, AreInOrder, IsWriting}
 use Rattle.mls_allowed.proofs.Conclusions.{good_none, good_then, says_then, above_before, above_itself, by_above, CoversAll, Brings, brought}
 use Rattle.mls_allowed.proofs.PartClaims.{below_type_shown, above_type_shown}
 use Rattle.mls_allowed.proofs.Plans.{planned_append}

@@ -46,7 +46,7 @@ use Rattle.mls_layout.specs.Shown.{IsShown, claimed}
 use Rattle.mls_layout.specs.Trees.{IsTree, IsPlaceIn}
 use Rattle.mls_layout.specs.Uses.{NamesOnly, below_copy, above_copy}
 use Rattle.mls_emit.specs.NodeLines.{by_rule, Standing, NamesKnown, node_of, IsLeafWritten, IsFunWritten, IsRecWritten, IsApplyWritten, IsProjectWritten, IsIfWritten, AreOffered, IsMakeWritten, IsGlobalWritten, IsInnerWritten, IsLetWritten}
-use Rattle.mls_allowed.specs.Writings.{IsBefore, IsWriting}
+use Rattle.mls_emit.specs.Writings.{IsBefore, IsWriting}
 use Rattle.mls_allowed.specs.WrittenUses.{IsCopyAt, IsGlobalRead, IsInnerRead, IsLetRead, IsReadAs, IsUseRead}
 use Rattle.mls_allowed.proofs.Conclusions.{good_none, says_then, node_low}
 use Rattle.mls_allowed.proofs.OneField.{one_field}

@@ -1,5 +1,5 @@
 -- The first parts of lets, each with its solved constraint and the type that is known of the let's name.
-use Rattle.std.specs.Prelude.{◌≡◌, ℕ, ◌+◌, List, Contains, Some}
+use Rattle.std.specs.Prelude.{◌≡◌, ℕ, ◌+◌, ◌<◌, List, ◌∷◌, Contains, IsSome, Some}
 use Rattle.std.specs.BTreeMap.{BTreeMap}
 use Rattle.std.specs.FinMap as env
 use Rattle.mls_book.specs.Schemes as book
@@ -7,18 +7,32 @@ use Rattle.mls_book.specs.Schemes.{Subsumes}
 use Rattle.mls_automaton.specs.declared.scheme.EnvEntry.{EnvEntry}
 use Rattle.mls_automaton.specs.declared.scheme.Scheme.{Scheme}
 use Rattle.mls_automaton.specs.Automata.{Automaton}
-use Rattle.mls_automaton.specs.Models.{IsClosed}
-use Rattle.mls_automaton.specs.Schemes.{IsSchemeOf}
+use Rattle.mls_automaton.specs.Environments.{BindersRise}
+use Rattle.mls_automaton.specs.Models.{IsClosed, IsDeterministic}
+use Rattle.mls_automaton.specs.Schemes.{IsScheme, IsSchemeOf}
 use Rattle.mls_biunify.specs.Relations.{IsGoal, IsRelated}
 use Rattle.mls_biunify.specs.Solved.{IsSolved}
 use Rattle.mls_term.specs.declared.term.TermNode.{TermNode}
-use Rattle.mls_term.specs.Terms.{TermTree, local, before}
+use Rattle.mls_subsume.specs.Verdicts.{DoesSubsume}
+use Rattle.mls_term.specs.declared.term.TermForm.TheVariants as form
+use Rattle.mls_term.specs.Terms.{TermTree, TermFields, bound, inner, global, number, truth, fun, apply, make, project}
+use Rattle.mls_term.specs.Terms.{choice, local, fix, no_field, a_field, before}
 use Rattle.mls_term.specs.Derivations.{Known}
+use Rattle.mls_deriv.specs.Steps.{form_at}
+use Rattle.mls_layout.specs.PosedNodes.{IsNamed}
+use Rattle.mls_parts.specs.declared.binders.PartBinders.{PartBinders}
 use Rattle.mls_parts.specs.declared.pose.Posing.{Posing}
+use Rattle.mls_parts.specs.declared.split.TermPart.{TermPart}
 use Rattle.mls_parts.specs.NodeTypes.{IsNodeOf, NeedsOnly}
 use Rattle.mls_parts.specs.NumberedNodes.{IsPlaced}
 use Rattle.mls_allowed.specs.PartTypes.{AreAround, solved_part}
+use Rattle.mls_parts.specs.PartBinders.{ArePartBinders, NeedsBinder}
+use Rattle.mls_parts.specs.PartUses.{KnowTypes}
 use Rattle.mls_parts.specs.PosedParts.{IsPartPosed}
+use Rattle.mls_parts.specs.Posings.{known_in, root_in}
+use Rattle.mls_parts.specs.SolvedTypes.{HasBindersOf, solved_scheme}
+use Rattle.mls_parts.specs.TermParts.{IsTermPart}
+use Rattle.mls_allowed.specs.ReadyParts.{around_states}
 
 -- The part of this tree, whose first node has the number n, has its constraint, which is solved; the type subsumes what
 -- it gives the part, and needs no binders but those around.
@@ -41,8 +55,73 @@ pub record HasFirstType (nodes : List TermNode) (globals lets : BTreeMap ℕ Sch
   pub needs : NeedsOnly scope type
   pub subsumes : Subsumes type scheme
 
--- so is the first part of each let, and its type is known
-abbrev pub HaveFirstTypes : List TermNode → Known → (globals lets : BTreeMap ℕ Scheme) → Type 0
-HaveFirstTypes nodes known globals lets =
-    (scope : List ℕ) (n at k : ℕ) (e f : TermTree) → IsPlaced nodes scope n (local at k e f)
+-- the binders around each let of a tree are in scope there
+module _ (let_scope : ℕ → List ℕ) where
+  abbrev mutual
+    pub AreLetsIn : List ℕ → TermTree → Type 0
+    AreLetsIn scope (bound at x) = Unit {0}
+    AreLetsIn scope (inner at k) = Unit {0}
+    AreLetsIn scope (global at g) = Unit {0}
+    AreLetsIn scope (number at value) = Unit {0}
+    AreLetsIn scope (truth at value) = Unit {0}
+    AreLetsIn scope (fun at x e) = AreLetsIn (x ∷ scope) e
+    AreLetsIn scope (apply at e f) = AreLetsIn scope e × AreLetsIn scope f
+    AreLetsIn scope (make at fields) = AreFieldLetsIn scope fields
+    AreLetsIn scope (project at e label) = AreLetsIn scope e
+    AreLetsIn scope (choice at c e f) = AreLetsIn scope c × AreLetsIn scope e × AreLetsIn scope f
+    AreLetsIn scope (local at k e f) = IsNamed let_scope scope k × AreLetsIn scope e × AreLetsIn scope f
+    AreLetsIn scope (fix at x e) = AreLetsIn (x ∷ scope) e
+
+    pub AreFieldLetsIn : List ℕ → TermFields → Type 0
+    AreFieldLetsIn scope no_field = Unit {0}
+    AreFieldLetsIn scope (a_field label e rest) = AreLetsIn scope e × AreFieldLetsIn scope rest
+
+-- so is the first part of each let, where the binders around the let are in scope, and its type is known
+abbrev pub HaveFirstTypes : List TermNode → Known → (globals lets : BTreeMap ℕ Scheme) → (let_scope : ℕ → List ℕ)
+    → Type 0
+HaveFirstTypes nodes known globals lets let_scope =
+    (scope : List ℕ) (n at k : ℕ) (e f : TermTree) → IsPlaced nodes scope n (local at k e f) → IsNamed let_scope scope k
     → (type : book.Scheme) × (env.get known.lets k ≡ Some type) × HasFirstType nodes globals lets scope n e type
+
+-- The type that is known of a let was made of its first part, which has this root: the part has its constraint over the
+-- binders that it names, which is solved; and the type is deterministic, has the binders around the part that it names
+-- and no others, and subsumes what the solved constraint gives the part and these, as that subsumes it.
+pub record IsFirstMade (nodes : List TermNode) (globals lets : BTreeMap ℕ Scheme) (r : ℕ) (own : Scheme) :
+    Type 0 where
+  pub part : TermPart
+  pub is_part : IsTermPart nodes r part
+  pub know : KnowTypes globals lets nodes part.nodes
+  pub binders : PartBinders
+  pub are_binders : ArePartBinders nodes lets part.nodes binders
+  pub posing : Posing
+  pub posed : IsPartPosed nodes globals lets binders.all part.nodes posing
+  pub solved : Automaton
+  pub is_solved : IsSolved posing.automaton (IsRelated posing.automaton (IsGoal posing.goals)) solved
+  pub closed : IsClosed solved
+  pub is : IsScheme own
+  pub rise : BindersRise own.env
+  pub single : IsDeterministic own.automaton
+  pub all : HasBindersOf (solved_scheme solved (root_in posing r) (around_states posing binders.around)) own
+  pub same : HasBindersOf own (solved_scheme solved (root_in posing r) (around_states posing binders.around))
+  pub subsumes : DoesSubsume own (solved_scheme solved (root_in posing r) (around_states posing binders.around))
+  pub subsumed : DoesSubsume (solved_scheme solved (root_in posing r) (around_states posing binders.around)) own
+
+-- The types of the first parts before node r are known, and were made so; no other let has one. They need no binders
+-- but those around their lets.
+pub record AreFirstsMade (nodes : List TermNode) (globals lets : BTreeMap ℕ Scheme) (let_scope : ℕ → List ℕ) (r : ℕ) :
+    Type 0 where
+  pub made : (i k j l : ℕ) → form_at nodes i ≡ Some (form.Let k j l) → j < r
+      → (own : Scheme) × (known_in lets k ≡ Some own) × IsFirstMade nodes globals lets j own
+  pub only : (k : ℕ) → IsSome (known_in lets k)
+      → (i j l : ℕ) × (form_at nodes i ≡ Some (form.Let k j l)) × (j < r)
+  pub needs : (k x : ℕ) → NeedsBinder (known_in lets k) x → Contains (let_scope k) x
+
+-- no two lets have one number
+abbrev pub HaveOwnLets : List TermNode → Type 0
+HaveOwnLets nodes = (i h k j l m o : ℕ) → form_at nodes i ≡ Some (form.Let k j l)
+    → form_at nodes h ≡ Some (form.Let k m o) → i ≡ h
+
+-- each known type of a let has a book
+abbrev pub HaveBooks : Known → BTreeMap ℕ Scheme → Type 0
+HaveBooks known lets = (k : ℕ) (s : Scheme) → known_in lets k ≡ Some s
+    → (b : book.Scheme) × (env.get known.lets k ≡ Some b) × IsSchemeOf s b

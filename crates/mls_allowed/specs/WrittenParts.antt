@@ -22,7 +22,7 @@ use Rattle.mls_layout.specs.Posed.{IsPosed}
 use Rattle.mls_layout.specs.Rows.{Fits}
 use Rattle.mls_layout.specs.Uses.{NamesOnly}
 use Rattle.mls_emit.specs.NodeLines.{NamesKnown}
-use Rattle.mls_allowed.specs.Writings.{IsNodeOf, IsWriting}
+use Rattle.mls_emit.specs.Writings.{IsNodeOf, IsWriting}
 use Rattle.mls_allowed.specs.WrittenUses.{IsUseRead}
 
 -- Node `part` of the term has a constraint, where these first parts are known, and the plan is what is written for its
