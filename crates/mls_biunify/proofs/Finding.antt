@@ -1,12 +1,12 @@
 -- Pairs by each of their states.
---     put_members, members_there, members_none      a member more in the set of a key
+--     empty_more                                    an empty set more
+--     set_more                                      a member more in one set
 --     pairs_more, pairs_same, relates_more          a pair more, by its first state
 --     index_more                                    a pair more, by its second state
-use Rattle.std.proofs.Common.{◌≡◌, ◌≢◌, ◌⊎◌, inl, inr, true, ℕ, ◌<◌, List, [], ◌∷◌, ◌++◌, sym, ap, ◌∙◌, subst, arith, Contains, Some, None}
+use Rattle.std.proofs.Common.{◌≡◌, ◌≢◌, ◌⊎◌, inl, inr, true, ℕ, ◌<◌, List, [], ◌∷◌, ◌++◌, get_or, slice_set, length, zero, suc, refl, sym, ap, ◌∙◌, subst, arith, Contains}
 use Rattle.std.specs.Prelude.{◌↔◌, Result, Ok, Err, OnOk, is_ok}
-use Rattle.std.specs.BTreeMap.{BTreeMap, get}
-use Rattle.std.specs.Ordering.{nat_cmp}
 use Rattle.std.proofs.lemmas.Bool.{cases_eq}
+use Rattle.std.proofs.lemmas.List.{get_or-set_same, get_or-set_other}
 use Rattle.std.proofs.lemmas.List.Elements.{Contains-append_cases, Contains-append_left, Contains-append_right}
 use Rattle.mls_automaton.proofs.Lists.{Contains-cases, Contains-here}
 use Rattle.mls_biunify.specs.Rooms.{Room, Holds}
@@ -14,46 +14,45 @@ use Rattle.mls_biunify.specs.steps.Finding.{HasMember}
 use Rattle.mls_biunify.specs.steps.Growth.{Relates}
 use Rattle.mls_biunify.proofs.Relating.{Relates-kept, Relates-none}
 
-same_member : (sets : BTreeMap ℕ (List ℕ)) (k m : ℕ) (set : List ℕ) → get nat_cmp sets k ≡ Some set → HasMember sets k m → Contains set m
-same_member sets k m set is it =
-    let both : Some it.0 ≡ Some set = sym it.1 ∙ is in
-    let same : it.0 ≡ set = cc in
-    subst (λ (xs : List ℕ). Contains xs m) same it.2
+empty_behind : (sets : List (List ℕ)) (k : ℕ) → get_or (sets ++ [] ∷ []) k [] ≡ get_or sets k []
+empty_behind [] zero = refl
+empty_behind [] (suc k) = refl
+empty_behind (set ∷ sets) zero = refl
+empty_behind (set ∷ sets) (suc k) = empty_behind sets k
 
--- the set that is there has the members of the key, and where none is there, the key has none
-pub members_there : (sets : BTreeMap ℕ (List ℕ)) (k : ℕ) (set : List ℕ) → get nat_cmp sets k ≡ Some set → (m : ℕ) → Contains set m ↔ HasMember sets k m
-members_there sets k set is m = (λ it. (set, is, it), λ it. same_member sets k m set is it)
+-- an empty set more has no member
+pub empty_more : (sets sets' : List (List ℕ)) → sets' ≡ sets ++ [] ∷ [] → (k m : ℕ) → HasMember sets' k m ↔ HasMember sets k m
+empty_more sets sets' is k m =
+    let same : get_or sets' k [] ≡ get_or sets k [] = ap (λ (xs : List (List ℕ)). get_or xs k []) is ∙ empty_behind sets k in
+    (λ it. subst (λ (set : List ℕ). Contains set m) same it, λ it. subst (λ (set : List ℕ). Contains set m) (sym same) it)
 
-pub members_none : (sets : BTreeMap ℕ (List ℕ)) (k : ℕ) → get nat_cmp sets k ≡ None → (m : ℕ) → HasMember sets k m → ⊥
-members_none sets k is m it = let both : Some it.0 ≡ None = sym it.1 ∙ is in absurd (cc)
-
--- a member more in the set of a key
-module _ (old new : BTreeMap ℕ (List ℕ)) (key member : ℕ) (set more : List ℕ) (members : (m : ℕ) → Contains set m ↔ HasMember old key m) (added : (j : ℕ) → Contains more j ↔ (j ≡ member) ⊎ Contains set j) (here : get nat_cmp new key ≡ Some more) (elsewhere : (k : ℕ) → k ≢ key → get nat_cmp new k ≡ get nat_cmp old k) where
-  pub put_members : (k m : ℕ) → HasMember new k m ↔ HasMember old k m ⊎ ((k ≡ key) × (m ≡ member))
-  put_members k m = go (cases_eq k key)
-    where
-      go : (k ≡ key) ⊎ (k ≢ key) → HasMember new k m ↔ HasMember old k m ⊎ ((k ≡ key) × (m ≡ member))
-      go (inl same) = (
-        λ it. elim ((added m).0 (same_member new key m more here (subst (λ j. HasMember new j m) same it))) [
-          | inl is ↦ inr (same, is)
-          | inr there ↦ inl (subst (λ j. HasMember old j m) (sym same) ((members m).0 there))
-        ],
-        λ both. subst (λ j. HasMember new j m) (sym same) (
-          more,
-          here,
-          elim both [
-            | inl before ↦ (added m).1 (inr ((members m).1 (subst (λ j. HasMember old j m) same before)))
-            | inr is ↦ (added m).1 (inl is.1)
+-- a member more in one set
+pub set_more : (sets : List (List ℕ)) (number member : ℕ) (more : List ℕ) → number < length sets → ((m : ℕ) → Contains more m ↔ (m ≡ member) ⊎ HasMember sets number m)
+    → (k m : ℕ) → HasMember (slice_set sets number more) k m ↔ HasMember sets k m ⊎ ((k ≡ number) × (m ≡ member))
+set_more sets number member more low are k m = go (cases_eq k number)
+  where
+    go : (k ≡ number) ⊎ (k ≢ number) → HasMember (slice_set sets number more) k m ↔ HasMember sets k m ⊎ ((k ≡ number) × (m ≡ member))
+    go (inl same) =
+        let here : get_or (slice_set sets number more) k [] ≡ more = ap (λ j. get_or (slice_set sets number more) j []) same ∙ get_or-set_same sets number more [] low in
+        (
+          λ it. elim ((are m).0 (subst (λ (xs : List ℕ). Contains xs m) here it)) [
+            | inl is ↦ inr (same, is)
+            | inr there ↦ inl (subst (λ j. HasMember sets j m) (sym same) there)
           ],
-        ),
-      )
-      go (inr apart) = (
-        λ it. inl (it.0, sym (elsewhere k apart) ∙ it.1, it.2),
-        λ both. elim both [
-          | inl before ↦ (before.0, elsewhere k apart ∙ before.1, before.2)
-          | inr is ↦ absurd (apart is.0)
-        ],
-      )
+          λ both. subst (λ (xs : List ℕ). Contains xs m) (sym here) (elim both [
+            | inl before ↦ (are m).1 (inr (subst (λ j. HasMember sets j m) same before))
+            | inr is ↦ (are m).1 (inl is.1)
+          ]),
+        )
+    go (inr apart) =
+        let there : get_or (slice_set sets number more) k [] ≡ get_or sets k [] = get_or-set_other sets number k more [] apart in
+        (
+          λ it. inl (subst (λ (xs : List ℕ). Contains xs m) there it),
+          λ both. elim both [
+            | inl before ↦ subst (λ (xs : List ℕ). Contains xs m) (sym there) before
+            | inr is ↦ absurd (apart is.0)
+          ],
+        )
 
 -- a pair more
 module _ (pairs : List (ℕ × ℕ)) (p n : ℕ) where
@@ -92,7 +91,7 @@ module _ (pairs : List (ℕ × ℕ)) (p n : ℕ) where
   }
 
 -- a pair more, by its first state
-module _ (pairs : List (ℕ × ℕ)) (forward forward' : BTreeMap ℕ (List ℕ)) (p n : ℕ) (are : (q m : ℕ) → HasMember forward q m ↔ Contains pairs (q, m)) (more : (k m : ℕ) → HasMember forward' k m ↔ HasMember forward k m ⊎ ((k ≡ p) × (m ≡ n))) where
+module _ (pairs : List (ℕ × ℕ)) (forward forward' : List (List ℕ)) (p n : ℕ) (are : (q m : ℕ) → HasMember forward q m ↔ Contains pairs (q, m)) (more : (k m : ℕ) → HasMember forward' k m ↔ HasMember forward k m ⊎ ((k ≡ p) × (m ≡ n))) where
   pub pairs_more : (q m : ℕ) → HasMember forward' q m ↔ Contains (pairs ++ (p, n) ∷ []) (q, m)
   pairs_more q m = (
     λ it. cases_pair pairs p n q m (elim ((more q m).0 it) [ inl before ↦ inl ((are q m).0 before) | inr same ↦ inr same ]),
@@ -123,7 +122,7 @@ held_already room pairs is p n there =
     Relates-none room (λ q m. (q ≡ p) × (m ≡ n)) (λ q m same. subst (λ k. Holds room k m) (sym same.0) (subst (λ k. Holds room p k) (sym same.1) held))
 
 -- a pair more, by its second state
-pub index_more : (old new : Room) (backward backward' : BTreeMap ℕ (List ℕ)) (p n : ℕ) → Relates old new (λ q m. (q ≡ p) × (m ≡ n)) → ((q m : ℕ) → HasMember backward m q ↔ Holds old q m)
+pub index_more : (old new : Room) (backward backward' : List (List ℕ)) (p n : ℕ) → Relates old new (λ q m. (q ≡ p) × (m ≡ n)) → ((q m : ℕ) → HasMember backward m q ↔ Holds old q m)
     → ((k m : ℕ) → HasMember backward' k m ↔ HasMember backward k m ⊎ ((k ≡ n) × (m ≡ p))) → (q m : ℕ) → HasMember backward' m q ↔ Holds new q m
 index_more old new backward backward' p n it are more q m = (
   λ has. elim ((more m q).0 has) [

@@ -7,7 +7,6 @@ use crate::pairs::{Pairs, members, put};
 use mls_automaton::state_set::{StateId, StateSet};
 use mls_base::memory::Memory;
 use std::alloc::Global;
-use std::collections::BTreeMap;
 use std::marker::Model;
 
 /// Pairs of a positive and a negative state, in the order in which they were found. Contracts see a room without rows
@@ -15,7 +14,8 @@ use std::marker::Model;
 #[derive(Drop)]
 pub struct Found {
     forward: Pairs,
-    above: BTreeMap<usize, StateSet>,
+    // for each negative state its positive ones, as far as there are any
+    above: Vec<StateSet>,
 }
 
 impl Model for Found {
@@ -37,7 +37,7 @@ impl Found {
     {
         Found {
             forward: Pairs::new(alloc),
-            above: BTreeMap::new(alloc),
+            above: Vec::new(alloc),
         }
     }
 
@@ -67,7 +67,7 @@ impl Found {
     pub fn above(&self, n: StateId) -> &[usize]
         ensures { (p : ℕ) → Contains result.now p ↔ Holds self.now p n.0 }
     {
-        members(&self.above, n.0)
+        members(self.above.as_slice(), n.0)
     }
 
     // Holds the pair of these two states from now on. Where memory is wanting, no pair is left.
@@ -85,7 +85,7 @@ impl Found {
             }
             Err(_) => {}
         }
-        self.above = BTreeMap::new(alloc);
+        self.above = Vec::new(alloc);
         Err(Memory)
     }
 }

@@ -7,8 +7,6 @@ ghost use Rattle.mls_biunify.specs.steps.Growth.{Relates};
 use mls_automaton::state_set::{StateId, StateSet};
 use mls_base::memory::Memory;
 use std::alloc::Global;
-use std::collections::BTreeMap;
-use std::collections::btree_map::Entry;
 use std::marker::Model;
 
 /// Pairs of a positive and a negative state, in the order in which they were found. Contracts see a room without rows
@@ -16,7 +14,8 @@ use std::marker::Model;
 #[derive(Drop)]
 pub(crate) struct Pairs {
     list: Vec<(usize, usize)>,
-    below: BTreeMap<usize, StateSet>,
+    // for each positive state its negative ones, as far as there are any
+    below: Vec<StateSet>,
 }
 
 impl Model for Pairs {
@@ -43,34 +42,38 @@ fn add(set: &mut StateSet, member: usize) -> Result<bool, Memory>
     Ok(true)
 }
 
-/// Adds a member to the set of a key, and answers whether it was not there.
-pub(crate) fn put(
-    alloc: Global,
-    sets: &mut BTreeMap<usize, StateSet>,
-    key: usize,
-    member: usize,
-) -> Result<bool, Memory>
-    ensures more { OnOk result ((k m : ℕ) → HasMember sets.new k m ↔ HasMember sets.old k m
-        ⊎ ((k ≡ key) × (m ≡ member))) }
-    ensures there { IfOk result (λ is_new. is_new ≡ false ↔ HasMember sets.old key member) }
+// Adds empty sets until there is one of this number.
+fn lengthen(alloc: Global, sets: &mut Vec<StateSet>, number: usize) -> Result<(), Memory>
+    ensures same { OnOk result ((k m : ℕ) → HasMember sets.new.items k m ↔ HasMember sets.old.items k m) }
+    ensures there { OnOk result (number < length sets.new.items) }
 {
-    match sets.entry(key)? {
-        Entry::Occupied(entry) => {
-            let is_new = add(entry.into_mut(), member)?;
-            Ok(is_new)
-        }
-        Entry::Vacant(entry) => {
-            entry.insert(StateSet::one(alloc, StateId(member))?);
-            Ok(true)
-        }
+    while sets.len() <= number {
+        sets.push(StateSet::new(alloc))?;
     }
+    Ok(())
 }
 
-/// The members of the set of a key.
-pub(crate) fn members(sets: &BTreeMap<usize, StateSet>, key: usize) -> &[usize]
-    ensures { (m : ℕ) → Contains result.now m ↔ HasMember sets.now key m }
+/// Adds a member to the set of a number, and answers whether it was not there.
+pub(crate) fn put(
+    alloc: Global,
+    sets: &mut Vec<StateSet>,
+    number: usize,
+    member: usize,
+) -> Result<bool, Memory>
+    ensures more { OnOk result ((k m : ℕ) → HasMember sets.new.items k m ↔ HasMember sets.old.items k m
+        ⊎ ((k ≡ number) × (m ≡ member))) }
+    ensures there { IfOk result (λ is_new. is_new ≡ false ↔ HasMember sets.old.items number member) }
 {
-    match sets.get(&key) {
+    lengthen(alloc, sets, number)?;
+    let is_new = add(&mut sets[number], member)?;
+    Ok(is_new)
+}
+
+/// The members of the set of a number.
+pub(crate) fn members(sets: &[StateSet], number: usize) -> &[usize]
+    ensures { (m : ℕ) → Contains result.now m ↔ HasMember sets.now number m }
+{
+    match sets.get(number) {
         Some(set) => set.as_slice(),
         None => &[],
     }
@@ -83,7 +86,7 @@ impl Pairs {
     {
         Pairs {
             list: Vec::new(alloc),
-            below: BTreeMap::new(alloc),
+            below: Vec::new(alloc),
         }
     }
 
@@ -112,7 +115,7 @@ impl Pairs {
     pub(crate) fn below(&self, p: StateId) -> &[usize]
         ensures { (n : ℕ) → Contains result.now n ↔ Holds self.now p.0 n }
     {
-        members(&self.below, p.0)
+        members(self.below.as_slice(), p.0)
     }
 
     /// Holds the pair of these two states from now on, and answers whether it did not before. Where memory is wanting,
@@ -134,7 +137,7 @@ impl Pairs {
             Err(_) => {}
         }
         self.list.clear();
-        self.below = BTreeMap::new(alloc);
+        self.below = Vec::new(alloc);
         Err(Memory)
     }
 }

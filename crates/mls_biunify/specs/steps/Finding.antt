@@ -1,8 +1,6 @@
 -- Pairs by each of their states.
-use Rattle.std.specs.Prelude.{◌≡◌, ℕ, List, Contains, Some}
-use Rattle.std.specs.BTreeMap.{BTreeMap, get}
-use Rattle.std.specs.Ordering.{nat_cmp}
+use Rattle.std.specs.Prelude.{ℕ, [], List, get_or, Contains}
 
--- the set of this key has the member
-abbrev pub HasMember : BTreeMap ℕ (List ℕ) → ℕ → ℕ → Type 0
-HasMember sets k m = (set : List ℕ) × (get nat_cmp sets k ≡ Some set) × Contains set m
+-- the set of this number has the member
+abbrev pub HasMember : List (List ℕ) → ℕ → ℕ → Type 0
+HasMember sets k m = Contains (get_or sets k []) m

@@ -9,4 +9,4 @@ found_view a = a.forward
 
 -- the sets have just the pairs, by their second states
 abbrev pub IsFound : Inside → Type 0
-IsFound a = (p n : ℕ) → HasMember a.above n p ↔ Holds a.forward p n
+IsFound a = (p n : ℕ) → HasMember a.above.items n p ↔ Holds a.forward p n

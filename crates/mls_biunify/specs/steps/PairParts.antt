@@ -9,4 +9,4 @@ pairs_view a = record { positives = 0; negatives = 0; rows = []; columns = []; p
 
 -- the sets have just the pairs of the list, by their first states
 abbrev pub ArePairs : Inside → Type 0
-ArePairs a = (p n : ℕ) → HasMember a.below p n ↔ Contains a.list.items (p, n)
+ArePairs a = (p n : ℕ) → HasMember a.below.items p n ↔ Contains a.list.items (p, n)

@@ -8,7 +8,7 @@ use Rattle.mls_biunify.proofs.found.Found.add.Goals as goal
 
 pub invariant_of-self : goal.invariant_of-self
 invariant_of-self c =
-    index_more c.self.inside.forward c.add.new.self c.self.inside.above c.put.new.sets c.args.positive c.args.negative c.in-Ok-true.ensures.pair c.self.invariant
+    index_more c.self.inside.forward c.add.new.self c.self.inside.above.items c.put.new.sets.items c.args.positive c.args.negative c.in-Ok-true.ensures.pair c.self.invariant
     (on_ok c.put.result _ (search rules) c.put.ensures.more)
 
 pub returns-then-is_ok : goal.returns-then-is_ok
@@ -18,4 +18,4 @@ returns-then-is_ok c =
 
 pub invariant_of-self-in-Ok-false : goal.invariant_of-self-in-Ok-false
 invariant_of-self-in-Ok-false c =
-    subst (λ (room : Room). (p n : ℕ) → HasMember c.self.inside.above n p ↔ Holds room p n) (sym (c.in-Ok-false.ensures.unchanged (search rules))) c.self.invariant
+    subst (λ (room : Room). (p n : ℕ) → HasMember c.self.inside.above.items n p ↔ Holds room p n) (sym (c.in-Ok-false.ensures.unchanged (search rules))) c.self.invariant
