@@ -6,7 +6,7 @@ use crate::tests_of_layout::{places_of, sample, show_laid};
 use mls_automaton::sample::scheme_of;
 use mls_automaton::scheme::Scheme;
 use mls_base::memory::Memory;
-use mls_biunify::search::search;
+use mls_solver::search::search;
 use mls_book::book::Book;
 use mls_layout::layout::lay_out;
 use mls_layout::type_layout::lay_out_type;

@@ -30,7 +30,7 @@ use mls_automaton::scheme::{EnvEntry, Scheme};
 use mls_automaton::state_set::{StateId, StateSet};
 use mls_base::list::List;
 use mls_base::memory::Memory;
-use mls_biunify::goal::Goal;
+use mls_solver::goal::Goal;
 use mls_book::name::Name;
 use mls_term::term::{Part, TermForm, TermNode};
 use std::alloc::Global;

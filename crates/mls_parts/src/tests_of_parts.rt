@@ -15,7 +15,7 @@ use mls_automaton::scheme::Scheme;
 use mls_automaton::state_set::StateId;
 use mls_base::memory::Memory;
 use mls_base::spelling::is_name;
-use mls_biunify::goal::{Goal, are_goals};
+use mls_solver::goal::{Goal, are_goals};
 use mls_book::name::Name;
 use mls_term::term::{Part, Parts, TermForm, TermNode, TermNodes};
 use std::alloc::Global;

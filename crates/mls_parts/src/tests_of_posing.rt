@@ -8,7 +8,7 @@ use mls_automaton::sample::show_automaton;
 use mls_automaton::state_set::StateId;
 use mls_base::memory::Memory;
 use mls_base::spelling::is_name;
-use mls_biunify::goal::is_state;
+use mls_solver::goal::is_state;
 use mls_book::name::Name;
 use mls_term::term::TermForm;
 use std::alloc::Global;

@@ -4,9 +4,9 @@ use Rattle.std.specs.Prelude.{◌↔◌, List}
 use Rattle.mls_automaton.specs.declared.automaton.Polarity.{Polarity}
 use Rattle.mls_automaton.specs.declared.automaton.State.{State}
 use Rattle.mls_automaton.specs.Automata.{Automaton, HasFlow, IsState}
-use Rattle.mls_biunify.specs.steps.Solving.{AddsFlows}
-use Rattle.mls_biunify.proofs.Members.{below_or_last}
-use Rattle.mls_biunify.proofs.Relating.{taken-before, taken-last, taken-cases, take-all}
+use Rattle.mls_solver.specs.steps.Solving.{AddsFlows}
+use Rattle.mls_solver.proofs.Members.{below_or_last}
+use Rattle.mls_solver.proofs.Relating.{taken-before, taken-last, taken-cases, take-all}
 
 -- no edge
 pub flows-none : (a : Automaton) (IsNew : ℕ → ℕ → Type 0) → ((n q : ℕ) → IsNew n q → ⊥) → AddsFlows a a IsNew

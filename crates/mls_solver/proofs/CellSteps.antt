@@ -13,9 +13,9 @@ use Rattle.std.proofs.lemmas.Map.Keys.{IsDistinct-push}
 use Rattle.std.proofs.lemmas.Map.Steps.{length-le_from_distinct_below}
 use Rattle.std.proofs.lemmas.Map.Views.{list_any-from_Contains, Contains-from_any}
 use Rattle.std.proofs.lemmas.Bool.{eqb-true, eq-eqb}
-use Rattle.mls_biunify.specs.steps.Among.{is_among}
-use Rattle.mls_biunify.specs.steps.Cells.{AreCells}
-use Rattle.mls_biunify.specs.steps.Numbers.{Numbers, Inserts}
+use Rattle.mls_solver.specs.steps.Among.{is_among}
+use Rattle.mls_solver.specs.steps.Cells.{AreCells}
+use Rattle.mls_solver.specs.steps.Numbers.{Numbers, Inserts}
 
 get_or-falses : (n x : ℕ) → get_or (replicate n false) x false ≡ false
 get_or-falses zero x = refl

@@ -10,12 +10,12 @@ use Rattle.mls_automaton.specs.Automata.{Automaton, polarity_at, head_at}
 use Rattle.mls_automaton.specs.Heads.{set_value, set_at}
 use Rattle.mls_automaton.specs.Models.{IsModel}
 use Rattle.mls_automaton.specs.declared.automaton.HeadKind.{HeadKind}
-use Rattle.mls_biunify.specs.declared.goal.ClashKind.{ClashKind}
-use Rattle.mls_biunify.specs.declared.goal.ClashKind.TheVariants.{Unlike, Lacks}
+use Rattle.mls_solver.specs.declared.goal.ClashKind.{ClashKind}
+use Rattle.mls_solver.specs.declared.goal.ClashKind.TheVariants.{Unlike, Lacks}
 use Rattle.mls_automaton.specs.Automata.{has_kind}
-use Rattle.mls_biunify.specs.Clashes.{LacksField, Clashes}
-use Rattle.mls_biunify.proofs.Following.{heads-below, records-below}
-use Rattle.mls_biunify.proofs.PartKinds.{kind_value, kind-inside, kind_test, same_kind, same_kind-is, same_kind-self, kind-tested}
+use Rattle.mls_solver.specs.Clashes.{LacksField, Clashes}
+use Rattle.mls_solver.proofs.Following.{heads-below, records-below}
+use Rattle.mls_solver.proofs.PartKinds.{kind_value, kind-inside, kind_test, same_kind, same_kind-is, same_kind-self, kind-tested}
 
 -- a field of a list is found at its label
 pub field_found : (fields : List FieldSet) (i : ℕ) (field : FieldSet) → slice_get fields i ≡ Some field → (set : List ℕ) × (set_at fields field.label ≡ Some set)

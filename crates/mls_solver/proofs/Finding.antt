@@ -9,10 +9,10 @@ use Rattle.std.specs.Ordering.{nat_cmp}
 use Rattle.std.proofs.lemmas.Bool.{cases_eq}
 use Rattle.std.proofs.lemmas.List.Elements.{Contains-append_cases, Contains-append_left, Contains-append_right}
 use Rattle.mls_automaton.proofs.Lists.{Contains-cases, Contains-here}
-use Rattle.mls_biunify.specs.Rooms.{Room, Holds}
-use Rattle.mls_biunify.specs.steps.Finding.{HasMember}
-use Rattle.mls_biunify.specs.steps.Growth.{Relates}
-use Rattle.mls_biunify.proofs.Relating.{Relates-kept, Relates-none}
+use Rattle.mls_solver.specs.Rooms.{Room, Holds}
+use Rattle.mls_solver.specs.steps.Finding.{HasMember}
+use Rattle.mls_solver.specs.steps.Growth.{Relates}
+use Rattle.mls_solver.proofs.Relating.{Relates-kept, Relates-none}
 
 same_member : (sets : BTreeMap ℕ (List ℕ)) (k m : ℕ) (set : List ℕ) → get nat_cmp sets k ≡ Some set → HasMember sets k m → Contains set m
 same_member sets k m set is it =

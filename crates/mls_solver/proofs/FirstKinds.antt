@@ -16,13 +16,13 @@ use Rattle.mls_automaton.specs.declared.automaton.HeadKind.TheVariants as kind
 use Rattle.mls_automaton.specs.Automata.{has_kind}
 use Rattle.mls_automaton.specs.Heads.{set_at}
 use Rattle.mls_automaton.specs.Models.{HasRisingLabels}
-use Rattle.mls_biunify.specs.declared.goal.ClashKind.{ClashKind}
-use Rattle.mls_biunify.specs.declared.goal.ClashKind.TheVariants.{Unlike, Lacks}
-use Rattle.mls_biunify.specs.Clashes.{LacksField, Clashes, label_of, rank, kind_key}
-use Rattle.mls_biunify.specs.steps.Kinds.{first_kind, other_kind, is_unlike, unlike_kind, lacks}
-use Rattle.mls_biunify.specs.steps.FirstClashes.{IsFirstKind}
-use Rattle.mls_biunify.proofs.PartKinds.{same_kind, same_kind-is, same_kind-self}
-use Rattle.mls_biunify.proofs.KeyOrder.{at_most-then, labels-at_most, slice_get-below}
+use Rattle.mls_solver.specs.declared.goal.ClashKind.{ClashKind}
+use Rattle.mls_solver.specs.declared.goal.ClashKind.TheVariants.{Unlike, Lacks}
+use Rattle.mls_solver.specs.Clashes.{LacksField, Clashes, label_of, rank, kind_key}
+use Rattle.mls_solver.specs.steps.Kinds.{first_kind, other_kind, is_unlike, unlike_kind, lacks}
+use Rattle.mls_solver.specs.steps.FirstClashes.{IsFirstKind}
+use Rattle.mls_solver.proofs.PartKinds.{same_kind, same_kind-is, same_kind-self}
+use Rattle.mls_solver.proofs.KeyOrder.{at_most-then, labels-at_most, slice_get-below}
 
 -- the first kind that passes
 abbrev pub first_of : (HeadKind → Bool) → Option HeadKind

@@ -16,8 +16,8 @@ use Rattle.mls_automaton.proofs.Signs.{all_upper}
 use Rattle.mls_automaton.proofs.HeadOrder.{sets_found}
 use Rattle.mls_automaton.proofs.HeadParts.{function-inside, record-inside}
 use Rattle.mls_automaton.proofs.Instances.{AreGoals}
-use Rattle.mls_biunify.specs.declared.goal.Goal.{Goal}
-use Rattle.mls_biunify.specs.Relations.{IsGoal, IsGoalOf, InDomain, InCodomain, InField, IsRelated, goal, domain, codomain, field, along}
+use Rattle.mls_solver.specs.declared.goal.Goal.{Goal}
+use Rattle.mls_solver.specs.Relations.{IsGoal, IsGoalOf, InDomain, InCodomain, InField, IsRelated, goal, domain, codomain, field, along}
 
 -- the states that a head names have the polarities of their places
 module _ (a : Automaton) (closed : IsClosed a) (s : ℕ) (p : Polarity) (is : polarity_at a s ≡ p) where

@@ -4,10 +4,10 @@ use Rattle.std.specs.Prelude.{Option}
 use Rattle.mls_automaton.specs.declared.automaton.Arms.{Arms}
 use Rattle.mls_automaton.specs.declared.automaton.FieldSet.{FieldSet}
 use Rattle.mls_automaton.specs.Heads.{set_at}
-use Rattle.mls_biunify.specs.declared.goal.Goal.{Goal}
-use Rattle.mls_biunify.specs.Relations.{IsGoal}
-use Rattle.mls_biunify.specs.steps.Growth.{BySome}
-use Rattle.mls_biunify.specs.steps.Consequences.{ByFunctions, ByField, ByRecords}
+use Rattle.mls_solver.specs.declared.goal.Goal.{Goal}
+use Rattle.mls_solver.specs.Relations.{IsGoal}
+use Rattle.mls_solver.specs.steps.Growth.{BySome}
+use Rattle.mls_solver.specs.steps.Consequences.{ByFunctions, ByField, ByRecords}
 
 -- functions
 module _ (o o' : Option Arms) (arms others : Arms) (e : o ≡ Some arms) (e' : o' ≡ Some others) where

@@ -12,8 +12,8 @@ use Rattle.std.proofs.lemmas.Bool.{ltb-true, ltb-false, eq-eqb}
 use Rattle.std.proofs.lemmas.Cmp.{nat_list_cmp_total, lists_total}
 use Rattle.mls_automaton.specs.declared.automaton.FieldSet.{FieldSet}
 use Rattle.mls_automaton.specs.Heads.{AreRising}
-use Rattle.mls_biunify.specs.declared.goal.Clash.{Clash}
-use Rattle.mls_biunify.specs.Clashes.{clash_key, key_cmp, IsAtMost}
+use Rattle.mls_solver.specs.declared.goal.Clash.{Clash}
+use Rattle.mls_solver.specs.Clashes.{clash_key, key_cmp, IsAtMost}
 use Rattle.mls_automaton.specs.Automata.{Automaton}
 
 -- a total order that is at most, by its answers

@@ -4,8 +4,8 @@ use Rattle.std.proofs.Math.ListN.{set}
 use Rattle.std.proofs.Math.Seq.{get_or-append_seam}
 use Rattle.std.proofs.lemmas.Bool.{eqb-true, eqb-false, cases_lt}
 use Rattle.std.proofs.lemmas.List.{length-append, length-set, get_or_append_left, get_or-set_other, get_or-set_same, get_or_past}
-use Rattle.mls_biunify.proofs.Members.{below_or_last}
-use Rattle.mls_biunify.specs.steps.Links.{LinkTable, IsLatest, AreLinked}
+use Rattle.mls_solver.proofs.Members.{below_or_last}
+use Rattle.mls_solver.specs.steps.Links.{LinkTable, IsLatest, AreLinked}
 
 -- no place
 pub linked_none : (last before : List ℕ) → ((r : ℕ) → get_or last r 0 ≡ 0) → AreLinked [] (record { last = last; before = before; len = 0 })

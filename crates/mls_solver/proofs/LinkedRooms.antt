@@ -2,12 +2,12 @@
 use Rattle.std.proofs.Common.{◌≡◌, ℕ, ◌/◌, ◌%◌, ◌<◌, ◌≤◌, List, map, refl, sym, ap, ◌∙◌, subst, arith, length, take, get_or, Contains}
 use Rattle.std.proofs.lemmas.Nat.{div-mul-add, mod-mul-add}
 use Rattle.std.proofs.lemmas.List.{get_or-map, get_or-take, get_or_default, length-map, length-take-le}
-use Rattle.mls_biunify.specs.Rooms.{Room}
-use Rattle.mls_biunify.specs.steps.Links.{IsLatest, AreLinked, first, second, keys_of}
-use Rattle.mls_biunify.specs.steps.RoomParts.{Tables, pair_of, IsCell, AreTables, room_of}
-use Rattle.mls_biunify.proofs.RoomSteps.{IsLine, line_of, rows_fit, columns_fit}
-use Rattle.mls_biunify.proofs.RoomCalls.{held_row, held_column}
-use Rattle.mls_biunify.proofs.Walks.{latest-same}
+use Rattle.mls_solver.specs.Rooms.{Room}
+use Rattle.mls_solver.specs.steps.Links.{IsLatest, AreLinked, first, second, keys_of}
+use Rattle.mls_solver.specs.steps.RoomParts.{Tables, pair_of, IsCell, AreTables, room_of}
+use Rattle.mls_solver.proofs.RoomSteps.{IsLine, line_of, rows_fit, columns_fit}
+use Rattle.mls_solver.proofs.RoomCalls.{held_row, held_column}
+use Rattle.mls_solver.proofs.Walks.{latest-same}
 
 module _ (t : Tables) (are : AreTables t) where
   abbrev W : ℕ

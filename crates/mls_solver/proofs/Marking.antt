@@ -1,8 +1,8 @@
 -- Numbers that come to a set by the elements of a list, one after another.
 use Rattle.std.proofs.Common.{inl, inr, ℕ, ◌+◌, ◌<◌, ◌≤◌, List, subst, arith, length, take, get_or}
-use Rattle.mls_biunify.specs.steps.Numbers.{Numbers, Inserts, ByOne}
-use Rattle.mls_biunify.proofs.NumberSteps.{Inserts-none, Inserts-kept, Inserts-then}
-use Rattle.mls_biunify.proofs.Relating.{taken-before, taken-last, taken-cases, take-all}
+use Rattle.mls_solver.specs.steps.Numbers.{Numbers, Inserts, ByOne}
+use Rattle.mls_solver.proofs.NumberSteps.{Inserts-none, Inserts-kept, Inserts-then}
+use Rattle.mls_solver.proofs.Relating.{taken-before, taken-last, taken-cases, take-all}
 
 -- the same numbers in other words
 pub Inserts-same : (old new : Numbers) (First Second : ℕ → Type 0) → Inserts old new First → ((x : ℕ) → First x → Second x) → ((x : ℕ) → Second x → First x) → Inserts old new Second

@@ -8,10 +8,10 @@ use Rattle.mls_automaton.specs.declared.automaton.Polarity.TheVariants.{Positive
 use Rattle.mls_automaton.specs.Automata.{Automaton, polarity_at, HasFlow, IsPartner, IsState, flow}
 use Rattle.mls_automaton.specs.Models.{IsClosed}
 use Rattle.mls_automaton.proofs.Lists.{Contains-here, Contains-cases, All-contained}
-use Rattle.mls_biunify.specs.Solved.{ReachesBy}
-use Rattle.mls_biunify.specs.steps.Numbers.{Numbers, Inserts, ByOne}
-use Rattle.mls_biunify.proofs.NumberSteps.{Inserts-kept}
-use Rattle.mls_biunify.specs.steps.Solving.{AreMembers, IsTarget, IsSolvedFlow}
+use Rattle.mls_solver.specs.Solved.{ReachesBy}
+use Rattle.mls_solver.specs.steps.Numbers.{Numbers, Inserts, ByOne}
+use Rattle.mls_solver.proofs.NumberSteps.{Inserts-kept}
+use Rattle.mls_solver.specs.steps.Solving.{AreMembers, IsTarget, IsSolvedFlow}
 
 -- the one element of a list
 pub only : (x y : ℕ) → Contains (x ∷ []) y → y ≡ x

@@ -1,7 +1,7 @@
 -- How sets of numbers grow.
 use Rattle.std.proofs.Common.{◌⊎◌, inl, inr, ℕ, [], ◌++◌, sym, refl, ◌∙◌, subst, append_assoc, append-nil, Contains}
 use Rattle.std.proofs.lemmas.List.Elements.{Contains-append_left}
-use Rattle.mls_biunify.specs.steps.Numbers.{Numbers, Inserts}
+use Rattle.mls_solver.specs.steps.Numbers.{Numbers, Inserts}
 
 -- nothing is added
 pub Inserts-none : (s : Numbers) (IsNew : ℕ → Type 0) → ((x : ℕ) → IsNew x → Contains s.members x) → Inserts s s IsNew

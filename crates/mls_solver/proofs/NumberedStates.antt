@@ -9,9 +9,9 @@ use Rattle.mls_automaton.specs.declared.automaton.Polarity.TheVariants.{Positive
 use Rattle.mls_automaton.specs.declared.automaton.State.{State}
 use Rattle.mls_automaton.specs.Automata.{Automaton, empty_head, polarity_at}
 use Rattle.mls_automaton.proofs.Lists.{Contains-here, Contains-cases, All-contained}
-use Rattle.mls_biunify.specs.Rooms.{Room, is_positive, is_negative, Fits}
-use Rattle.mls_biunify.specs.steps.Numbering.{AreNumbered}
-use Rattle.mls_biunify.specs.steps.Consequences.{IsRoomOf}
+use Rattle.mls_solver.specs.Rooms.{Room, is_positive, is_negative, Fits}
+use Rattle.mls_solver.specs.steps.Numbering.{AreNumbered}
+use Rattle.mls_solver.specs.steps.Consequences.{IsRoomOf}
 
 count_by-take : {X : Type 0} (p : X → Bool) (i : ℕ) (xs : List X) → count_by p (take i xs) ≤ count_by p xs
 count_by-take p i xs = sum_by-take-le (λ x. cond (p x) 1 0) xs i

@@ -14,11 +14,11 @@ use Rattle.mls_automaton.specs.Heads.{set_value, set_at, function_value, record_
 use Rattle.mls_automaton.proofs.Signs.{all_least}
 use Rattle.mls_automaton.specs.declared.automaton.HeadKind.{HeadKind}
 use Rattle.mls_automaton.specs.declared.automaton.HeadKind.TheVariants as kind
-use Rattle.mls_biunify.specs.declared.goal.ClashKind.TheVariants.{Unlike, Lacks}
-use Rattle.mls_biunify.specs.Relations.{IsRelated, domain, codomain, field}
+use Rattle.mls_solver.specs.declared.goal.ClashKind.TheVariants.{Unlike, Lacks}
+use Rattle.mls_solver.specs.Relations.{IsRelated, domain, codomain, field}
 use Rattle.mls_automaton.specs.Automata.{has_kind}
-use Rattle.mls_biunify.specs.Clashes.{LacksField, HasNoClash}
-use Rattle.mls_biunify.proofs.PartKinds.{kind_value, kinds_least, kind-absent, same_kind-is}
+use Rattle.mls_solver.specs.Clashes.{LacksField, HasNoClash}
+use Rattle.mls_solver.proofs.PartKinds.{kind_value, kinds_least, kind-absent, same_kind-is}
 
 -- the field at a label has a number
 pub record IsFieldAt (fields : List FieldSet) (label set : List ℕ) : Type 0 where

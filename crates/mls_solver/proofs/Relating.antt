@@ -4,8 +4,8 @@ use Rattle.std.proofs.Math.Seq.{take-suc}
 use Rattle.std.proofs.lemmas.List.{get_or_default}
 use Rattle.std.proofs.lemmas.List.Elements.{Contains-append_left, Contains-append_right, Contains-append_cases}
 use Rattle.mls_automaton.proofs.Lists.{Contains-here, Contains-cases}
-use Rattle.mls_biunify.specs.Rooms.{Room, Holds}
-use Rattle.mls_biunify.specs.steps.Growth.{BySome, Relates}
+use Rattle.mls_solver.specs.Rooms.{Room, Holds}
+use Rattle.mls_solver.specs.steps.Growth.{BySome, Relates}
 
 -- one more element of a list
 module _ {X : Type 0} (xs : List X) (i : ℕ) (d : X) (low : i < length xs) where

@@ -5,14 +5,14 @@ use Rattle.std.proofs.Math.ListN.{set}
 use Rattle.std.proofs.lemmas.Nat.{div-mul-add, mod-mul-add}
 use Rattle.std.proofs.lemmas.List.{get_or-take, get_or_default, get_or-map, length-append, length-set, length-take-le, length-map, map-append}
 use Rattle.mls_automaton.proofs.Lists.{Contains-map}
-use Rattle.mls_biunify.specs.Rooms.{Room, Holds}
-use Rattle.mls_biunify.specs.steps.Links.{LinkTable, AreLinked, IsSameSpace}
-use Rattle.mls_biunify.specs.steps.Numbers.{Numbers, Inserts}
-use Rattle.mls_biunify.specs.steps.RoomParts.{Tables, pair_of, IsCell, AreLinkedCells, AreTables, room_of}
-use Rattle.mls_biunify.proofs.CellSteps.{cells-inserts}
-use Rattle.mls_biunify.proofs.Relating.{Relates-none}
-use Rattle.mls_biunify.specs.steps.Growth.{Relates}
-use Rattle.mls_biunify.proofs.RoomSteps.{IsLine, line_of, line_row, line_column, rows_fit, columns_fit, placed-more, placed-other, no_members, row_in, column_in, cell_fits, pair-line, held_lines, held-cell, are_grown, grown_relates}
+use Rattle.mls_solver.specs.Rooms.{Room, Holds}
+use Rattle.mls_solver.specs.steps.Links.{LinkTable, AreLinked, IsSameSpace}
+use Rattle.mls_solver.specs.steps.Numbers.{Numbers, Inserts}
+use Rattle.mls_solver.specs.steps.RoomParts.{Tables, pair_of, IsCell, AreLinkedCells, AreTables, room_of}
+use Rattle.mls_solver.proofs.CellSteps.{cells-inserts}
+use Rattle.mls_solver.proofs.Relating.{Relates-none}
+use Rattle.mls_solver.specs.steps.Growth.{Relates}
+use Rattle.mls_solver.proofs.RoomSteps.{IsLine, line_of, line_row, line_column, rows_fit, columns_fit, placed-more, placed-other, no_members, row_in, column_in, cell_fits, pair-line, held_lines, held-cell, are_grown, grown_relates}
 
 module _ (t : Tables) (are : AreTables t) (room : Room) (is : room_of t ≡ room) where
   abbrev W : ℕ

@@ -8,11 +8,11 @@ use Rattle.std.proofs.Math.Nat.{mul-le-mul_right}
 use Rattle.std.proofs.lemmas.Nat.{div-mul-add, mod-mul-add}
 use Rattle.std.proofs.lemmas.List.{get_or-take, get_or_default, get_or-set_same, get_or-set_other, length-set, length-take-le, map-append}
 use Rattle.mls_automaton.proofs.Lists.{Contains-map, Contains-map_back}
-use Rattle.mls_biunify.specs.Rooms.{Holds}
-use Rattle.mls_biunify.specs.steps.Numbers.{Numbers, Inserts}
-use Rattle.mls_biunify.specs.steps.RoomParts.{Tables, pair_of, IsCell, ArePlaced, AreLinkedCells, AreTables, room_of}
-use Rattle.mls_biunify.specs.steps.Links.{LinkTable}
-use Rattle.mls_biunify.specs.steps.Growth.{Relates}
+use Rattle.mls_solver.specs.Rooms.{Holds}
+use Rattle.mls_solver.specs.steps.Numbers.{Numbers, Inserts}
+use Rattle.mls_solver.specs.steps.RoomParts.{Tables, pair_of, IsCell, ArePlaced, AreLinkedCells, AreTables, room_of}
+use Rattle.mls_solver.specs.steps.Links.{LinkTable}
+use Rattle.mls_solver.specs.steps.Growth.{Relates}
 
 -- a state of a line that is used
 pub record IsLine (places lines : List ℕ) (count s : ℕ) : Type 0 where

@@ -11,15 +11,15 @@ use Rattle.std.specs.Prelude.{◌↔◌}
 use Rattle.mls_automaton.specs.declared.automaton.Polarity.TheVariants.{Positive, Negative}
 use Rattle.mls_automaton.specs.Automata.{Automaton, HasFlow, IsPartner, IsState, head_at}
 use Rattle.mls_automaton.specs.Models.{IsClosed}
-use Rattle.mls_biunify.specs.Relations.{IsRelated, goal, domain, codomain, field, along}
-use Rattle.mls_biunify.specs.Rooms.{Room, Holds, HoldsJust, HoldsStates}
-use Rattle.mls_biunify.specs.steps.Growth.{BySome, Relates}
-use Rattle.mls_biunify.specs.steps.Consequences.{ByHeads}
-use Rattle.mls_biunify.specs.steps.Chains.{ByDirect, ByEdgeFrom, ByEdgeTo, HasTaken, IsChained, IsSearched, onward, single}
-use Rattle.mls_biunify.proofs.Following.{related_states}
-use Rattle.mls_biunify.proofs.Members.{partner_of_negative, partner_of_positive}
-use Rattle.mls_biunify.proofs.Relating.{Relates-kept, Relates-same, taken-cases, take-all}
-use Rattle.mls_biunify.proofs.Taking.{by_heads-related, codomain-by_heads, domain-by_heads, field-by_heads, related-through}
+use Rattle.mls_solver.specs.Relations.{IsRelated, goal, domain, codomain, field, along}
+use Rattle.mls_solver.specs.Rooms.{Room, Holds, HoldsJust, HoldsStates}
+use Rattle.mls_solver.specs.steps.Growth.{BySome, Relates}
+use Rattle.mls_solver.specs.steps.Consequences.{ByHeads}
+use Rattle.mls_solver.specs.steps.Chains.{ByDirect, ByEdgeFrom, ByEdgeTo, HasTaken, IsChained, IsSearched, onward, single}
+use Rattle.mls_solver.proofs.Following.{related_states}
+use Rattle.mls_solver.proofs.Members.{partner_of_negative, partner_of_positive}
+use Rattle.mls_solver.proofs.Relating.{Relates-kept, Relates-same, taken-cases, take-all}
+use Rattle.mls_solver.proofs.Taking.{by_heads-related, codomain-by_heads, domain-by_heads, field-by_heads, related-through}
 
 -- the pairs of one column
 pub column_to : (old new : Room) (from to : ℕ) (numbers copy items : List ℕ) → ((p : ℕ) → Contains numbers p ↔ Holds old p from) → copy ≡ numbers → items ≡ copy

@@ -25,17 +25,17 @@ use Rattle.mls_automaton.specs.declared.automaton.Arms.{Arms}
 use Rattle.mls_automaton.specs.Heads.{Parts, parts_of, combined, combined_functions, combined_records, IsSameParts}
 use Rattle.mls_automaton.specs.Models.{HasRisingLabels, IsClosed}
 use Rattle.mls_automaton.proofs.Lists.{All-contained, Contains-cases, Contains-here, Contains-later}
-use Rattle.mls_biunify.specs.declared.settle.Change.{Change}
-use Rattle.mls_biunify.specs.Rooms.{Room, Holds}
-use Rattle.mls_biunify.specs.Solved.{IsSolved, ReachesBy, IsNewFlow}
-use Rattle.mls_biunify.specs.steps.Consequences.{first_of, second_of}
-use Rattle.mls_biunify.specs.steps.Numbers.{ByOne}
-use Rattle.mls_biunify.specs.steps.Settling.{AreChanges, AreMade, HasChangeOf, IsChange, IsFitting, IsMadeAt, IsTouched, Makes}
-use Rattle.mls_biunify.specs.steps.Solving.{AddsFlows, AreMembers, IsSolvedFlow, IsSolvedState, IsTarget}
-use Rattle.mls_biunify.proofs.CombinedHeads.{same_parts-self}
-use Rattle.mls_biunify.proofs.Members.{below_or_last, only, flow-target, partner_of_negative, target-flow}
-use Rattle.mls_biunify.proofs.Relating.{take-all, taken-before, taken-cases, taken-last}
-use Rattle.mls_biunify.proofs.SolvedClosed.{closed_solved}
+use Rattle.mls_solver.specs.declared.settle.Change.{Change}
+use Rattle.mls_solver.specs.Rooms.{Room, Holds}
+use Rattle.mls_solver.specs.Solved.{IsSolved, ReachesBy, IsNewFlow}
+use Rattle.mls_solver.specs.steps.Consequences.{first_of, second_of}
+use Rattle.mls_solver.specs.steps.Numbers.{ByOne}
+use Rattle.mls_solver.specs.steps.Settling.{AreChanges, AreMade, HasChangeOf, IsChange, IsFitting, IsMadeAt, IsTouched, Makes}
+use Rattle.mls_solver.specs.steps.Solving.{AddsFlows, AreMembers, IsSolvedFlow, IsSolvedState, IsTarget}
+use Rattle.mls_solver.proofs.CombinedHeads.{same_parts-self}
+use Rattle.mls_solver.proofs.Members.{below_or_last, only, flow-target, partner_of_negative, target-flow}
+use Rattle.mls_solver.proofs.Relating.{take-all, taken-before, taken-cases, taken-last}
+use Rattle.mls_solver.proofs.SolvedClosed.{closed_solved}
 
 no_element : {X : Type 0} {Y : Type 0} (x : X) → Contains [] x → Y
 no_element x it = let low : it.0 < 0 = it.1 in absurd (omega arith)

@@ -6,10 +6,10 @@ use Rattle.std.proofs.lemmas.List.Sorted.{Contains-permutation, IsPermutation-sy
 use Rattle.mls_automaton.specs.declared.automaton.Polarity.TheVariants.{Positive, Negative}
 use Rattle.mls_automaton.specs.Automata.{Automaton, IsState, flow, polarity_at}
 use Rattle.mls_automaton.specs.Models.{IsClosed}
-use Rattle.mls_biunify.specs.steps.Numbers.{Numbers, Inserts}
-use Rattle.mls_biunify.specs.steps.Solving.{AddsFlows, AreMembers, IsSolvedFlow, IsTarget}
-use Rattle.mls_biunify.proofs.Members.{target-flow, flow-target}
-use Rattle.mls_biunify.proofs.AddedFlows.{FromBelow, flows-same}
+use Rattle.mls_solver.specs.steps.Numbers.{Numbers, Inserts}
+use Rattle.mls_solver.specs.steps.Solving.{AddsFlows, AreMembers, IsSolvedFlow, IsTarget}
+use Rattle.mls_solver.proofs.Members.{target-flow, flow-target}
+use Rattle.mls_solver.proofs.AddedFlows.{FromBelow, flows-same}
 
 module _ (a : Automaton) (members : List ℕ) (old new : Numbers) (empty : old.members ≡ []) (it : Inserts old new (IsTarget a members)) where
   pub targets_marked : (q : ℕ) → Contains new.members q → IsTarget a members q

@@ -10,13 +10,13 @@ use Rattle.mls_automaton.specs.Automata.{Automaton, polarity_at}
 use Rattle.mls_automaton.specs.Models.{IsClosed}
 use Rattle.mls_automaton.proofs.Lists.{any_found, found_any}
 use Rattle.mls_automaton.proofs.Instances.{AreGoals}
-use Rattle.mls_biunify.specs.declared.goal.Goal.{Goal}
-use Rattle.mls_biunify.specs.Relations.{IsGoal, IsRelated, IsTable}
-use Rattle.mls_biunify.specs.Rooms.{Room, Holds, HoldsJust}
-use Rattle.mls_biunify.specs.Solved.{IsSolved, ReachesBy}
-use Rattle.mls_biunify.specs.Solutions.{HasInstancesUnder, IsSaturated, scheme_over}
-use Rattle.mls_biunify.proofs.Following.{goals_between}
-use Rattle.mls_biunify.proofs.SolvedInstances.{solved_instances, solved_subsumes}
+use Rattle.mls_solver.specs.declared.goal.Goal.{Goal}
+use Rattle.mls_solver.specs.Relations.{IsGoal, IsRelated, IsTable}
+use Rattle.mls_solver.specs.Rooms.{Room, Holds, HoldsJust}
+use Rattle.mls_solver.specs.Solved.{IsSolved, ReachesBy}
+use Rattle.mls_solver.specs.Solutions.{HasInstancesUnder, IsSaturated, scheme_over}
+use Rattle.mls_solver.proofs.Following.{goals_between}
+use Rattle.mls_solver.proofs.SolvedInstances.{solved_instances, solved_subsumes}
 
 -- equal relations have the same solved automata
 module _ (a : Automaton) (R S : ℕ → ℕ → Type 0) (same : (p n : ℕ) → R p n ↔ S p n) (solved : Automaton) (is : IsSolved a R solved) where

@@ -10,10 +10,10 @@ use Rattle.mls_automaton.specs.declared.automaton.State.{State}
 use Rattle.mls_automaton.specs.Automata.{Automaton, HasFlow, IsState, empty_head, flow, polarity_at, head_at, state_at, with_state}
 use Rattle.mls_automaton.specs.Heads.{parts_of, combined, IsSameParts}
 use Rattle.mls_automaton.specs.Models.{HasRisingLabels, IsClosed}
-use Rattle.mls_biunify.specs.Solved.{IsSolved}
-use Rattle.mls_biunify.specs.steps.Solving.{AddsFlows, AreMembers, AreSolvedTo, IsSolvedFlow, IsSolvedState}
-use Rattle.mls_biunify.proofs.CombinedHeads.{same_parts-self}
-use Rattle.mls_biunify.proofs.Members.{below_or_last, members-none}
+use Rattle.mls_solver.specs.Solved.{IsSolved}
+use Rattle.mls_solver.specs.steps.Solving.{AddsFlows, AreMembers, AreSolvedTo, IsSolvedFlow, IsSolvedState}
+use Rattle.mls_solver.proofs.CombinedHeads.{same_parts-self}
+use Rattle.mls_solver.proofs.Members.{below_or_last, members-none}
 
 abbrev none : State
 none = record { polarity = Positive; head = empty_head }

@@ -12,13 +12,13 @@ use Rattle.mls_automaton.specs.Heads.{set_at, AreRising}
 use Rattle.mls_automaton.specs.Models.{HasRisingLabels, IsClosed}
 use Rattle.mls_automaton.proofs.Lists.{Contains-later}
 use Rattle.mls_automaton.proofs.CombinedStates.{found_at}
-use Rattle.mls_biunify.specs.Relations.{InDomain, InCodomain, InField, IsRelated, goal, domain, codomain, field, along}
-use Rattle.mls_biunify.specs.Rooms.{Room, Holds, HoldsJust}
-use Rattle.mls_biunify.specs.steps.Growth.{Relates}
-use Rattle.mls_biunify.specs.steps.Consequences.{ByFunctions, ByRecords, ByHeads, IsRoomOf, Follows, HasConsequences, first_of, second_of, AreTaken}
-use Rattle.mls_biunify.proofs.RelatedHeads.{IsFieldAt, set_at-field}
-use Rattle.mls_biunify.proofs.Following.{related_states}
-use Rattle.mls_biunify.proofs.Relating.{taken-cases, Relates-kept}
+use Rattle.mls_solver.specs.Relations.{InDomain, InCodomain, InField, IsRelated, goal, domain, codomain, field, along}
+use Rattle.mls_solver.specs.Rooms.{Room, Holds, HoldsJust}
+use Rattle.mls_solver.specs.steps.Growth.{Relates}
+use Rattle.mls_solver.specs.steps.Consequences.{ByFunctions, ByRecords, ByHeads, IsRoomOf, Follows, HasConsequences, first_of, second_of, AreTaken}
+use Rattle.mls_solver.proofs.RelatedHeads.{IsFieldAt, set_at-field}
+use Rattle.mls_solver.proofs.Following.{related_states}
+use Rattle.mls_solver.proofs.Relating.{taken-cases, Relates-kept}
 
 pub slice_get-contains : {X : Type 0} (xs : List X) (i : ℕ) (x : X) → slice_get xs i ≡ Some x → Contains xs x
 slice_get-contains [] i x e = absurd (cc)

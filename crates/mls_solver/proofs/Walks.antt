@@ -2,14 +2,14 @@
 use Rattle.std.proofs.Common.{◌≡◌, ◌⊎◌, inl, inr, ℕ, ◌+◌, ◌<◌, ◌≤◌, List, ◌++◌, map, sym, ap, ◌∙◌, subst, arith, length, get_or, Contains}
 use Rattle.std.proofs.lemmas.Bool.{cases_lt}
 use Rattle.std.proofs.lemmas.List.{get_or_append_left, get_or-map, get_or_default, length-map, length-append, map-append, append_assoc}
-use Rattle.mls_biunify.specs.Rooms.{Room}
-use Rattle.mls_biunify.specs.steps.Links.{IsLatest, keys_of}
-use Rattle.mls_biunify.specs.steps.Growth.{Relates}
-use Rattle.mls_biunify.proofs.Members.{below_or_last}
-use Rattle.mls_biunify.specs.steps.Numbers.{Numbers, Inserts}
-use Rattle.mls_biunify.proofs.NumberSteps.{Inserts-none, Inserts-kept, Inserts-then}
-use Rattle.mls_biunify.proofs.Marking.{Inserts-same}
-use Rattle.mls_biunify.proofs.Relating.{Relates-none, Relates-same, Relates-then}
+use Rattle.mls_solver.specs.Rooms.{Room}
+use Rattle.mls_solver.specs.steps.Links.{IsLatest, keys_of}
+use Rattle.mls_solver.specs.steps.Growth.{Relates}
+use Rattle.mls_solver.proofs.Members.{below_or_last}
+use Rattle.mls_solver.specs.steps.Numbers.{Numbers, Inserts}
+use Rattle.mls_solver.proofs.NumberSteps.{Inserts-none, Inserts-kept, Inserts-then}
+use Rattle.mls_solver.proofs.Marking.{Inserts-same}
+use Rattle.mls_solver.proofs.Relating.{Relates-none, Relates-same, Relates-then}
 
 -- the pair at a place
 abbrev pub at_place : Room → ℕ → ℕ × ℕ

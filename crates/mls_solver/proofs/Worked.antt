@@ -9,14 +9,14 @@ use Rattle.mls_automaton.specs.declared.automaton.Head.{Head}
 use Rattle.mls_automaton.specs.Automata.{Automaton, empty_head, polarity_at, head_at, flow, HasFlow}
 use Rattle.mls_automaton.specs.Heads.{parts_of, combined, IsSameParts}
 use Rattle.mls_automaton.proofs.Lists.{Contains-here, Contains-later, Contains-cases}
-use Rattle.mls_biunify.specs.declared.goal.ClashKind.{ClashKind}
-use Rattle.mls_biunify.specs.declared.goal.ClashKind.TheVariants.{Unlike, Lacks}
+use Rattle.mls_solver.specs.declared.goal.ClashKind.{ClashKind}
+use Rattle.mls_solver.specs.declared.goal.ClashKind.TheVariants.{Unlike, Lacks}
 use Rattle.mls_automaton.specs.declared.automaton.HeadKind.{HeadKind}
 use Rattle.mls_automaton.specs.declared.automaton.HeadKind.TheVariants as kind
-use Rattle.mls_biunify.specs.Relations.{IsRelated, goal, domain, codomain, field, along}
+use Rattle.mls_solver.specs.Relations.{IsRelated, goal, domain, codomain, field, along}
 use Rattle.mls_automaton.specs.Automata.{has_kind}
-use Rattle.mls_biunify.specs.Clashes.{LacksField, HasNoClash, Clashes}
-use Rattle.mls_biunify.specs.Solved.{ReachesBy, IsSolved}
+use Rattle.mls_solver.specs.Clashes.{LacksField, HasNoClash, Clashes}
+use Rattle.mls_solver.specs.Solved.{ReachesBy, IsSolved}
 
 abbrev int_head : Head
 int_head = record { boolean = false; integer = true; function = None; fields = None }

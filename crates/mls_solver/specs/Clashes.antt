@@ -9,9 +9,9 @@ use Rattle.mls_automaton.specs.Automata.{Automaton, head_at, has_kind}
 use Rattle.mls_automaton.specs.Heads.{set_at}
 use Rattle.mls_automaton.specs.declared.automaton.HeadKind.{HeadKind}
 use Rattle.mls_automaton.specs.declared.automaton.HeadKind.TheVariants as kind
-use Rattle.mls_biunify.specs.declared.goal.Clash.{Clash}
-use Rattle.mls_biunify.specs.declared.goal.ClashKind.{ClashKind}
-use Rattle.mls_biunify.specs.declared.goal.ClashKind.TheVariants.{Unlike, Lacks}
+use Rattle.mls_solver.specs.declared.goal.Clash.{Clash}
+use Rattle.mls_solver.specs.declared.goal.ClashKind.{ClashKind}
+use Rattle.mls_solver.specs.declared.goal.ClashKind.TheVariants.{Unlike, Lacks}
 
 -- both have a record, and the field of this number of the second is not in the first
 abbrev pub LacksField : Option (List FieldSet) → Option (List FieldSet) → ℕ → Type 0

@@ -6,11 +6,11 @@ use Rattle.mls_automaton.specs.declared.scheme.EnvEntry.{EnvEntry}
 use Rattle.mls_automaton.specs.Automata.{Automaton}
 use Rattle.mls_automaton.specs.Models.{IsClosed, IsModel}
 use Rattle.mls_automaton.specs.Schemes.{IsScheme, IsSchemeOf, IsInstanceUnder, PairAt}
-use Rattle.mls_biunify.specs.declared.goal.Clash.{Clash}
-use Rattle.mls_biunify.specs.declared.goal.Goal.{Goal}
-use Rattle.mls_biunify.specs.Relations.{IsGoal, IsGoalOf, IsRelated}
-use Rattle.mls_biunify.specs.Clashes.{IsClashOf}
-use Rattle.mls_biunify.specs.Solutions.{scheme_over}
+use Rattle.mls_solver.specs.declared.goal.Clash.{Clash}
+use Rattle.mls_solver.specs.declared.goal.Goal.{Goal}
+use Rattle.mls_solver.specs.Relations.{IsGoal, IsGoalOf, IsRelated}
+use Rattle.mls_solver.specs.Clashes.{IsClashOf}
+use Rattle.mls_solver.specs.Solutions.{scheme_over}
 
 -- a model in which the goals hold satisfies the whole closed relation
 abbrev pub SolutionsSatisfyAll : Type 0

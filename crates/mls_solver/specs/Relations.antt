@@ -5,7 +5,7 @@ use Rattle.mls_automaton.specs.declared.automaton.FieldSet.{FieldSet}
 use Rattle.mls_automaton.specs.declared.automaton.Polarity.TheVariants.{Positive, Negative}
 use Rattle.mls_automaton.specs.Automata.{Automaton, head_at, HasFlow, IsState}
 use Rattle.mls_automaton.specs.Heads.{set_at}
-use Rattle.mls_biunify.specs.declared.goal.Goal.{Goal}
+use Rattle.mls_solver.specs.declared.goal.Goal.{Goal}
 
 -- the goals ask this of the pair
 abbrev pub IsGoal : List Goal → ℕ → ℕ → Type 0

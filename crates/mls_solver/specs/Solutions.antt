@@ -6,10 +6,10 @@ use Rattle.mls_automaton.specs.declared.scheme.EnvEntry.{EnvEntry}
 use Rattle.mls_automaton.specs.declared.scheme.Scheme.{Scheme}
 use Rattle.mls_automaton.specs.Automata.{Automaton}
 use Rattle.mls_automaton.specs.Schemes.{IsScheme, IsSchemeOf, IsInstance, NoGoal, IsInstanceUnder, PairAt}
-use Rattle.mls_biunify.specs.declared.goal.Goal.{Goal}
-use Rattle.mls_biunify.specs.Relations.{IsGoal, IsGoalOf, IsRelated}
-use Rattle.mls_biunify.specs.Clashes.{HasNoClash}
-use Rattle.mls_biunify.specs.Rooms.{Room, HoldsJust}
+use Rattle.mls_solver.specs.declared.goal.Goal.{Goal}
+use Rattle.mls_solver.specs.Relations.{IsGoal, IsGoalOf, IsRelated}
+use Rattle.mls_solver.specs.Clashes.{HasNoClash}
+use Rattle.mls_solver.specs.Rooms.{Room, HoldsJust}
 
 -- the scheme over an automaton with this root and these binders
 abbrev pub scheme_over : Automaton → ℕ → List EnvEntry → Scheme

@@ -1,8 +1,8 @@
 //! Sets of numbers that never take memory: numbers below a limit, in the order in which they came.
 ghost use Rattle.std.specs.Prelude.{◌≡◌, ◌↔◌, ◌++◌, ◌∷◌, ◌<◌, ◌≤◌, ◌^◌, ◌&&◌, ℕ, false, not, [], length, get_or};
 ghost use Rattle.std.specs.Prelude.{replicate, All, Contains, IfOk, IsTrue};
-ghost use Rattle.mls_biunify.specs.steps.Numbers.{Inserts};
-ghost use Rattle.mls_biunify.specs.steps.Among.{is_among};
+ghost use Rattle.mls_solver.specs.steps.Numbers.{Inserts};
+ghost use Rattle.mls_solver.specs.steps.Among.{is_among};
 
 use mls_base::memory::Memory;
 use std::alloc::Global;
@@ -21,12 +21,12 @@ pub struct Cells {
 }
 
 impl Model for Cells {
-    ghost use Rattle.mls_biunify.specs.steps.Numbers.{Numbers};
+    ghost use Rattle.mls_solver.specs.steps.Numbers.{Numbers};
 
     ghost Value = { Numbers };
 
     ghost use Rattle.std.specs.Prelude.{length, take};
-    ghost use Rattle.mls_biunify.specs.steps.Cells.{IsCells};
+    ghost use Rattle.mls_solver.specs.steps.Cells.{IsCells};
 
     ghost view = { λ a. record { limit = length a.marks.items; members = take a.len a.order.items } };
 

@@ -4,22 +4,19 @@ ghost use Rattle.std.specs.Prelude.{OnOk, IfErr};
 ghost use Rattle.std.specs.Ordering.{nat_cmp};
 ghost use Rattle.std.specs.Cmp.Lexicographic.{slice_cmp};
 ghost use Rattle.mls_automaton.specs.Models.{HasRisingLabels, IsClosed};
-ghost use Rattle.mls_biunify.specs.Clashes.{HasNoClash, IsFirstClash, LacksField, clash_key, key_cmp, kind_key};
-ghost use Rattle.mls_biunify.specs.Clashes.{label_of, rank};
-ghost use Rattle.mls_biunify.specs.Rooms.{Holds};
-ghost use Rattle.mls_biunify.specs.steps.Tables.{HoldsThere};
-ghost use Rattle.mls_biunify.specs.steps.Kinds.{first_kind, other_kind, is_unlike, unlike_kind, lacks};
-ghost use Rattle.mls_biunify.specs.steps.FirstClashes.{IsFirstKind, IsFirstOf, IsEarlier, IsPairAt};
+ghost use Rattle.mls_solver.specs.Clashes.{HasNoClash, IsFirstClash, LacksField, clash_key, key_cmp, kind_key};
+ghost use Rattle.mls_solver.specs.Clashes.{label_of, rank};
+ghost use Rattle.mls_solver.specs.Rooms.{Holds};
+ghost use Rattle.mls_solver.specs.steps.Kinds.{first_kind, other_kind, is_unlike, unlike_kind, lacks};
+ghost use Rattle.mls_solver.specs.steps.FirstClashes.{IsFirstKind, IsFirstOf, IsEarlier, IsPairAt};
 
 use crate::goal::{Clash, ClashKind, HeadKind};
-use crate::relation::Relation;
 use crate::room::Room;
-use crate::table::Table;
 use mls_automaton::automaton::{Automaton, FieldSet, FieldSets, Head};
 use std::cmp::Ordering;
 
 // The first clash of the pairs of a room.
-pub fn first_clash(room: &Room, a: &Automaton) -> Result<(), Clash>
+pub(crate) fn first_clash(room: &Room, a: &Automaton) -> Result<(), Clash>
     requires closed { IsClosed a.now }
     requires states { (p n : ℕ) → Holds room.now p n → (p < length a.now.states) × (n < length a.now.states) }
     ensures ok { OnOk result (HasNoClash a.now (Holds room.now)) }
@@ -53,63 +50,8 @@ fn clash_at(room: &Room, a: &Automaton, i: usize) -> Option<Clash>
     }
 }
 
-// The first clash of the pairs of a relation.
-pub fn first_clash_of(relation: &Relation, table: &Table) -> Result<(), Clash>
-    requires states { HoldsThere table.now relation.now }
-    ensures ok { OnOk result (HasNoClash table.now.automaton (Holds relation.now)) }
-    ensures clash { IfErr result (IsFirstClash table.now.automaton (Holds relation.now)) }
-{
-    let mut first = None;
-    for i in 0..relation.len() {
-        first = earlier_of(table, first, clash_found(relation, table, i));
-    }
-    match first {
-        None => Ok(()),
-        Some(clash) => Err(clash),
-    }
-}
-
-// The first clash of the pair at this place.
-fn clash_found(relation: &Relation, table: &Table, i: usize) -> Option<Clash>
-    requires in_range { i < length relation.now.pairs }
-    requires states { HoldsThere table.now relation.now }
-    ensures { IsFirstOf table.now.automaton (IsPairAt relation.now i) result }
-{
-    let (positive, negative) = relation.pair(i);
-    match clash_of(table.head(positive), table.head(negative)) {
-        None => None,
-        Some(kind) => Some(Clash {
-            positive,
-            negative,
-            kind,
-        }),
-    }
-}
-
 // Of two clashes that may be there, the one that comes first.
-fn earlier_of(table: &Table, first: Option<Clash>, other: Option<Clash>) -> Option<Clash>
-    requires first { MatchOption first (Unit {0}) (λ c. get_or table.now.there c.negative.0 false ≡ true) }
-    requires other { MatchOption other (Unit {0}) (λ c. get_or table.now.there c.negative.0 false ≡ true) }
-    ensures { IsEarlier table.now.automaton first other result }
-{
-    match first {
-        None => other,
-        Some(left) => match other {
-            None => Some(left),
-            Some(right) => {
-                let lower = table.head(left.negative);
-                if compare_heads(lower, &left, table.head(right.negative), &right).is_le() {
-                    Some(left)
-                } else {
-                    Some(right)
-                }
-            }
-        },
-    }
-}
-
-// Of two clashes that may be there, the one that comes first.
-pub fn earlier(a: &Automaton, first: Option<Clash>, other: Option<Clash>) -> Option<Clash>
+pub(crate) fn earlier(a: &Automaton, first: Option<Clash>, other: Option<Clash>) -> Option<Clash>
     requires first { MatchOption first (Unit {0}) (λ c. c.negative.0 < length a.now.states) }
     requires other { MatchOption other (Unit {0}) (λ c. c.negative.0 < length a.now.states) }
     ensures { IsEarlier a.now first other result }
@@ -139,7 +81,7 @@ fn compare(a: &Automaton, left: &Clash, right: &Clash) -> Ordering
 }
 
 // Which of two clashes comes first, where the negative states have these heads.
-fn compare_heads(lower: &Head, left: &Clash, other: &Head, right: &Clash) -> Ordering
+pub fn compare_heads(lower: &Head, left: &Clash, other: &Head, right: &Clash) -> Ordering
     ensures { result ≡ key_cmp (kind_key lower.now left.now.kind ∷
         (left.now.positive.0 ∷ left.now.negative.0 ∷ []) ∷ [])
         (kind_key other.now right.now.kind ∷ (right.now.positive.0 ∷ right.now.negative.0 ∷ []) ∷ []) }

@@ -1,7 +1,7 @@
 //! Related pairs that are found by each of their states, in space that grows with their number.
 ghost use Rattle.std.specs.Prelude.{◌≡◌, ◌↔◌, ℕ, ◌<◌, [], length, get_or, Contains, OnOk};
-ghost use Rattle.mls_biunify.specs.Rooms.{Holds};
-ghost use Rattle.mls_biunify.specs.steps.Growth.{Relates};
+ghost use Rattle.mls_solver.specs.Rooms.{Holds};
+ghost use Rattle.mls_solver.specs.steps.Growth.{Relates};
 
 use crate::pairs::{Pairs, members, put};
 use mls_automaton::state_set::{StateId, StateSet};
@@ -19,11 +19,11 @@ pub struct Found {
 }
 
 impl Model for Found {
-    ghost use Rattle.mls_biunify.specs.Rooms.{Room};
+    ghost use Rattle.mls_solver.specs.Rooms.{Room};
 
     ghost Value = { Room };
 
-    ghost use Rattle.mls_biunify.specs.steps.FoundParts.{found_view, IsFound};
+    ghost use Rattle.mls_solver.specs.steps.FoundParts.{found_view, IsFound};
 
     ghost view = { found_view };
 

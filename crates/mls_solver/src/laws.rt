@@ -1,5 +1,5 @@
 //! Laws of the closed relation, each the contract of a function that does nothing.
-ghost use Rattle.mls_biunify.specs.Laws.{NoInstanceBesideAClash, SolutionsSatisfyAll};
+ghost use Rattle.mls_solver.specs.Laws.{NoInstanceBesideAClash, SolutionsSatisfyAll};
 
 /// A model in which the goals hold satisfies the whole closed relation.
 pub fn solutions_satisfy_all()

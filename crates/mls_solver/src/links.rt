@@ -1,6 +1,6 @@
 //! Lists of places by their keys, that never take memory: places come one after another, each with a key.
 ghost use Rattle.std.specs.Prelude.{◌≡◌, ℕ, ◌<◌, ◌++◌, ◌∷◌, List, [], length, get_or, replicate, IfOk};
-ghost use Rattle.mls_biunify.specs.steps.Links.{AreLinked, IsLatest, IsSameSpace};
+ghost use Rattle.mls_solver.specs.steps.Links.{AreLinked, IsLatest, IsSameSpace};
 
 use mls_base::memory::Memory;
 use std::alloc::Global;
@@ -19,7 +19,7 @@ pub struct Links {
 }
 
 impl Model for Links {
-    ghost use Rattle.mls_biunify.specs.steps.Links.{LinkTable};
+    ghost use Rattle.mls_solver.specs.steps.Links.{LinkTable};
 
     ghost Value = { LinkTable };
 

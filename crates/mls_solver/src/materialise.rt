@@ -5,14 +5,14 @@ ghost use Rattle.mls_automaton.specs.declared.automaton.State.{State};
 ghost use Rattle.mls_automaton.specs.Automata.{HasFlow, IsState, head_at, polarity_at, with_state};
 ghost use Rattle.mls_automaton.specs.Heads.{IsSameParts, combined, parts_of};
 ghost use Rattle.mls_automaton.specs.Models.{HasRisingLabels, IsClosed};
-ghost use Rattle.mls_biunify.specs.declared.goal.Goal.{Goal};
-ghost use Rattle.mls_biunify.specs.Relations.{IsGoal};
-ghost use Rattle.mls_biunify.specs.Rooms.{Holds, HoldsStates};
-ghost use Rattle.mls_biunify.specs.Solutions.{HasInstancesUnder, IsSaturated};
-ghost use Rattle.mls_biunify.specs.Solved.{IsSolved, ReachesBy};
-ghost use Rattle.mls_biunify.specs.steps.Numbers.{ByOne, Inserts};
-ghost use Rattle.mls_biunify.specs.steps.Solving.{AddsFlows, AreMembers, AreSolvedTo, IsSolvedFlow, IsSolvedState};
-ghost use Rattle.mls_biunify.specs.steps.Solving.{IsTarget};
+ghost use Rattle.mls_solver.specs.declared.goal.Goal.{Goal};
+ghost use Rattle.mls_solver.specs.Relations.{IsGoal};
+ghost use Rattle.mls_solver.specs.Rooms.{Holds, HoldsStates};
+ghost use Rattle.mls_solver.specs.Solutions.{HasInstancesUnder, IsSaturated};
+ghost use Rattle.mls_solver.specs.Solved.{IsSolved, ReachesBy};
+ghost use Rattle.mls_solver.specs.steps.Numbers.{ByOne, Inserts};
+ghost use Rattle.mls_solver.specs.steps.Solving.{AddsFlows, AreMembers, AreSolvedTo, IsSolvedFlow, IsSolvedState};
+ghost use Rattle.mls_solver.specs.steps.Solving.{IsTarget};
 
 use crate::cells::Cells;
 use crate::goal::is_state;
@@ -184,7 +184,7 @@ pub(crate) fn combined_head(
     combine_heads(alloc, polarity, &first, &second)
 }
 
-pub(crate) fn copied_head(head: &Head) -> Result<Head, Memory>
+pub fn copied_head(head: &Head) -> Result<Head, Memory>
     ensures { IfOk result (λ copy. copy ≡ head.now) }
 {
     let copy = head.clone()?;

@@ -1,8 +1,8 @@
 //! Related pairs that are found by the first of their states, in space that grows with their number.
 ghost use Rattle.std.specs.Prelude.{◌≡◌, ◌↔◌, ◌⊎◌, ℕ, ◌<◌, [], false, length, get_or, Contains, IfOk, OnOk, OnErr};
-ghost use Rattle.mls_biunify.specs.Rooms.{Holds};
-ghost use Rattle.mls_biunify.specs.steps.Finding.{HasMember};
-ghost use Rattle.mls_biunify.specs.steps.Growth.{Relates};
+ghost use Rattle.mls_solver.specs.Rooms.{Holds};
+ghost use Rattle.mls_solver.specs.steps.Finding.{HasMember};
+ghost use Rattle.mls_solver.specs.steps.Growth.{Relates};
 
 use mls_automaton::state_set::{StateId, StateSet};
 use mls_base::memory::Memory;
@@ -20,11 +20,11 @@ pub(crate) struct Pairs {
 }
 
 impl Model for Pairs {
-    ghost use Rattle.mls_biunify.specs.Rooms.{Room};
+    ghost use Rattle.mls_solver.specs.Rooms.{Room};
 
     ghost Value = { Room };
 
-    ghost use Rattle.mls_biunify.specs.steps.PairParts.{pairs_view, ArePairs};
+    ghost use Rattle.mls_solver.specs.steps.PairParts.{pairs_view, ArePairs};
 
     ghost view = { pairs_view };
 

@@ -1,10 +1,10 @@
 //! Rooms: the space in which the closed relation is found.
 ghost use Rattle.std.specs.Prelude.{◌≡◌, ◌↔◌, ℕ, ◌+◌, ◌*◌, ◌<◌, ◌≤◌, ◌++◌, ◌∷◌, [], length, count_by, get_or, All};
 ghost use Rattle.std.specs.Prelude.{Contains, IfOk, IsTrue, MatchOption};
-ghost use Rattle.mls_biunify.specs.Rooms.{Fits, Holds, is_positive, is_negative};
-ghost use Rattle.mls_biunify.specs.steps.Growth.{Relates};
-ghost use Rattle.mls_biunify.specs.steps.Numbers.{Inserts};
-ghost use Rattle.mls_biunify.specs.steps.Links.{IsLatest, first, keys_of, second};
+ghost use Rattle.mls_solver.specs.Rooms.{Fits, Holds, is_positive, is_negative};
+ghost use Rattle.mls_solver.specs.steps.Growth.{Relates};
+ghost use Rattle.mls_solver.specs.steps.Numbers.{Inserts};
+ghost use Rattle.mls_solver.specs.steps.Links.{IsLatest, first, keys_of, second};
 
 use crate::cells::Cells;
 use crate::links::Links;
@@ -30,11 +30,11 @@ pub struct Room {
 }
 
 impl Model for Room {
-    ghost use Rattle.mls_biunify.specs.Rooms.{Room};
+    ghost use Rattle.mls_solver.specs.Rooms.{Room};
 
     ghost Value = { Room };
 
-    ghost use Rattle.mls_biunify.specs.steps.RoomParts.{room_view, IsRoom};
+    ghost use Rattle.mls_solver.specs.steps.RoomParts.{room_view, IsRoom};
 
     ghost view = { room_view };
 

@@ -4,12 +4,12 @@ ghost use Rattle.mls_automaton.specs.declared.automaton.Polarity.TheVariants.{Po
 ghost use Rattle.mls_automaton.specs.Automata.{HasFlow, IsState, head_at};
 ghost use Rattle.mls_automaton.specs.Heads.{AreRising};
 ghost use Rattle.mls_automaton.specs.Models.{HasRisingLabels, IsClosed};
-ghost use Rattle.mls_biunify.specs.Clashes.{HasNoClash, IsFirstClash};
-ghost use Rattle.mls_biunify.specs.Relations.{IsGoal, IsGoalOf, IsRelated};
-ghost use Rattle.mls_biunify.specs.Rooms.{Fits, Holds, HoldsJust, HoldsStates};
-ghost use Rattle.mls_biunify.specs.steps.Growth.{BySome, Relates};
-ghost use Rattle.mls_biunify.specs.steps.Consequences.{ByFunctions, ByField, ByRecords, ByHeads, IsRoomOf, Follows};
-ghost use Rattle.mls_biunify.specs.steps.Consequences.{HasConsequences};
+ghost use Rattle.mls_solver.specs.Clashes.{HasNoClash, IsFirstClash};
+ghost use Rattle.mls_solver.specs.Relations.{IsGoal, IsGoalOf, IsRelated};
+ghost use Rattle.mls_solver.specs.Rooms.{Fits, Holds, HoldsJust, HoldsStates};
+ghost use Rattle.mls_solver.specs.steps.Growth.{BySome, Relates};
+ghost use Rattle.mls_solver.specs.steps.Consequences.{ByFunctions, ByField, ByRecords, ByHeads, IsRoomOf, Follows};
+ghost use Rattle.mls_solver.specs.steps.Consequences.{HasConsequences};
 
 use crate::clash::first_clash;
 use crate::goal::{Clash, Goal};

@@ -3,13 +3,13 @@ ghost use Rattle.std.specs.Prelude.{◌≡◌, ℕ, ◌<◌, ◌≤◌, [], leng
 ghost use Rattle.mls_automaton.specs.declared.automaton.Polarity.TheVariants.{Positive, Negative};
 ghost use Rattle.mls_automaton.specs.Automata.{IsState, head_at};
 ghost use Rattle.mls_automaton.specs.Models.{IsClosed};
-ghost use Rattle.mls_biunify.specs.Clashes.{HasNoClash, IsFirstClash};
-ghost use Rattle.mls_biunify.specs.Relations.{IsGoal, IsGoalOf, IsRelated};
-ghost use Rattle.mls_biunify.specs.Rooms.{Holds, HoldsJust, HoldsStates};
-ghost use Rattle.mls_biunify.specs.steps.FirstClashes.{IsFirstOf, IsPairAt};
-ghost use Rattle.mls_biunify.specs.steps.Growth.{BySome, Relates};
-ghost use Rattle.mls_biunify.specs.steps.Chains.{ByDirect, ByEdgeFrom, ByEdgeTo};
-ghost use Rattle.mls_biunify.specs.steps.Consequences.{ByFunctions, ByField, ByRecords, ByHeads};
+ghost use Rattle.mls_solver.specs.Clashes.{HasNoClash, IsFirstClash};
+ghost use Rattle.mls_solver.specs.Relations.{IsGoal, IsGoalOf, IsRelated};
+ghost use Rattle.mls_solver.specs.Rooms.{Holds, HoldsJust, HoldsStates};
+ghost use Rattle.mls_solver.specs.steps.FirstClashes.{IsFirstOf, IsPairAt};
+ghost use Rattle.mls_solver.specs.steps.Growth.{BySome, Relates};
+ghost use Rattle.mls_solver.specs.steps.Chains.{ByDirect, ByEdgeFrom, ByEdgeTo};
+ghost use Rattle.mls_solver.specs.steps.Consequences.{ByFunctions, ByField, ByRecords, ByHeads};
 
 use crate::clash::{clash_of, earlier};
 use crate::found::Found;

@@ -3,12 +3,12 @@ ghost use Rattle.std.specs.Prelude.{◌≡◌, ◌↔◌, ◌⊎◌, ℕ, ◌<�
 ghost use Rattle.mls_automaton.specs.declared.automaton.Polarity.TheVariants.{Positive, Negative};
 ghost use Rattle.mls_automaton.specs.Automata.{HasFlow, IsPartner, IsState, polarity_at};
 ghost use Rattle.mls_automaton.specs.Models.{IsClosed};
-ghost use Rattle.mls_biunify.specs.Rooms.{Holds, HoldsStates};
-ghost use Rattle.mls_biunify.specs.Solved.{IsSolved, ReachesBy};
-ghost use Rattle.mls_biunify.specs.steps.Numbers.{ByOne};
-ghost use Rattle.mls_biunify.specs.steps.Settling.{AreChanges, AreMade, HasChangeOf, IsChange, IsFitting, IsTouched};
-ghost use Rattle.mls_biunify.specs.steps.Settling.{Makes};
-ghost use Rattle.mls_biunify.specs.steps.Solving.{AreMembers, IsTarget};
+ghost use Rattle.mls_solver.specs.Rooms.{Holds, HoldsStates};
+ghost use Rattle.mls_solver.specs.Solved.{IsSolved, ReachesBy};
+ghost use Rattle.mls_solver.specs.steps.Numbers.{ByOne};
+ghost use Rattle.mls_solver.specs.steps.Settling.{AreChanges, AreMade, HasChangeOf, IsChange, IsFitting, IsTouched};
+ghost use Rattle.mls_solver.specs.steps.Settling.{Makes};
+ghost use Rattle.mls_solver.specs.steps.Solving.{AreMembers, IsTarget};
 
 use crate::found::Found;
 use crate::materialise::{add_flows_to, combined_head, copied_head};
@@ -113,7 +113,7 @@ fn change_of(alloc: Global, found: &Found, a: &Automaton, s: StateId) -> Result<
 }
 
 // The members of a set in order.
-pub(crate) fn listed(alloc: Global, set: &BTreeSet<usize>) -> Result<Vec<usize>, Memory>
+pub fn listed(alloc: Global, set: &BTreeSet<usize>) -> Result<Vec<usize>, Memory>
     ensures { IfOk result (λ list. list.items ≡ set.now.keys) }
 {
     let mut list = Vec::new(alloc);

@@ -7,7 +7,7 @@ use Rattle.mls_automaton.specs.Reached.{Names}
 use Rattle.mls_automaton.specs.steps.Searching.{Found, Grows, IsBelow, IsMarked}
 use Rattle.mls_biunify.specs.Live.{IsReachedFrom}
 use Rattle.mls_biunify.specs.declared.reach.Search.{Search}
-use Rattle.mls_biunify.specs.steps.Among.{is_among}
+use Rattle.mls_solver.specs.steps.Among.{is_among}
 use Rattle.mls_biunify.specs.steps.Tables.{Numbered}
 
 -- whether each number below the limit is among these

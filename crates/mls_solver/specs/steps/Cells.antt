@@ -1,8 +1,8 @@
 -- What holds of the parts of a set of numbers.
 use Rattle.std.specs.Prelude.{◌≡◌, ℕ, ◌≤◌, ◌^◌, ◌==◌, Bool, false, List, length, take, get_or}
 use Rattle.std.specs.List.{IsDistinct}
-use Rattle.mls_biunify.specs.steps.Among.{is_among}
-use Rattle.mls_biunify.specs.declared.cells.Cells.TheInside.{Inside}
+use Rattle.mls_solver.specs.steps.Among.{is_among}
+use Rattle.mls_solver.specs.declared.cells.Cells.TheInside.{Inside}
 
 -- The first so many of `order` are the members, each once. Those numbers are marked.
 pub record AreCells (marks : List Bool) (order : List ℕ) (len : ℕ) : Type 0 where

@@ -1,9 +1,9 @@
 -- Chains of direct pairs along edges, and how a search finds them.
 use Rattle.std.specs.Prelude.{◌≡◌, ◌⊎◌, ℕ, ◌≤◌, length, take, Contains}
 use Rattle.mls_automaton.specs.Automata.{Automaton, head_at, HasFlow}
-use Rattle.mls_biunify.specs.Relations.{IsRelated}
-use Rattle.mls_biunify.specs.Rooms.{Room, Holds}
-use Rattle.mls_biunify.specs.steps.Consequences.{ByHeads}
+use Rattle.mls_solver.specs.Relations.{IsRelated}
+use Rattle.mls_solver.specs.Rooms.{Room, Holds}
+use Rattle.mls_solver.specs.steps.Consequences.{ByHeads}
 
 -- from the first state of a direct pair to the second state of a later one, with an edge between each and the next
 pub data IsChained (a : Automaton) (IsDirect : ℕ → ℕ → Type 0) : ℕ → ℕ → Type 0 where

@@ -6,8 +6,8 @@ use Rattle.mls_automaton.specs.declared.automaton.FieldSet.{FieldSet}
 use Rattle.mls_automaton.specs.declared.automaton.Head.{Head}
 use Rattle.mls_automaton.specs.Automata.{Automaton, head_at, HasFlow, IsState}
 use Rattle.mls_automaton.specs.Heads.{set_at}
-use Rattle.mls_biunify.specs.Relations.{IsRelated}
-use Rattle.mls_biunify.specs.Rooms.{Room, Holds}
+use Rattle.mls_solver.specs.Relations.{IsRelated}
+use Rattle.mls_solver.specs.Rooms.{Room, Holds}
 
 -- by the functions of a positive and a negative state
 abbrev pub ByFunctions : Option Arms → Option Arms → ℕ → ℕ → Type 0

@@ -4,10 +4,10 @@ use Rattle.std.specs.Ordering.{nat_cmp, is_le}
 use Rattle.std.specs.Cmp.Lexicographic.{slice_cmp}
 use Rattle.mls_automaton.specs.declared.automaton.Head.{Head}
 use Rattle.mls_automaton.specs.Automata.{Automaton}
-use Rattle.mls_biunify.specs.declared.goal.Clash.{Clash}
-use Rattle.mls_biunify.specs.declared.goal.ClashKind.{ClashKind}
-use Rattle.mls_biunify.specs.Clashes.{Clashes, HasNoClash, IsFirstClash, IsAtMost, kind_key}
-use Rattle.mls_biunify.specs.Rooms.{Room}
+use Rattle.mls_solver.specs.declared.goal.Clash.{Clash}
+use Rattle.mls_solver.specs.declared.goal.ClashKind.{ClashKind}
+use Rattle.mls_solver.specs.Clashes.{Clashes, HasNoClash, IsFirstClash, IsAtMost, kind_key}
+use Rattle.mls_solver.specs.Rooms.{Room}
 
 -- the first kind in which two heads clash, if they clash
 abbrev pub IsFirstKind : Head → Head → Option ClashKind → Type 0

@@ -1,8 +1,8 @@
 -- What holds of the parts of a table of found pairs.
 use Rattle.std.specs.Prelude.{◌↔◌, ℕ}
-use Rattle.mls_biunify.specs.Rooms.{Room, Holds}
-use Rattle.mls_biunify.specs.steps.Finding.{HasMember}
-use Rattle.mls_biunify.specs.declared.found.Found.TheInside.{Inside}
+use Rattle.mls_solver.specs.Rooms.{Room, Holds}
+use Rattle.mls_solver.specs.steps.Finding.{HasMember}
+use Rattle.mls_solver.specs.declared.found.Found.TheInside.{Inside}
 
 abbrev pub found_view : Inside → Room
 found_view a = a.forward

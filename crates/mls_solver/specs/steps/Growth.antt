@@ -1,6 +1,6 @@
 -- How rooms grow.
 use Rattle.std.specs.Prelude.{◌≡◌, ◌⊎◌, ℕ, List, ◌++◌, Contains}
-use Rattle.mls_biunify.specs.Rooms.{Room, Holds}
+use Rattle.mls_solver.specs.Rooms.{Room, Holds}
 
 -- some element of the list gives the pair
 abbrev pub BySome : {X : Type 0} → List X → (X → ℕ → ℕ → Type 0) → ℕ → ℕ → Type 0

@@ -1,5 +1,5 @@
 -- Lists of places by their keys, linked from the last place of each key back to its first.
-use Rattle.mls_biunify.specs.Rooms.{Room}
+use Rattle.mls_solver.specs.Rooms.{Room}
 use Rattle.std.specs.Prelude.{◌≡◌, ℕ, ◌+◌, ◌<◌, ◌≤◌, List, length, map, get_or}
 
 -- `last` is by keys, and `before` by places, of which so many are used

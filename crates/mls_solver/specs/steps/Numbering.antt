@@ -2,7 +2,7 @@
 use Rattle.std.specs.Prelude.{◌≡◌, ◌↔◌, ℕ, ◌+◌, ◌<◌, [], take, length, count_by, Contains}
 use Rattle.mls_automaton.specs.declared.automaton.Polarity.TheVariants.{Positive, Negative}
 use Rattle.mls_automaton.specs.Automata.{Automaton, polarity_at}
-use Rattle.mls_biunify.specs.Rooms.{Room, is_positive, is_negative}
+use Rattle.mls_solver.specs.Rooms.{Room, is_positive, is_negative}
 
 pub record AreNumbered (a : Automaton) (old : Room) (s : ℕ) (room : Room) : Type 0 where
   pub positives : room.positives ≡ old.positives

@@ -1,8 +1,8 @@
 -- What holds of the parts of pairs that are found by their first states.
 use Rattle.std.specs.Prelude.{◌↔◌, ℕ, [], Contains}
-use Rattle.mls_biunify.specs.Rooms.{Room}
-use Rattle.mls_biunify.specs.steps.Finding.{HasMember}
-use Rattle.mls_biunify.specs.declared.pairs.Pairs.TheInside.{Inside}
+use Rattle.mls_solver.specs.Rooms.{Room}
+use Rattle.mls_solver.specs.steps.Finding.{HasMember}
+use Rattle.mls_solver.specs.declared.pairs.Pairs.TheInside.{Inside}
 
 abbrev pub pairs_view : Inside → Room
 pairs_view a = record { positives = 0; negatives = 0; rows = []; columns = []; pairs = a.list.items }

@@ -1,9 +1,9 @@
 -- What holds of the parts of a room.
 use Rattle.std.specs.Prelude.{◌≡◌, ℕ, ◌+◌, ◌*◌, ◌/◌, ◌%◌, ◌<◌, ◌≤◌, ◌^◌, List, length, take, map, get_or, Contains}
-use Rattle.mls_biunify.specs.steps.Numbers.{Numbers}
-use Rattle.mls_biunify.specs.steps.Links.{LinkTable, AreLinked}
-use Rattle.mls_biunify.specs.Rooms.{Room}
-use Rattle.mls_biunify.specs.declared.room.Room.TheInside.{Inside}
+use Rattle.mls_solver.specs.steps.Numbers.{Numbers}
+use Rattle.mls_solver.specs.steps.Links.{LinkTable, AreLinked}
+use Rattle.mls_solver.specs.Rooms.{Room}
+use Rattle.mls_solver.specs.declared.room.Room.TheInside.{Inside}
 
 -- the parts as lists
 pub record Tables : Type 0 where

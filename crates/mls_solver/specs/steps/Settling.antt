@@ -2,9 +2,9 @@
 use Rattle.std.specs.Prelude.{◌≡◌, ◌≢◌, ◌↔◌, ◌⊎◌, ℕ, ◌<◌, List, [], length, All, Contains}
 use Rattle.mls_automaton.specs.declared.automaton.Polarity.TheVariants.{Positive, Negative}
 use Rattle.mls_automaton.specs.Automata.{Automaton, HasFlow, IsState, polarity_at, head_at, state_at}
-use Rattle.mls_biunify.specs.declared.settle.Change.{Change}
-use Rattle.mls_biunify.specs.Solved.{ReachesBy, IsNewFlow}
-use Rattle.mls_biunify.specs.steps.Solving.{IsSolvedFlow, IsSolvedState}
+use Rattle.mls_solver.specs.declared.settle.Change.{Change}
+use Rattle.mls_solver.specs.Solved.{ReachesBy, IsNewFlow}
+use Rattle.mls_solver.specs.steps.Solving.{IsSolvedFlow, IsSolvedState}
 
 -- another old head goes into the new head of state s
 abbrev pub IsTouched : Automaton → (ℕ → ℕ → Type 0) → ℕ → Type 0

@@ -4,7 +4,7 @@ use Rattle.mls_automaton.specs.declared.automaton.State.{State}
 use Rattle.mls_automaton.specs.Automata.{Automaton, HasFlow, polarity_at, head_at, state_at}
 use Rattle.mls_automaton.specs.Heads.{parts_of, combined, IsSameParts}
 use Rattle.mls_automaton.specs.Models.{HasRisingLabels}
-use Rattle.mls_biunify.specs.Solved.{ReachesBy, IsNewFlow}
+use Rattle.mls_solver.specs.Solved.{ReachesBy, IsNewFlow}
 
 -- the states whose old heads go into the new head of state s
 pub record AreMembers (a : Automaton) (IsRelated : ℕ → ℕ → Type 0) (s : ℕ) (members : List ℕ) : Type 0 where

@@ -1,9 +1,9 @@
 use Rattle.std.proofs.Common.{Some, None, subst, sym}
 use Rattle.mls_automaton.specs.declared.automaton.Head.{Head}
 use Rattle.mls_automaton.specs.Automata.{head_at}
-use Rattle.mls_biunify.specs.steps.FirstClashes.{IsFirstKind}
-use Rattle.mls_biunify.proofs.FirstClashes.{pair_held, pair_none, pair_first}
-use Rattle.mls_biunify.proofs.clash.clash_at.Goals as goal
+use Rattle.mls_solver.specs.steps.FirstClashes.{IsFirstKind}
+use Rattle.mls_solver.proofs.FirstClashes.{pair_held, pair_none, pair_first}
+use Rattle.mls_solver.proofs.clash.clash_at.Goals as goal
 
 pub head-requires : goal.head-requires
 head-requires c = (c.requires.states c.pair.result.0.0 c.pair.result.1.0 (pair_held c.args.room.now c.args.i c.pair.result.0.0 c.pair.result.1.0 c.requires.in_range (sym c.pair.ensures.pair))).0

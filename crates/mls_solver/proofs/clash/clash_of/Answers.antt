@@ -1,6 +1,6 @@
 use Rattle.std.proofs.Common.{sym}
-use Rattle.mls_biunify.proofs.FirstKinds.{lacks_none, lacks_first, unlike_other, unlike_first}
-use Rattle.mls_biunify.proofs.clash.clash_of.Goals as goal
+use Rattle.mls_solver.proofs.FirstKinds.{lacks_none, lacks_first, unlike_other, unlike_first}
+use Rattle.mls_solver.proofs.clash.clash_of.Goals as goal
 
 pub returns-in-Some-first_lacking : goal.returns-in-Some-first_lacking
 returns-in-Some-first_lacking c =

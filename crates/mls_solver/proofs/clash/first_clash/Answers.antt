@@ -1,7 +1,7 @@
 use Rattle.std.proofs.Common.{◌≡◌, length, subst, arith}
-use Rattle.mls_biunify.specs.steps.FirstClashes.{IsFirstOf, IsPairBelow}
-use Rattle.mls_biunify.proofs.FirstClashes.{first_none, first_more, first_in_range, at_in_range, none_at_all, first_at_all}
-use Rattle.mls_biunify.proofs.clash.first_clash.Goals as goal
+use Rattle.mls_solver.specs.steps.FirstClashes.{IsFirstOf, IsPairBelow}
+use Rattle.mls_solver.proofs.FirstClashes.{first_none, first_more, first_in_range, at_in_range, none_at_all, first_at_all}
+use Rattle.mls_solver.proofs.clash.first_clash.Goals as goal
 
 pub loop-i-init : goal.loop-i-init
 loop-i-init c = first_none c.args.a.now c.args.room.now

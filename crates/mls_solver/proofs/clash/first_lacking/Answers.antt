@@ -1,5 +1,5 @@
-use Rattle.mls_biunify.proofs.FirstKinds.{lacking_found}
-use Rattle.mls_biunify.proofs.clash.first_lacking.Goals as goal
+use Rattle.mls_solver.proofs.FirstKinds.{lacking_found}
+use Rattle.mls_solver.proofs.clash.first_lacking.Goals as goal
 
 pub returns-in-Some-fields : goal.returns-in-Some-fields
 returns-in-Some-fields c =

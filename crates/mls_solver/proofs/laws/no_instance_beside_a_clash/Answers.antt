@@ -1,9 +1,9 @@
 use Rattle.mls_automaton.proofs.Instances.{under-instance}
-use Rattle.mls_biunify.specs.Relations.{IsGoal}
-use Rattle.mls_biunify.specs.Solutions.{scheme_over}
-use Rattle.mls_biunify.proofs.Following.{goals_between}
-use Rattle.mls_biunify.proofs.SolvedInstances.{no_instance}
-use Rattle.mls_biunify.proofs.laws.no_instance_beside_a_clash.Goals as goal
+use Rattle.mls_solver.specs.Relations.{IsGoal}
+use Rattle.mls_solver.specs.Solutions.{scheme_over}
+use Rattle.mls_solver.proofs.Following.{goals_between}
+use Rattle.mls_solver.proofs.SolvedInstances.{no_instance}
+use Rattle.mls_solver.proofs.laws.no_instance_beside_a_clash.Goals as goal
 
 pub returns : goal.returns
 returns c a goals are clash is_clash root env scheme b is t it =

@@ -1,8 +1,8 @@
 use Rattle.std.proofs.Common.{◌/◌, length}
 use Rattle.mls_automaton.specs.Automata.{head_at}
 use Rattle.mls_automaton.specs.Heads.{parts_of}
-use Rattle.mls_biunify.proofs.CombinedHeads.{halves_ok}
-use Rattle.mls_biunify.proofs.materialise.+combined_head.Goals as goal
+use Rattle.mls_solver.proofs.CombinedHeads.{halves_ok}
+use Rattle.mls_solver.proofs.materialise.+combined_head.Goals as goal
 
 pub returns-clause-parts : goal.returns-clause-parts
 returns-clause-parts n c =

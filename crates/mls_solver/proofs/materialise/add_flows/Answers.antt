@@ -1,14 +1,14 @@
 use Rattle.std.proofs.Common.{true, false, ◌≡◌, ◌+◌, ◌∙◌, ◌<◌, length, sym, subst, arith, ap}
 use Rattle.mls_automaton.specs.declared.automaton.Polarity.TheVariants.{Negative}
 use Rattle.mls_automaton.specs.Automata.{Automaton, IsState}
-use Rattle.mls_biunify.specs.Rooms.{Holds}
-use Rattle.mls_biunify.specs.steps.Numbers.{Numbers}
-use Rattle.mls_biunify.specs.steps.Solving.{IsSolvedFlow}
-use Rattle.mls_biunify.proofs.AddedFlows.{states-stay, flows-more, flows-skip, flows-all}
-use Rattle.mls_biunify.proofs.SolvedStates.{same_states}
-use Rattle.mls_biunify.proofs.SolvedFlows.{AreFlowsTo, solved_flow-negative}
-use Rattle.mls_biunify.proofs.materialise.add_flows.Goals as goal
-use Rattle.mls_biunify.proofs.materialise.add_flows.Goals.{then-is_state+in_ok-add_flows_from, else-is_state}
+use Rattle.mls_solver.specs.Rooms.{Holds}
+use Rattle.mls_solver.specs.steps.Numbers.{Numbers}
+use Rattle.mls_solver.specs.steps.Solving.{IsSolvedFlow}
+use Rattle.mls_solver.proofs.AddedFlows.{states-stay, flows-more, flows-skip, flows-all}
+use Rattle.mls_solver.proofs.SolvedStates.{same_states}
+use Rattle.mls_solver.proofs.SolvedFlows.{AreFlowsTo, solved_flow-negative}
+use Rattle.mls_solver.proofs.materialise.add_flows.Goals as goal
+use Rattle.mls_solver.proofs.materialise.add_flows.Goals.{then-is_state+in_ok-add_flows_from, else-is_state}
 
 pub add_flows_from-requires-clause-old : goal.add_flows_from-requires-clause-old
 add_flows_from-requires-clause-old c p s state =

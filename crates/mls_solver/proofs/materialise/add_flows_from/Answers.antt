@@ -1,14 +1,14 @@
 use Rattle.std.proofs.Common.{◌≡◌, ◌<◌, [], ℕ, List, All, Contains, sym, subst, arith}
 use Rattle.std.specs.Prelude.{OnOk}
-use Rattle.mls_biunify.specs.steps.Solving.{AddsFlows}
+use Rattle.mls_solver.specs.steps.Solving.{AddsFlows}
 use Rattle.mls_automaton.specs.declared.automaton.Polarity.TheVariants.{Positive, Negative}
 use Rattle.mls_automaton.specs.Automata.{IsState, flow}
 use Rattle.mls_automaton.proofs.Lists.{All-contained}
-use Rattle.mls_biunify.specs.Rooms.{Holds}
-use Rattle.mls_biunify.proofs.Members.{members-state, no_solved_flow}
-use Rattle.mls_biunify.proofs.AddedFlows.{flows-none}
-use Rattle.mls_biunify.proofs.SolvedFlows.{target_from, flows_from}
-use Rattle.mls_biunify.proofs.materialise.add_flows_from.Goals as goal
+use Rattle.mls_solver.specs.Rooms.{Holds}
+use Rattle.mls_solver.proofs.Members.{members-state, no_solved_flow}
+use Rattle.mls_solver.proofs.AddedFlows.{flows-none}
+use Rattle.mls_solver.proofs.SolvedFlows.{target_from, flows_from}
+use Rattle.mls_solver.proofs.materialise.add_flows_from.Goals as goal
 
 pub returns-then-is_empty-clause-flows : goal.returns-then-is_empty-clause-flows
 returns-then-is_empty-clause-flows c =

@@ -1,6 +1,6 @@
 use Rattle.mls_automaton.specs.declared.automaton.Polarity.TheVariants.{Positive, Negative}
-use Rattle.mls_biunify.proofs.AddedFlows.{states-stay, targets-none, targets-more, targets-all}
-use Rattle.mls_biunify.proofs.materialise.add_flows_to.Goals as goal
+use Rattle.mls_solver.proofs.AddedFlows.{states-stay, targets-none, targets-more, targets-all}
+use Rattle.mls_solver.proofs.materialise.add_flows_to.Goals as goal
 
 pub loop-q-init : goal.loop-q-init
 loop-q-init c = targets-none c.args.solved.now c.args.n.0 c.args.targets.now

@@ -1,6 +1,6 @@
-use Rattle.mls_biunify.specs.Rooms.{Holds}
-use Rattle.mls_biunify.proofs.SolvedStates.{added_state}
-use Rattle.mls_biunify.proofs.materialise.add_state.Goals as goal
+use Rattle.mls_solver.specs.Rooms.{Holds}
+use Rattle.mls_solver.proofs.SolvedStates.{added_state}
+use Rattle.mls_solver.proofs.materialise.add_state.Goals as goal
 
 pub returns-clause-state : goal.returns-clause-state
 returns-clause-state c =

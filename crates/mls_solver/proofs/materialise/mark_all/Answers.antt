@@ -1,7 +1,7 @@
 use Rattle.std.proofs.Common.{◌≡◌, ◌<◌, Contains, get_or, refl, sym, subst}
-use Rattle.mls_biunify.specs.steps.Numbers.{ByOne}
-use Rattle.mls_biunify.proofs.Marking.{Inserts-same, marked-first, marked-next, marked-last}
-use Rattle.mls_biunify.proofs.materialise.mark_all.Goals as goal
+use Rattle.mls_solver.specs.steps.Numbers.{ByOne}
+use Rattle.mls_solver.proofs.Marking.{Inserts-same, marked-first, marked-next, marked-last}
+use Rattle.mls_solver.proofs.materialise.mark_all.Goals as goal
 
 pub loop-x-init : goal.loop-x-init
 loop-x-init c = marked-first c.args.numbers.now (λ x y. y ≡ x) c.args.marks.now

@@ -1,7 +1,7 @@
 use Rattle.std.proofs.Common.{◌<◌, sym, subst, get_or}
-use Rattle.mls_biunify.specs.Rooms.{Holds}
-use Rattle.mls_biunify.proofs.Marking.{marked-first, marked-next, marked-last}
-use Rattle.mls_biunify.proofs.materialise.mark_below_all.Goals as goal
+use Rattle.mls_solver.specs.Rooms.{Holds}
+use Rattle.mls_solver.proofs.Marking.{marked-first, marked-next, marked-last}
+use Rattle.mls_solver.proofs.materialise.mark_below_all.Goals as goal
 
 pub loop-p-init : goal.loop-p-init
 loop-p-init c = marked-first c.args.positives.now (λ p n. Holds c.args.room.now p n) c.args.marks.now

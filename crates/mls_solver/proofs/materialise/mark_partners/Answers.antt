@@ -1,9 +1,9 @@
 use Rattle.std.proofs.Common.{◌<◌, ℕ, List, Contains, inl, sym, subst}
 use Rattle.mls_automaton.specs.Automata.{HasFlow, flow}
 use Rattle.mls_automaton.proofs.Lists.{All-contained}
-use Rattle.mls_biunify.proofs.Marking.{Inserts-same}
-use Rattle.mls_biunify.proofs.Members.{partner_of_negative}
-use Rattle.mls_biunify.proofs.materialise.mark_partners.Goals as goal
+use Rattle.mls_solver.proofs.Marking.{Inserts-same}
+use Rattle.mls_solver.proofs.Members.{partner_of_negative}
+use Rattle.mls_solver.proofs.materialise.mark_partners.Goals as goal
 
 pub mark_all-requires : goal.mark_all-requires
 mark_all-requires c =

@@ -1,11 +1,11 @@
 use Rattle.std.proofs.Common.{◌<◌, sym, subst}
 use Rattle.mls_automaton.specs.Automata.{polarity_at}
-use Rattle.mls_biunify.specs.Rooms.{Holds}
-use Rattle.mls_biunify.specs.Solved.{ReachesBy}
-use Rattle.mls_biunify.specs.steps.Numbers.{ByOne}
-use Rattle.mls_biunify.proofs.Marking.{Inserts-same}
-use Rattle.mls_biunify.proofs.Members.{reaches_positive, reaches_negative}
-use Rattle.mls_biunify.proofs.materialise.mark_reaching.Goals as goal
+use Rattle.mls_solver.specs.Rooms.{Holds}
+use Rattle.mls_solver.specs.Solved.{ReachesBy}
+use Rattle.mls_solver.specs.steps.Numbers.{ByOne}
+use Rattle.mls_solver.proofs.Marking.{Inserts-same}
+use Rattle.mls_solver.proofs.Members.{reaches_positive, reaches_negative}
+use Rattle.mls_solver.proofs.materialise.mark_reaching.Goals as goal
 
 pub mark_above_all-requires : goal.mark_above_all-requires
 mark_above_all-requires c p n held = subst (λ k. p < k) (sym c.requires.limit) (c.requires.states p n held).0.in_range

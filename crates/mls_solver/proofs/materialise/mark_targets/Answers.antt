@@ -1,7 +1,7 @@
 use Rattle.std.proofs.Common.{◌∙◌}
 use Rattle.mls_automaton.specs.Automata.{HasFlow}
-use Rattle.mls_biunify.proofs.Marking.{marked-first, marked-next, marked-last}
-use Rattle.mls_biunify.proofs.materialise.mark_targets.Goals as goal
+use Rattle.mls_solver.proofs.Marking.{marked-first, marked-next, marked-last}
+use Rattle.mls_solver.proofs.materialise.mark_targets.Goals as goal
 
 pub loop-m-init : goal.loop-m-init
 loop-m-init c = marked-first c.args.members.now (HasFlow c.args.a.now) c.args.marks.now

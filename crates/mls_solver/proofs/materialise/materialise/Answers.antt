@@ -1,10 +1,10 @@
 use Rattle.mls_automaton.specs.Models.{IsClosed}
-use Rattle.mls_biunify.specs.Rooms.{Holds}
-use Rattle.mls_biunify.specs.Solved.{IsSolved}
-use Rattle.mls_biunify.proofs.SolvedStates.{is-solved, labels-rise}
-use Rattle.mls_biunify.proofs.SolvedClosed.{closed_solved}
-use Rattle.mls_biunify.proofs.SolvedRooms.{instances-under}
-use Rattle.mls_biunify.proofs.materialise.materialise.Goals as goal
+use Rattle.mls_solver.specs.Rooms.{Holds}
+use Rattle.mls_solver.specs.Solved.{IsSolved}
+use Rattle.mls_solver.proofs.SolvedStates.{is-solved, labels-rise}
+use Rattle.mls_solver.proofs.SolvedClosed.{closed_solved}
+use Rattle.mls_solver.proofs.SolvedRooms.{instances-under}
+use Rattle.mls_solver.proofs.materialise.materialise.Goals as goal
 
 pub returns-clause-solved : goal.returns-clause-solved
 returns-clause-solved c = is-solved c.args.a.now (Holds c.args.room.now) c.requires.closed c.in_ok-solved.solved c.add_flows.new.solved c.in_ok-solved.ensures.states c.in_ok-add_flows.ensures

@@ -1,8 +1,8 @@
 use Rattle.std.proofs.Common.{◌<◌, List, ℕ, All, length, sym, subst}
-use Rattle.mls_biunify.specs.Rooms.{Holds}
-use Rattle.mls_biunify.specs.steps.Solving.{AreMembers}
-use Rattle.mls_biunify.proofs.Members.{members-marked, members-low}
-use Rattle.mls_biunify.proofs.materialise.members.Goals as goal
+use Rattle.mls_solver.specs.Rooms.{Holds}
+use Rattle.mls_solver.specs.steps.Solving.{AreMembers}
+use Rattle.mls_solver.proofs.Members.{members-marked, members-low}
+use Rattle.mls_solver.proofs.materialise.members.Goals as goal
 
 pub returns-clause-members : goal.returns-clause-members
 returns-clause-members c =

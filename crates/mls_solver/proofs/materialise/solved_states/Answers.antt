@@ -1,7 +1,7 @@
 use Rattle.std.proofs.Common.{◌∙◌}
-use Rattle.mls_biunify.specs.Rooms.{Holds}
-use Rattle.mls_biunify.proofs.SolvedStates.{states-next}
-use Rattle.mls_biunify.proofs.materialise.solved_states.Goals as goal
+use Rattle.mls_solver.specs.Rooms.{Holds}
+use Rattle.mls_solver.proofs.SolvedStates.{states-next}
+use Rattle.mls_solver.proofs.materialise.solved_states.Goals as goal
 
 pub add_state-requires-clause-limit : goal.add_state-requires-clause-limit
 add_state-requires-clause-limit c = c.loop-s.invariant.limit ∙ c.requires.limit

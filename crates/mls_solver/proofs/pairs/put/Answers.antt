@@ -3,9 +3,9 @@ use Rattle.std.specs.Prelude.{◌↔◌}
 use Rattle.std.specs.BTreeMap.{BTreeMap, get, Updates}
 use Rattle.std.specs.BTreeMap.Entry.{map_with_value}
 use Rattle.std.specs.Ordering.{nat_cmp}
-use Rattle.mls_biunify.specs.steps.Finding.{HasMember}
-use Rattle.mls_biunify.proofs.Finding.{members_there, put_members}
-use Rattle.mls_biunify.proofs.pairs.put.Goals as goal
+use Rattle.mls_solver.specs.steps.Finding.{HasMember}
+use Rattle.mls_solver.proofs.Finding.{members_there, put_members}
+use Rattle.mls_solver.proofs.pairs.put.Goals as goal
 
 pub returns-in_ok-is_new-in-Occupied-clause-more : goal.returns-in_ok-is_new-in-Occupied-clause-more
 returns-in_ok-is_new-in-Occupied-clause-more c =

@@ -1,8 +1,8 @@
 use Rattle.std.proofs.Common.{ℕ, List, Contains, get_or, ◌<◌, inl, subst, sym, arith}
 use Rattle.mls_automaton.specs.Automata.{HasFlow, flow}
-use Rattle.mls_biunify.proofs.Relating.{element, take-all}
-use Rattle.mls_biunify.proofs.Taking.{Follows-none, partner_above, after-follows, after-more}
-use Rattle.mls_biunify.proofs.saturate.add_after.Goals as goal
+use Rattle.mls_solver.proofs.Relating.{element, take-all}
+use Rattle.mls_solver.proofs.Taking.{Follows-none, partner_above, after-follows, after-more}
+use Rattle.mls_solver.proofs.saturate.add_after.Goals as goal
 
 pub loop-q-init : goal.loop-q-init
 loop-q-init c = record {

@@ -1,8 +1,8 @@
 use Rattle.std.proofs.Common.{ℕ, List, Contains, get_or, ◌<◌, inr, subst, sym, arith}
 use Rattle.mls_automaton.specs.Automata.{HasFlow, flow}
-use Rattle.mls_biunify.proofs.Relating.{element, take-all}
-use Rattle.mls_biunify.proofs.Taking.{Follows-none, partner_below, before-follows, before-more}
-use Rattle.mls_biunify.proofs.saturate.add_before.Goals as goal
+use Rattle.mls_solver.proofs.Relating.{element, take-all}
+use Rattle.mls_solver.proofs.Taking.{Follows-none, partner_below, before-follows, before-more}
+use Rattle.mls_solver.proofs.saturate.add_before.Goals as goal
 
 pub loop-m-init : goal.loop-m-init
 loop-m-init c = record {

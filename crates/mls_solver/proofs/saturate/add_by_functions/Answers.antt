@@ -1,8 +1,8 @@
 use Rattle.std.proofs.Common.{ℕ, List, Contains, subst, sym}
-use Rattle.mls_biunify.specs.steps.Consequences.{ByFunctions}
-use Rattle.mls_biunify.proofs.Relating.{Relates-then}
-use Rattle.mls_biunify.proofs.HeadRules.{by_domain, by_codomain, by_functions-cases}
-use Rattle.mls_biunify.proofs.saturate.add_by_functions.Goals as goal
+use Rattle.mls_solver.specs.steps.Consequences.{ByFunctions}
+use Rattle.mls_solver.proofs.Relating.{Relates-then}
+use Rattle.mls_solver.proofs.HeadRules.{by_domain, by_codomain, by_functions-cases}
+use Rattle.mls_solver.proofs.saturate.add_by_functions.Goals as goal
 
 pub add_sets-requires : goal.add_sets-requires
 add_sets-requires c p n left right =

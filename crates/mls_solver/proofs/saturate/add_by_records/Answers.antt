@@ -1,8 +1,8 @@
-use Rattle.mls_biunify.specs.steps.Growth.{BySome}
-use Rattle.mls_biunify.specs.steps.Consequences.{ByField, ByRecords}
-use Rattle.mls_biunify.proofs.Relating.{Relates-same}
-use Rattle.mls_biunify.proofs.HeadRules.{by_records-to, by_records-from}
-use Rattle.mls_biunify.proofs.saturate.add_by_records.Goals as goal
+use Rattle.mls_solver.specs.steps.Growth.{BySome}
+use Rattle.mls_solver.specs.steps.Consequences.{ByField, ByRecords}
+use Rattle.mls_solver.proofs.Relating.{Relates-same}
+use Rattle.mls_solver.proofs.HeadRules.{by_records-to, by_records-from}
+use Rattle.mls_solver.proofs.saturate.add_by_records.Goals as goal
 
 pub add_fields-requires : goal.add_fields-requires
 add_fields-requires c p n it = c.requires p n (by_records-to c.args.upper.now c.args.lower.now c.in-Some.fields c.in-Some-lower.others c.as_slice.result.now c.in-Some.is c.in-Some-lower.is c.as_slice.ensures p n it)

@@ -1,6 +1,6 @@
 use Rattle.std.proofs.Common.{◌≡◌, ℕ, List, Contains, get_or, subst, sym}
-use Rattle.mls_biunify.proofs.Relating.{element, Relates-more, Relates-all}
-use Rattle.mls_biunify.proofs.saturate.add_set.Goals as goal
+use Rattle.mls_solver.proofs.Relating.{element, Relates-more, Relates-all}
+use Rattle.mls_solver.proofs.saturate.add_set.Goals as goal
 
 pub add-requires-clause-row : goal.add-requires-clause-row
 add-requires-clause-row c =

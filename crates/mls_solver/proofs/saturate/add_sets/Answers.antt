@@ -1,7 +1,7 @@
 use Rattle.std.proofs.Common.{◌≡◌, ℕ, List, Contains, get_or, refl, subst, sym}
-use Rattle.mls_biunify.specs.steps.Growth.{BySome}
-use Rattle.mls_biunify.proofs.Relating.{element, Relates-more, Relates-all, Relates-same}
-use Rattle.mls_biunify.proofs.saturate.add_sets.Goals as goal
+use Rattle.mls_solver.specs.steps.Growth.{BySome}
+use Rattle.mls_solver.proofs.Relating.{element, Relates-more, Relates-all, Relates-same}
+use Rattle.mls_solver.proofs.saturate.add_sets.Goals as goal
 
 pub add_set-requires : goal.add_set-requires
 add_set-requires c n it =

@@ -1,6 +1,6 @@
 use Rattle.std.proofs.Common.{◌≡◌, ℕ, ◌<◌, ◌≤◌, List, Contains, length, subst, arith}
-use Rattle.mls_biunify.proofs.Taking.{taken-none, taken-next, taken-all, room_of-kept}
-use Rattle.mls_biunify.proofs.saturate.close.Goals as goal
+use Rattle.mls_solver.proofs.Taking.{taken-none, taken-next, taken-all, room_of-kept}
+use Rattle.mls_solver.proofs.saturate.close.Goals as goal
 
 pub loop-next-init : goal.loop-next-init
 loop-next-init c = taken-none c.args.a.now c.args.room.now

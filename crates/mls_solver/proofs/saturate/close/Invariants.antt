@@ -1,6 +1,6 @@
 use Rattle.std.proofs.Common.{◌*◌, ◌-◌}
-use Rattle.mls_biunify.specs.steps.Consequences.{AreTaken}
-use Rattle.mls_biunify.proofs.saturate.close.Given as goal
+use Rattle.mls_solver.specs.steps.Consequences.{AreTaken}
+use Rattle.mls_solver.proofs.saturate.close.Given as goal
 
 abbrev pub invariant-loop-next : goal.invariant-loop-next
 invariant-loop-next l = AreTaken l.a l.initial.room l.next l.room

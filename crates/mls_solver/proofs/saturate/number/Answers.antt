@@ -1,9 +1,9 @@
 use Rattle.std.proofs.Common.{◌≡◌, ◌+◌, ◌<◌, ◌≤◌, count_by, length, subst, sym, ◌∙◌, arith}
-use Rattle.mls_biunify.specs.Rooms.{Room, Fits, is_positive, is_negative}
-use Rattle.mls_biunify.specs.steps.Numbering.{AreNumbered}
-use Rattle.mls_biunify.proofs.NumberedStates.{rows_below, columns_below, state_fits, row_numbered, column_numbered, all_numbered}
-use Rattle.mls_biunify.proofs.saturate.number.Goals as goal
-use Rattle.mls_biunify.proofs.saturate.number.Goals.{in-Positive, in-Negative}
+use Rattle.mls_solver.specs.Rooms.{Room, Fits, is_positive, is_negative}
+use Rattle.mls_solver.specs.steps.Numbering.{AreNumbered}
+use Rattle.mls_solver.proofs.NumberedStates.{rows_below, columns_below, state_fits, row_numbered, column_numbered, all_numbered}
+use Rattle.mls_solver.proofs.saturate.number.Goals as goal
+use Rattle.mls_solver.proofs.saturate.number.Goals.{in-Positive, in-Negative}
 
 pub add_row-requires-clause-in_range : goal.add_row-requires-clause-in_range
 add_row-requires-clause-in_range c =

@@ -1,10 +1,10 @@
 use Rattle.std.proofs.Common.{◌≡◌, inl, inr, ℕ, ◌<◌, List, [], Contains, subst, sym, arith}
-use Rattle.mls_biunify.specs.Relations.{IsGoal, goal as is_goal}
-use Rattle.mls_biunify.specs.Rooms.{Room, Holds}
-use Rattle.mls_biunify.specs.steps.Growth.{Relates}
-use Rattle.mls_biunify.specs.steps.Consequences.{IsRoomOf}
-use Rattle.mls_biunify.proofs.Taking.{related-through}
-use Rattle.mls_biunify.proofs.saturate.relate.Goals as goal
+use Rattle.mls_solver.specs.Relations.{IsGoal, goal as is_goal}
+use Rattle.mls_solver.specs.Rooms.{Room, Holds}
+use Rattle.mls_solver.specs.steps.Growth.{Relates}
+use Rattle.mls_solver.specs.steps.Consequences.{IsRoomOf}
+use Rattle.mls_solver.proofs.Taking.{related-through}
+use Rattle.mls_solver.proofs.saturate.relate.Goals as goal
 
 -- a room that held nothing holds just the goals
 only_goals : (old new : Room) (IsNew : ℕ → ℕ → Type 0) → old.pairs ≡ [] → Relates old new IsNew → (p n : ℕ) → Holds new p n → IsNew p n

@@ -1,8 +1,8 @@
-use Rattle.mls_biunify.specs.Relations.{IsGoal, IsRelated}
-use Rattle.mls_biunify.specs.Rooms.{Holds}
-use Rattle.mls_biunify.proofs.Following.{goals_between, related_states}
-use Rattle.mls_biunify.proofs.FirstClashes.{answer-ok, answer-clash}
-use Rattle.mls_biunify.proofs.saturate.saturate.Goals as goal
+use Rattle.mls_solver.specs.Relations.{IsGoal, IsRelated}
+use Rattle.mls_solver.specs.Rooms.{Holds}
+use Rattle.mls_solver.proofs.Following.{goals_between, related_states}
+use Rattle.mls_solver.proofs.FirstClashes.{answer-ok, answer-clash}
+use Rattle.mls_solver.proofs.saturate.saturate.Goals as goal
 
 pub first_clash-requires-clause-states : goal.first_clash-requires-clause-states
 first_clash-requires-clause-states c p n held =

@@ -1,8 +1,8 @@
 use Rattle.std.proofs.Common.{◌≡◌, get_or}
-use Rattle.mls_biunify.specs.Rooms.{Holds}
-use Rattle.mls_biunify.proofs.Relating.{Relates-more, Relates-all}
-use Rattle.mls_biunify.proofs.Searching.{from_edges, row_to}
-use Rattle.mls_biunify.proofs.search.add_after.Goals as goal
+use Rattle.mls_solver.specs.Rooms.{Holds}
+use Rattle.mls_solver.proofs.Relating.{Relates-more, Relates-all}
+use Rattle.mls_solver.proofs.Searching.{from_edges, row_to}
+use Rattle.mls_solver.proofs.search.add_after.Goals as goal
 
 pub loop-q-preserved : goal.loop-q-preserved
 loop-q-preserved c =

@@ -1,8 +1,8 @@
 use Rattle.std.proofs.Common.{◌≡◌, get_or, take}
-use Rattle.mls_biunify.specs.Rooms.{Holds}
-use Rattle.mls_biunify.proofs.Relating.{Relates-more, Relates-all}
-use Rattle.mls_biunify.proofs.Searching.{column_before, to_edges}
-use Rattle.mls_biunify.proofs.search.add_before.Goals as goal
+use Rattle.mls_solver.specs.Rooms.{Holds}
+use Rattle.mls_solver.proofs.Relating.{Relates-more, Relates-all}
+use Rattle.mls_solver.proofs.Searching.{column_before, to_edges}
+use Rattle.mls_solver.proofs.search.add_before.Goals as goal
 
 pub loop-m-preserved : goal.loop-m-preserved
 loop-m-preserved c =

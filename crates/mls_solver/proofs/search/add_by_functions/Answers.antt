@@ -1,8 +1,8 @@
 use Rattle.std.proofs.Common.{Contains}
-use Rattle.mls_biunify.specs.steps.Consequences.{ByFunctions}
-use Rattle.mls_biunify.proofs.Relating.{Relates-then}
-use Rattle.mls_biunify.proofs.HeadRules.{by_domain, by_codomain, by_functions-cases}
-use Rattle.mls_biunify.proofs.search.add_by_functions.Goals as goal
+use Rattle.mls_solver.specs.steps.Consequences.{ByFunctions}
+use Rattle.mls_solver.proofs.Relating.{Relates-then}
+use Rattle.mls_solver.proofs.HeadRules.{by_domain, by_codomain, by_functions-cases}
+use Rattle.mls_solver.proofs.search.add_by_functions.Goals as goal
 
 pub returns-in-Some-lower : goal.returns-in-Some-lower
 returns-in-Some-lower c =

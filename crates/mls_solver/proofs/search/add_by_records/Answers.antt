@@ -1,8 +1,8 @@
-use Rattle.mls_biunify.specs.steps.Growth.{BySome}
-use Rattle.mls_biunify.specs.steps.Consequences.{ByField, ByRecords}
-use Rattle.mls_biunify.proofs.Relating.{Relates-same}
-use Rattle.mls_biunify.proofs.HeadRules.{by_records-to, by_records-from}
-use Rattle.mls_biunify.proofs.search.add_by_records.Goals as goal
+use Rattle.mls_solver.specs.steps.Growth.{BySome}
+use Rattle.mls_solver.specs.steps.Consequences.{ByField, ByRecords}
+use Rattle.mls_solver.proofs.Relating.{Relates-same}
+use Rattle.mls_solver.proofs.HeadRules.{by_records-to, by_records-from}
+use Rattle.mls_solver.proofs.search.add_by_records.Goals as goal
 
 pub returns-in-Some-lower : goal.returns-in-Some-lower
 returns-in-Some-lower c =

@@ -1,5 +1,5 @@
-use Rattle.mls_biunify.proofs.Searching.{column_to}
-use Rattle.mls_biunify.proofs.search.add_column.Goals as goal
+use Rattle.mls_solver.proofs.Searching.{column_to}
+use Rattle.mls_solver.proofs.search.add_column.Goals as goal
 
 pub returns : goal.returns
 returns c =

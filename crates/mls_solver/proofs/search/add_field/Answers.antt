@@ -1,8 +1,8 @@
 use Rattle.std.proofs.Common.{Contains}
-use Rattle.mls_biunify.specs.steps.Consequences.{ByField}
-use Rattle.mls_biunify.proofs.Relating.{Relates-same}
-use Rattle.mls_biunify.proofs.HeadRules.{by_field-to, by_field-from}
-use Rattle.mls_biunify.proofs.search.add_field.Goals as goal
+use Rattle.mls_solver.specs.steps.Consequences.{ByField}
+use Rattle.mls_solver.proofs.Relating.{Relates-same}
+use Rattle.mls_solver.proofs.HeadRules.{by_field-to, by_field-from}
+use Rattle.mls_solver.proofs.search.add_field.Goals as goal
 
 pub returns-in-Some : goal.returns-in-Some
 returns-in-Some c =

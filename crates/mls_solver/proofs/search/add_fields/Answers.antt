@@ -1,9 +1,9 @@
 use Rattle.std.proofs.Common.{subst}
 use Rattle.mls_automaton.specs.declared.automaton.FieldSet.{FieldSet}
-use Rattle.mls_biunify.specs.steps.Growth.{Relates}
-use Rattle.mls_biunify.specs.steps.Consequences.{ByField}
-use Rattle.mls_biunify.proofs.Relating.{Relates-more, Relates-all}
-use Rattle.mls_biunify.proofs.search.add_fields.Goals as goal
+use Rattle.mls_solver.specs.steps.Growth.{Relates}
+use Rattle.mls_solver.specs.steps.Consequences.{ByField}
+use Rattle.mls_solver.proofs.Relating.{Relates-more, Relates-all}
+use Rattle.mls_solver.proofs.search.add_fields.Goals as goal
 
 pub loop-other-preserved : goal.loop-other-preserved
 loop-other-preserved c =

@@ -1,7 +1,7 @@
 use Rattle.std.proofs.Common.{◌≡◌, Contains, refl, subst, sym}
-use Rattle.mls_biunify.specs.steps.Growth.{BySome}
-use Rattle.mls_biunify.proofs.Relating.{Relates-more, Relates-all, Relates-same}
-use Rattle.mls_biunify.proofs.search.add_sets.Goals as goal
+use Rattle.mls_solver.specs.steps.Growth.{BySome}
+use Rattle.mls_solver.proofs.Relating.{Relates-more, Relates-all, Relates-same}
+use Rattle.mls_solver.proofs.search.add_sets.Goals as goal
 
 pub loop-p-preserved : goal.loop-p-preserved
 loop-p-preserved c =

@@ -1,8 +1,8 @@
 use Rattle.std.proofs.Common.{◌≡◌, ◌+◌, ◌<◌, ◌≤◌, length, arith}
-use Rattle.mls_biunify.specs.Rooms.{Holds}
-use Rattle.mls_biunify.proofs.Searching.{direct_states, found_states, searched-all, searched-direct, searched-found, searched-none, searched-same}
-use Rattle.mls_biunify.proofs.search.close.Goals as goal
-use Rattle.mls_biunify.proofs.search.close.Goals.{then-next_direct-len+in_ok-take_direct, else-next_direct-len+then-next-len+in_ok-take_found}
+use Rattle.mls_solver.specs.Rooms.{Holds}
+use Rattle.mls_solver.proofs.Searching.{direct_states, found_states, searched-all, searched-direct, searched-found, searched-none, searched-same}
+use Rattle.mls_solver.proofs.search.close.Goals as goal
+use Rattle.mls_solver.proofs.search.close.Goals.{then-next_direct-len+in_ok-take_direct, else-next_direct-len+then-next-len+in_ok-take_found}
 
 pub loop-init : goal.loop-init
 loop-init c = searched-none c.args.a.now c.new-found.result c.args.direct.now c.new-found.ensures

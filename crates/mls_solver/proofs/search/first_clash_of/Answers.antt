@@ -1,8 +1,8 @@
 use Rattle.std.proofs.Common.{◌≡◌, length, subst, arith}
-use Rattle.mls_biunify.specs.steps.FirstClashes.{IsFirstOf, IsPairBelow}
-use Rattle.mls_biunify.proofs.FirstClashes.{first_none, first_more, first_in_range, at_in_range, none_at_all, first_at_all}
-use Rattle.mls_biunify.proofs.Searching.{states_low}
-use Rattle.mls_biunify.proofs.search.first_clash_of.Goals as goal
+use Rattle.mls_solver.specs.steps.FirstClashes.{IsFirstOf, IsPairBelow}
+use Rattle.mls_solver.proofs.FirstClashes.{first_none, first_more, first_in_range, at_in_range, none_at_all, first_at_all}
+use Rattle.mls_solver.proofs.Searching.{states_low}
+use Rattle.mls_solver.proofs.search.first_clash_of.Goals as goal
 
 pub loop-i-init : goal.loop-i-init
 loop-i-init c = first_none c.args.a.now c.args.found.now

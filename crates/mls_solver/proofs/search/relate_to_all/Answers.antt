@@ -1,6 +1,6 @@
 use Rattle.std.proofs.Common.{◌≡◌}
-use Rattle.mls_biunify.proofs.Relating.{Relates-more, Relates-all}
-use Rattle.mls_biunify.proofs.search.relate_to_all.Goals as goal
+use Rattle.mls_solver.proofs.Relating.{Relates-more, Relates-all}
+use Rattle.mls_solver.proofs.search.relate_to_all.Goals as goal
 
 pub loop-n-preserved : goal.loop-n-preserved
 loop-n-preserved c =

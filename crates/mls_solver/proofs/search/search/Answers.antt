@@ -1,8 +1,8 @@
-use Rattle.mls_biunify.specs.Relations.{IsGoal, IsRelated}
-use Rattle.mls_biunify.specs.Rooms.{HoldsJust}
-use Rattle.mls_biunify.proofs.Following.{goals_between, related_states}
-use Rattle.mls_biunify.proofs.Searching.{goals_alone, from_goals}
-use Rattle.mls_biunify.proofs.search.search.Goals as goal
+use Rattle.mls_solver.specs.Relations.{IsGoal, IsRelated}
+use Rattle.mls_solver.specs.Rooms.{HoldsJust}
+use Rattle.mls_solver.proofs.Following.{goals_between, related_states}
+use Rattle.mls_solver.proofs.Searching.{goals_alone, from_goals}
+use Rattle.mls_solver.proofs.search.search.Goals as goal
 
 pub close-requires-clause-states : goal.close-requires-clause-states
 close-requires-clause-states c p n held =

@@ -1,8 +1,8 @@
 use Rattle.std.proofs.Common.{◌≡◌, inl, inr}
-use Rattle.mls_biunify.specs.Rooms.{Holds}
-use Rattle.mls_biunify.specs.steps.Chains.{ByDirect, ByEdgeTo}
-use Rattle.mls_biunify.proofs.Relating.{Relates-then}
-use Rattle.mls_biunify.proofs.search.take_direct.Goals as goal
+use Rattle.mls_solver.specs.Rooms.{Holds}
+use Rattle.mls_solver.specs.steps.Chains.{ByDirect, ByEdgeTo}
+use Rattle.mls_solver.proofs.Relating.{Relates-then}
+use Rattle.mls_solver.proofs.search.take_direct.Goals as goal
 
 pub returns : goal.returns
 returns c =

@@ -1,9 +1,9 @@
 use Rattle.std.proofs.Common.{subst}
 use Rattle.mls_automaton.specs.declared.automaton.Head.{Head}
 use Rattle.mls_automaton.specs.Automata.{head_at}
-use Rattle.mls_biunify.specs.steps.Growth.{Relates}
-use Rattle.mls_biunify.specs.steps.Consequences.{ByHeads}
-use Rattle.mls_biunify.proofs.search.take_found.Goals as goal
+use Rattle.mls_solver.specs.steps.Growth.{Relates}
+use Rattle.mls_solver.specs.steps.Consequences.{ByHeads}
+use Rattle.mls_solver.proofs.search.take_found.Goals as goal
 
 pub head-requires : goal.head-requires
 head-requires c = c.requires.positive.in_range

@@ -1,6 +1,6 @@
-use Rattle.mls_biunify.specs.Rooms.{Holds}
-use Rattle.mls_biunify.proofs.Settling.{grow-none, grow-more, grow-all, grow-then}
-use Rattle.mls_biunify.proofs.settle.add_above.Goals as goal
+use Rattle.mls_solver.specs.Rooms.{Holds}
+use Rattle.mls_solver.proofs.Settling.{grow-none, grow-more, grow-all, grow-then}
+use Rattle.mls_solver.proofs.settle.add_above.Goals as goal
 
 pub loop-n-init : goal.loop-n-init
 loop-n-init c = grow-none (λ n p. Holds c.args.found.now p n) c.args.members.now.keys c.args.negatives.now

@@ -1,6 +1,6 @@
-use Rattle.mls_biunify.specs.Rooms.{Holds}
-use Rattle.mls_biunify.proofs.Settling.{grow-none, grow-more, grow-all, grow-then}
-use Rattle.mls_biunify.proofs.settle.add_below.Goals as goal
+use Rattle.mls_solver.specs.Rooms.{Holds}
+use Rattle.mls_solver.proofs.Settling.{grow-none, grow-more, grow-all, grow-then}
+use Rattle.mls_solver.proofs.settle.add_below.Goals as goal
 
 pub loop-p-init : goal.loop-p-init
 loop-p-init c = grow-none (λ p n. Holds c.args.found.now p n) c.args.members.now.keys c.args.positives.now

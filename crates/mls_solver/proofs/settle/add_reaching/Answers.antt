@@ -1,11 +1,11 @@
 use Rattle.std.proofs.Common.{sym}
 use Rattle.mls_automaton.specs.Automata.{polarity_at}
-use Rattle.mls_biunify.specs.Rooms.{Holds}
-use Rattle.mls_biunify.specs.Solved.{ReachesBy}
-use Rattle.mls_biunify.specs.steps.Numbers.{ByOne}
-use Rattle.mls_biunify.proofs.Members.{reaches_positive, reaches_negative}
-use Rattle.mls_biunify.proofs.Settling.{grow-as}
-use Rattle.mls_biunify.proofs.settle.add_reaching.Goals as goal
+use Rattle.mls_solver.specs.Rooms.{Holds}
+use Rattle.mls_solver.specs.Solved.{ReachesBy}
+use Rattle.mls_solver.specs.steps.Numbers.{ByOne}
+use Rattle.mls_solver.proofs.Members.{reaches_positive, reaches_negative}
+use Rattle.mls_solver.proofs.Settling.{grow-as}
+use Rattle.mls_solver.proofs.settle.add_reaching.Goals as goal
 
 pub returns-in_ok-add_above-in-Positive : goal.returns-in_ok-add_above-in-Positive
 returns-in_ok-add_above-in-Positive c =

@@ -1,8 +1,8 @@
 use Rattle.std.proofs.Common.{subst, sym}
-use Rattle.mls_biunify.specs.declared.settle.Change.{Change}
-use Rattle.mls_biunify.specs.steps.Settling.{IsFitting, Makes}
-use Rattle.mls_biunify.proofs.Settling.{made-none, made-more, made-all, fitting-later}
-use Rattle.mls_biunify.proofs.settle.change_all.Goals as goal
+use Rattle.mls_solver.specs.declared.settle.Change.{Change}
+use Rattle.mls_solver.specs.steps.Settling.{IsFitting, Makes}
+use Rattle.mls_solver.proofs.Settling.{made-none, made-more, made-all, fitting-later}
+use Rattle.mls_solver.proofs.settle.change_all.Goals as goal
 
 pub loop-change-init : goal.loop-change-init
 loop-change-init c = made-none c.args.a.now c.args.changes.now

@@ -1,8 +1,8 @@
 use Rattle.std.proofs.Common.{◌∙◌, List, ℕ, ◌<◌, All, length, subst, sym}
-use Rattle.mls_biunify.specs.Rooms.{Holds}
-use Rattle.mls_biunify.proofs.Members.{members-low}
-use Rattle.mls_biunify.proofs.Settling.{change_any, in_polarity}
-use Rattle.mls_biunify.proofs.settle.change_of.Goals as goal
+use Rattle.mls_solver.specs.Rooms.{Holds}
+use Rattle.mls_solver.proofs.Members.{members-low}
+use Rattle.mls_solver.proofs.Settling.{change_any, in_polarity}
+use Rattle.mls_solver.proofs.settle.change_of.Goals as goal
 
 pub combined_head-requires-clause-in_range : goal.combined_head-requires-clause-in_range
 combined_head-requires-clause-in_range c =

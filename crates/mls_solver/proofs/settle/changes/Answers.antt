@@ -1,9 +1,9 @@
 use Rattle.std.proofs.Common.{◌≡◌, ◌∷◌}
 use Rattle.std.specs.Map.Iter.{deref}
 use Rattle.std.proofs.lemmas.Map.Iter.{rest_more, rest_all}
-use Rattle.mls_biunify.specs.Rooms.{Holds}
-use Rattle.mls_biunify.proofs.Settling.{changes-none, changes-more, left-all, left-next, left-less, left-none}
-use Rattle.mls_biunify.proofs.settle.changes.Goals as goal
+use Rattle.mls_solver.specs.Rooms.{Holds}
+use Rattle.mls_solver.proofs.Settling.{changes-none, changes-more, left-all, left-next, left-less, left-none}
+use Rattle.mls_solver.proofs.settle.changes.Goals as goal
 
 pub loop-s-init : goal.loop-s-init
 loop-s-init c = record {

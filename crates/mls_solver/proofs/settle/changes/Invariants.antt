@@ -1,7 +1,7 @@
-use Rattle.mls_biunify.specs.Rooms.{Holds}
-use Rattle.mls_biunify.specs.steps.Settling.{AreChanges}
-use Rattle.mls_biunify.proofs.Settling.{AreLeft}
-use Rattle.mls_biunify.proofs.settle.changes.Given as goal
+use Rattle.mls_solver.specs.Rooms.{Holds}
+use Rattle.mls_solver.specs.steps.Settling.{AreChanges}
+use Rattle.mls_solver.proofs.Settling.{AreLeft}
+use Rattle.mls_solver.proofs.settle.changes.Given as goal
 
 abbrev pub invariant-loop-s : goal.invariant-loop-s
 invariant-loop-s l = record {

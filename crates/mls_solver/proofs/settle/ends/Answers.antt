@@ -3,10 +3,10 @@ use Rattle.std.specs.Prelude.{◌↔◌}
 use Rattle.std.proofs.lemmas.List.Elements.{All-contains}
 use Rattle.mls_automaton.specs.declared.automaton.Polarity.TheVariants.{Negative}
 use Rattle.mls_automaton.specs.Automata.{HasFlow, IsState}
-use Rattle.mls_biunify.specs.steps.Numbers.{ByOne}
-use Rattle.mls_biunify.proofs.Relating.{element}
-use Rattle.mls_biunify.proofs.Settling.{grow-none, grow-more, grow-all, grow-then, ends-partners, ends-all}
-use Rattle.mls_biunify.proofs.settle.ends.Goals as goal
+use Rattle.mls_solver.specs.steps.Numbers.{ByOne}
+use Rattle.mls_solver.proofs.Relating.{element}
+use Rattle.mls_solver.proofs.Settling.{grow-none, grow-more, grow-all, grow-then, ends-partners, ends-all}
+use Rattle.mls_solver.proofs.settle.ends.Goals as goal
 
 pub loop-m-init : goal.loop-m-init
 loop-m-init c = subst (λ (xs : List ℕ). (j : ℕ) → Contains xs j ↔ Contains [] j ⊎ ByOne (take 0 c.args.members.now) (HasFlow c.args.a.now) j) (sym c.new-all.ensures) (grow-none (HasFlow c.args.a.now) [] c.args.members.now)

@@ -1,6 +1,6 @@
-use Rattle.mls_biunify.proofs.Settling.{Self, grow-none, grow-more, grow-all, grow-self, grow-swap, inserted}
+use Rattle.mls_solver.proofs.Settling.{Self, grow-none, grow-more, grow-all, grow-self, grow-swap, inserted}
 use Rattle.std.proofs.Common.{get_or}
-use Rattle.mls_biunify.proofs.settle.insert_all.Goals as goal
+use Rattle.mls_solver.proofs.settle.insert_all.Goals as goal
 
 pub loop-number-init : goal.loop-number-init
 loop-number-init c = grow-none Self c.args.set.now.keys c.args.numbers.now

@@ -1,9 +1,9 @@
 use Rattle.std.proofs.Common.{ℕ, List, All, subst, sym, ◌∙◌}
 use Rattle.mls_automaton.specs.declared.automaton.Polarity.TheVariants.{Positive}
 use Rattle.mls_automaton.specs.Automata.{IsState}
-use Rattle.mls_biunify.specs.steps.Settling.{IsFitting}
-use Rattle.mls_biunify.proofs.Settling.{makes-head, makes-flows, fitting-later}
-use Rattle.mls_biunify.proofs.settle.make.Goals as goal
+use Rattle.mls_solver.specs.steps.Settling.{IsFitting}
+use Rattle.mls_solver.proofs.Settling.{makes-head, makes-flows, fitting-later}
+use Rattle.mls_solver.proofs.settle.make.Goals as goal
 
 pub returns-then-is_empty : goal.returns-then-is_empty
 returns-then-is_empty c =

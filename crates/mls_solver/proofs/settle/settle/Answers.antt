@@ -1,10 +1,10 @@
 use Rattle.std.proofs.Common.{List, All, subst, sym}
-use Rattle.mls_biunify.specs.declared.settle.Change.{Change}
-use Rattle.mls_biunify.specs.Rooms.{Holds}
-use Rattle.mls_biunify.specs.steps.Settling.{AreMade, IsFitting}
+use Rattle.mls_solver.specs.declared.settle.Change.{Change}
+use Rattle.mls_solver.specs.Rooms.{Holds}
+use Rattle.mls_solver.specs.steps.Settling.{AreMade, IsFitting}
 use Rattle.mls_automaton.proofs.Lists.{All-contained}
-use Rattle.mls_biunify.proofs.Settling.{fitting-change, made-closed, made-solved}
-use Rattle.mls_biunify.proofs.settle.settle.Goals as goal
+use Rattle.mls_solver.proofs.Settling.{fitting-change, made-closed, made-solved}
+use Rattle.mls_solver.proofs.settle.settle.Goals as goal
 
 pub changes-requires-clause-in_range : goal.changes-requires-clause-in_range
 changes-requires-clause-in_range c s it = c.in_ok-states.ensures.in_range s it

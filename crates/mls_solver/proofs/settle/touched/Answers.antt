@@ -1,7 +1,7 @@
 use Rattle.std.proofs.Common.{◌≡◌, length, arith}
-use Rattle.mls_biunify.proofs.Searching.{held_at}
-use Rattle.mls_biunify.proofs.Settling.{touched-none, touched-more, touched_found}
-use Rattle.mls_biunify.proofs.settle.touched.Goals as goal
+use Rattle.mls_solver.proofs.Searching.{held_at}
+use Rattle.mls_solver.proofs.Settling.{touched-none, touched-more, touched_found}
+use Rattle.mls_solver.proofs.settle.touched.Goals as goal
 
 pub loop-i-init : goal.loop-i-init
 loop-i-init c = touched-none c.args.a.now c.args.found.now c.new-all.result.keys c.new-all.ensures.empty

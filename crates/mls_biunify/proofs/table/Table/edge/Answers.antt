@@ -4,7 +4,7 @@ use Rattle.mls_automaton.specs.Automata.{HasFlow}
 use Rattle.mls_biunify.specs.Live.{IsStateIn}
 use Rattle.mls_biunify.specs.steps.TwoWay.{TwoWay, AddsPair, IsSamePairs}
 use Rattle.mls_biunify.specs.steps.Tables.{Numbered, numbered_of}
-use Rattle.mls_biunify.proofs.Answered.{on_ok, on_err}
+use Rattle.mls_solver.proofs.Answered.{on_ok, on_err}
 use Rattle.mls_biunify.proofs.TableSteps.{flow-in, edge-added, edge-same, edge-numbered}
 use Rattle.mls_biunify.proofs.table.Table.edge.Goals as goal
 

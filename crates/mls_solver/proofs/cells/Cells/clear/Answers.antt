@@ -2,10 +2,10 @@ use Rattle.std.proofs.Common.{◌≡◌, ◌<◌, ℕ, ◌&&◌, ◌++◌, Bool,
 use Rattle.std.specs.Prelude.{not}
 use Rattle.std.proofs.Math.Seq.{take-length}
 use Rattle.std.proofs.lemmas.List.{take-append-le}
-use Rattle.mls_biunify.specs.steps.Among.{is_among}
-use Rattle.mls_biunify.specs.steps.Cells.{AreCells}
-use Rattle.mls_biunify.proofs.CellSteps.{cells-below, cells-cleared}
-use Rattle.mls_biunify.proofs.cells.Cells.clear.Goals as goal
+use Rattle.mls_solver.specs.steps.Among.{is_among}
+use Rattle.mls_solver.specs.steps.Cells.{AreCells}
+use Rattle.mls_solver.proofs.CellSteps.{cells-below, cells-cleared}
+use Rattle.mls_solver.proofs.cells.Cells.clear.Goals as goal
 
 pub unmark-requires : goal.unmark-requires
 unmark-requires c =

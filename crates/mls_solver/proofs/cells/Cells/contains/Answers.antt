@@ -1,9 +1,9 @@
 use Rattle.std.proofs.Common.{◌≡◌, ◌<◌, ◌↔◌, true, false, length, take, get_or, Contains, subst, sym, ◌∙◌}
 use Rattle.std.specs.Prelude.{IsTrue}
 use Rattle.std.proofs.lemmas.List.{get_or_default}
-use Rattle.mls_biunify.specs.steps.Numbers.{Numbers}
-use Rattle.mls_biunify.proofs.CellSteps.{cells-marked}
-use Rattle.mls_biunify.proofs.cells.Cells.contains.Goals as goal
+use Rattle.mls_solver.specs.steps.Numbers.{Numbers}
+use Rattle.mls_solver.proofs.CellSteps.{cells-marked}
+use Rattle.mls_solver.proofs.cells.Cells.contains.Goals as goal
 
 pub returns : goal.returns
 returns c =

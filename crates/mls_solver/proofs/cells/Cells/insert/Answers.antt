@@ -1,6 +1,6 @@
 use Rattle.std.proofs.Common.{◌≡◌, true, false}
-use Rattle.mls_biunify.proofs.CellSteps.{cells-inserts, cells-stay}
-use Rattle.mls_biunify.proofs.cells.Cells.insert.Goals as goal
+use Rattle.mls_solver.proofs.CellSteps.{cells-inserts, cells-stay}
+use Rattle.mls_solver.proofs.cells.Cells.insert.Goals as goal
 
 pub push-requires-clause-new : goal.push-requires-clause-new
 push-requires-clause-new c it =

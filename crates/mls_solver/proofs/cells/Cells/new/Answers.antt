@@ -1,8 +1,8 @@
 use Rattle.std.proofs.Common.{◌≡◌, ◌^◌, ◌≤◌, Bool, List, length, ap, sym, ◌∙◌, subst, arith}
 use Rattle.std.proofs.lemmas.List.{length-replicate}
-use Rattle.mls_biunify.specs.steps.Cells.{AreCells}
-use Rattle.mls_biunify.proofs.CellSteps.{cells-empty}
-use Rattle.mls_biunify.proofs.cells.Cells.new.Goals as goal
+use Rattle.mls_solver.specs.steps.Cells.{AreCells}
+use Rattle.mls_solver.proofs.CellSteps.{cells-empty}
+use Rattle.mls_solver.proofs.cells.Cells.new.Goals as goal
 
 pub invariant_of-result : goal.invariant_of-result
 invariant_of-result c =

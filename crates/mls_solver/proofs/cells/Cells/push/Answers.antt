@@ -1,8 +1,8 @@
 use Rattle.std.proofs.Common.{◌≡◌, ◌<◌, ◌+◌, ◌++◌, ◌∷◌, [], false, length, take, get_or, Contains, subst, sym}
 use Rattle.std.proofs.Math.ListN.{set}
-use Rattle.mls_biunify.specs.steps.Numbers.{Numbers}
-use Rattle.mls_biunify.proofs.CellSteps.{cells-room, cells-more, cells-members, cells-bound, cells-marked, cells-unmarked}
-use Rattle.mls_biunify.proofs.cells.Cells.push.Goals as goal
+use Rattle.mls_solver.specs.steps.Numbers.{Numbers}
+use Rattle.mls_solver.proofs.CellSteps.{cells-room, cells-more, cells-members, cells-bound, cells-marked, cells-unmarked}
+use Rattle.mls_solver.proofs.cells.Cells.push.Goals as goal
 
 pub index_mut-requires-2 : goal.index_mut-requires-2
 index_mut-requires-2 c =

@@ -1,6 +1,6 @@
 use Rattle.std.proofs.Common.{◌≡◌, rules}
-use Rattle.mls_biunify.proofs.Finding.{by_pairs}
-use Rattle.mls_biunify.proofs.found.Found.above.Goals as goal
+use Rattle.mls_solver.proofs.Finding.{by_pairs}
+use Rattle.mls_solver.proofs.found.Found.above.Goals as goal
 
 pub returns : goal.returns
 returns c =

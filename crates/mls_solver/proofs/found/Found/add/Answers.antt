@@ -1,10 +1,10 @@
 use Rattle.std.proofs.Common.{◌≡◌, ℕ, sym, subst, rules}
 use Rattle.std.specs.Prelude.{◌↔◌}
-use Rattle.mls_biunify.specs.Rooms.{Room, Holds}
-use Rattle.mls_biunify.specs.steps.Finding.{HasMember}
-use Rattle.mls_biunify.specs.steps.Growth.{Relates}
-use Rattle.mls_biunify.proofs.Finding.{index_more, on_ok}
-use Rattle.mls_biunify.proofs.found.Found.add.Goals as goal
+use Rattle.mls_solver.specs.Rooms.{Room, Holds}
+use Rattle.mls_solver.specs.steps.Finding.{HasMember}
+use Rattle.mls_solver.specs.steps.Growth.{Relates}
+use Rattle.mls_solver.proofs.Finding.{index_more, on_ok}
+use Rattle.mls_solver.proofs.found.Found.add.Goals as goal
 
 pub invariant_of-self : goal.invariant_of-self
 invariant_of-self c =

@@ -1,7 +1,7 @@
 use Rattle.std.proofs.Common.{◌≡◌, Contains, subst, rules}
 use Rattle.std.specs.Prelude.{◌↔◌}
-use Rattle.mls_biunify.specs.Rooms.{Room, Holds}
-use Rattle.mls_biunify.proofs.found.Found.below.Goals as goal
+use Rattle.mls_solver.specs.Rooms.{Room, Holds}
+use Rattle.mls_solver.proofs.found.Found.below.Goals as goal
 
 pub returns : goal.returns
 returns c =

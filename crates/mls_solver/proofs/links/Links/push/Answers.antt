@@ -1,9 +1,9 @@
 use Rattle.std.proofs.Common.{◌≡◌, ◌<◌, ◌+◌, ◌++◌, ◌∷◌, [], length, get_or, subst, sym, ◌∙◌}
 use Rattle.std.proofs.Math.ListN.{set}
 use Rattle.std.proofs.lemmas.List.{get_or_default}
-use Rattle.mls_biunify.specs.steps.Links.{LinkTable, AreLinked}
-use Rattle.mls_biunify.proofs.LinkSteps.{linked_more}
-use Rattle.mls_biunify.proofs.links.Links.push.Goals as goal
+use Rattle.mls_solver.specs.steps.Links.{LinkTable, AreLinked}
+use Rattle.mls_solver.proofs.LinkSteps.{linked_more}
+use Rattle.mls_solver.proofs.links.Links.push.Goals as goal
 
 pub returns-clause-linked : goal.returns-clause-linked
 returns-clause-linked c keys are =

@@ -1,11 +1,11 @@
 use Rattle.std.proofs.Common.{◌≡◌, Bool, true, false, ◌++◌, ◌∷◌, [], ℕ, List, refl, sym, ap, subst, Contains, rules}
 use Rattle.std.specs.Prelude.{◌↔◌}
-use Rattle.mls_biunify.specs.Rooms.{Room}
-use Rattle.mls_biunify.specs.steps.Finding.{HasMember}
-use Rattle.mls_biunify.specs.steps.Growth.{Relates}
-use Rattle.mls_biunify.specs.steps.PairParts.{pairs_view}
-use Rattle.mls_biunify.proofs.Finding.{by_pairs, held_already, pairs_more, pairs_same, relates_more}
-use Rattle.mls_biunify.proofs.pairs.Pairs.add.Goals as goal
+use Rattle.mls_solver.specs.Rooms.{Room}
+use Rattle.mls_solver.specs.steps.Finding.{HasMember}
+use Rattle.mls_solver.specs.steps.Growth.{Relates}
+use Rattle.mls_solver.specs.steps.PairParts.{pairs_view}
+use Rattle.mls_solver.proofs.Finding.{by_pairs, held_already, pairs_more, pairs_same, relates_more}
+use Rattle.mls_solver.proofs.pairs.Pairs.add.Goals as goal
 
 pub invariant_of-self : goal.invariant_of-self
 invariant_of-self c =

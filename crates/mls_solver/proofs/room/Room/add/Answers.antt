@@ -1,7 +1,7 @@
 use Rattle.std.proofs.Common.{◌≡◌, true, false, ◌+◌, ◌*◌, ◌^◌, ◌<◌, ◌≤◌, arith}
-use Rattle.mls_biunify.specs.steps.RoomParts.{tables_of}
-use Rattle.mls_biunify.proofs.RoomCalls.{add_fits, add_held, add_row_key, add_column_key, add_tables, add_relates, row_link_fits, column_link_fits}
-use Rattle.mls_biunify.proofs.room.Room.add.Goals as goal
+use Rattle.mls_solver.specs.steps.RoomParts.{tables_of}
+use Rattle.mls_solver.proofs.RoomCalls.{add_fits, add_held, add_row_key, add_column_key, add_tables, add_relates, row_link_fits, column_link_fits}
+use Rattle.mls_solver.proofs.room.Room.add.Goals as goal
 
 pub overflow_mul-cell : goal.overflow_mul-cell
 overflow_mul-cell c =

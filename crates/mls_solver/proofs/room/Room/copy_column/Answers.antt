@@ -1,9 +1,9 @@
 use Rattle.std.proofs.Common.{◌≡◌, ◌+◌, ◌-◌, ◌<◌, ◌≤◌, ℕ, Contains, refl, sym, ◌∙◌, subst, arith}
-use Rattle.mls_biunify.specs.Rooms.{Holds}
-use Rattle.mls_biunify.specs.steps.Growth.{Relates}
-use Rattle.mls_biunify.specs.steps.Links.{second}
-use Rattle.mls_biunify.proofs.Walks.{IsWalked, at_place, walk-first, place_there, place_same, walk-more, walk-all}
-use Rattle.mls_biunify.proofs.room.Room.copy_column.Goals as goal
+use Rattle.mls_solver.specs.Rooms.{Holds}
+use Rattle.mls_solver.specs.steps.Growth.{Relates}
+use Rattle.mls_solver.specs.steps.Links.{second}
+use Rattle.mls_solver.proofs.Walks.{IsWalked, at_place, walk-first, place_there, place_same, walk-more, walk-all}
+use Rattle.mls_solver.proofs.room.Room.copy_column.Goals as goal
 
 pub loop-at-init : goal.loop-at-init
 loop-at-init c = walk-first second (λ x p n. (p ≡ x.0) × (n ≡ c.args.to)) c.args.self.now c.args.from c.latest_of_negative-at.result c.latest_of_negative-at.ensures

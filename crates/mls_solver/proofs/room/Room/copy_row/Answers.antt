@@ -1,9 +1,9 @@
 use Rattle.std.proofs.Common.{◌≡◌, ◌+◌, ◌-◌, ◌<◌, ◌≤◌, ℕ, Contains, refl, sym, ◌∙◌, subst, arith}
-use Rattle.mls_biunify.specs.Rooms.{Holds}
-use Rattle.mls_biunify.specs.steps.Growth.{Relates}
-use Rattle.mls_biunify.specs.steps.Links.{first}
-use Rattle.mls_biunify.proofs.Walks.{IsWalked, at_place, walk-first, place_there, place_same, walk-more, walk-all}
-use Rattle.mls_biunify.proofs.room.Room.copy_row.Goals as goal
+use Rattle.mls_solver.specs.Rooms.{Holds}
+use Rattle.mls_solver.specs.steps.Growth.{Relates}
+use Rattle.mls_solver.specs.steps.Links.{first}
+use Rattle.mls_solver.proofs.Walks.{IsWalked, at_place, walk-first, place_there, place_same, walk-more, walk-all}
+use Rattle.mls_solver.proofs.room.Room.copy_row.Goals as goal
 
 pub loop-at-init : goal.loop-at-init
 loop-at-init c = walk-first first (λ x p n. (p ≡ c.args.to) × (n ≡ x.1)) c.args.self.now c.args.from c.latest_of_positive-at.result c.latest_of_positive-at.ensures

@@ -1,7 +1,7 @@
 use Rattle.std.proofs.Common.{◌≡◌}
-use Rattle.mls_biunify.specs.steps.Links.{first}
-use Rattle.mls_biunify.proofs.Walks.{IsWalked}
-use Rattle.mls_biunify.proofs.room.Room.copy_row.Given as goal
+use Rattle.mls_solver.specs.steps.Links.{first}
+use Rattle.mls_solver.proofs.Walks.{IsWalked}
+use Rattle.mls_solver.proofs.room.Room.copy_row.Given as goal
 
 abbrev pub invariant-loop-at : goal.invariant-loop-at
 invariant-loop-at l = IsWalked first (λ x p n. (p ≡ l.to) × (n ≡ x.1)) l.initial.self l.self l.from l.at

@@ -1,6 +1,6 @@
-use Rattle.mls_biunify.specs.steps.RoomParts.{tables_of}
-use Rattle.mls_biunify.proofs.RoomCalls.{held_at, held_row, held_column}
-use Rattle.mls_biunify.proofs.room.Room.holds.Goals as goal
+use Rattle.mls_solver.specs.steps.RoomParts.{tables_of}
+use Rattle.mls_solver.proofs.RoomCalls.{held_at, held_row, held_column}
+use Rattle.mls_solver.proofs.room.Room.holds.Goals as goal
 
 pub returns-in-None : goal.returns-in-None
 returns-in-None c = (

@@ -1,6 +1,6 @@
-use Rattle.mls_biunify.specs.steps.RoomParts.{tables_of}
-use Rattle.mls_biunify.proofs.LinkedRooms.{no_latest_row, latest_at_row, found_row_link}
-use Rattle.mls_biunify.proofs.room.Room.latest_of_positive.Goals as goal
+use Rattle.mls_solver.specs.steps.RoomParts.{tables_of}
+use Rattle.mls_solver.proofs.LinkedRooms.{no_latest_row, latest_at_row, found_row_link}
+use Rattle.mls_solver.proofs.room.Room.latest_of_positive.Goals as goal
 
 pub returns-in-None : goal.returns-in-None
 returns-in-None c = no_latest_row (tables_of c.self.inside) c.self.invariant c.args.self.now c.self.view_is c.args.p.0 c.in-None.ensures

@@ -1,10 +1,10 @@
 use Rattle.std.proofs.Common.{◌≡◌, ◌+◌, ◌-◌, ◌<◌, ◌≤◌, ℕ, Contains, length, refl, sym, subst, arith}
 use Rattle.std.proofs.lemmas.List.{get_or_default}
-use Rattle.mls_biunify.specs.Rooms.{Holds}
-use Rattle.mls_biunify.specs.steps.Numbers.{Inserts}
-use Rattle.mls_biunify.specs.steps.Links.{first, second}
-use Rattle.mls_biunify.proofs.Walks.{IsMarkWalk, at_place, mark_low, marks-first, marks-more, marks-all}
-use Rattle.mls_biunify.proofs.room.Room.mark_above.Goals as goal
+use Rattle.mls_solver.specs.Rooms.{Holds}
+use Rattle.mls_solver.specs.steps.Numbers.{Inserts}
+use Rattle.mls_solver.specs.steps.Links.{first, second}
+use Rattle.mls_solver.proofs.Walks.{IsMarkWalk, at_place, mark_low, marks-first, marks-more, marks-all}
+use Rattle.mls_solver.proofs.room.Room.mark_above.Goals as goal
 
 pub loop-at-init : goal.loop-at-init
 loop-at-init c = marks-first second first c.args.self.now c.args.n.0 c.args.marks.now c.latest_of_negative-at.result c.latest_of_negative-at.ensures

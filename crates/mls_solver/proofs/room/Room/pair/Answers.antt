@@ -1,8 +1,8 @@
 use Rattle.std.proofs.Common.{◌≡◌, ℕ, ◌<◌, ◌/◌, ◌%◌, List, length, get_or, subst, sym, ◌∙◌}
 use Rattle.std.proofs.lemmas.List.{get_or_default}
-use Rattle.mls_biunify.specs.steps.RoomParts.{tables_of}
-use Rattle.mls_biunify.proofs.RoomCalls.{pair_width, pair_row, pair_column, pair_read, pair_held_row, pair_held_column}
-use Rattle.mls_biunify.proofs.room.Room.pair.Goals as goal
+use Rattle.mls_solver.specs.steps.RoomParts.{tables_of}
+use Rattle.mls_solver.proofs.RoomCalls.{pair_width, pair_row, pair_column, pair_read, pair_held_row, pair_held_column}
+use Rattle.mls_solver.proofs.room.Room.pair.Goals as goal
 
 pub nonzero_div-cell : goal.nonzero_div-cell
 nonzero_div-cell c = pair_width (tables_of c.self.inside) c.self.invariant c.args.self.now c.self.view_is c.args.i c.get-cell.result c.requires c.get-cell.ensures
