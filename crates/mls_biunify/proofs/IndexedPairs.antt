@@ -6,9 +6,9 @@ use Rattle.std.proofs.lemmas.List.Elements.{Contains-append_left, Contains-push,
 use Rattle.mls_automaton.proofs.Lists.{Contains-here, Contains-cases}
 use Rattle.mls_solver.specs.Rooms.{Room, Holds}
 use Rattle.mls_solver.specs.steps.Growth.{BySome, Relates}
+use Rattle.mls_solver.proofs.Relating.{taken-cases, Relates-same}
 use Rattle.mls_biunify.specs.steps.Relating.{IsIndexOf}
 use Rattle.mls_biunify.specs.steps.TwoWay.{TwoWay, HasPair, IsTwoWay, AddsPair, IsCleared}
-use Rattle.mls_solver.proofs.Relating.{taken-cases, Relates-same}
 
 -- a relation, seen as a room
 abbrev pub room_with : List (ℕ × ℕ) → TwoWay → Room

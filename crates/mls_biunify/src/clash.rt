@@ -3,8 +3,8 @@ ghost use Rattle.std.specs.Prelude.{◌≡◌, ◌<◌, true, false, get_or, len
 ghost use Rattle.std.specs.Prelude.{OnOk, IfErr};
 ghost use Rattle.mls_solver.specs.Clashes.{HasNoClash, IsFirstClash};
 ghost use Rattle.mls_solver.specs.Rooms.{Holds};
-ghost use Rattle.mls_biunify.specs.steps.Tables.{HoldsThere};
 ghost use Rattle.mls_solver.specs.steps.FirstClashes.{IsFirstOf, IsEarlier, IsPairAt};
+ghost use Rattle.mls_biunify.specs.steps.Tables.{HoldsThere};
 
 use crate::relation::Relation;
 use crate::table::Table;

@@ -11,8 +11,8 @@ ghost use Rattle.mls_automaton.specs.Schemes.{IsScheme};
 ghost use Rattle.mls_automaton.specs.Sets.{Rises};
 ghost use Rattle.mls_automaton.specs.steps.Keeping.{renamed_entry};
 ghost use Rattle.mls_automaton.specs.steps.Numbers.{KeepsOrderInHead};
-ghost use Rattle.mls_biunify.specs.Live.{IsStateIn};
 ghost use Rattle.mls_solver.specs.Solutions.{scheme_over};
+ghost use Rattle.mls_biunify.specs.Live.{IsStateIn};
 ghost use Rattle.mls_biunify.specs.steps.Placing.{HasPlaces, IsFlowTo, IsPlacedFlow, MayPlace, PlacesFlows};
 ghost use Rattle.mls_biunify.specs.steps.Renaming.{place_among};
 

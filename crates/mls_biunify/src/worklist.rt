@@ -3,12 +3,12 @@ ghost use Rattle.std.specs.Prelude.{◌≡◌, ℕ, ◌<◌, ◌≤◌, [], true
 ghost use Rattle.mls_automaton.specs.declared.automaton.Polarity.TheVariants.{Positive, Negative};
 ghost use Rattle.mls_automaton.specs.Automata.{HasFlow, head_at};
 ghost use Rattle.mls_solver.specs.declared.goal.Goal.{Goal};
-ghost use Rattle.mls_biunify.specs.Live.{IsStateIn};
 ghost use Rattle.mls_solver.specs.Relations.{IsGoal, IsRelated};
 ghost use Rattle.mls_solver.specs.Rooms.{Holds, HoldsJust};
 ghost use Rattle.mls_solver.specs.steps.Growth.{BySome, Relates};
 ghost use Rattle.mls_solver.specs.steps.Consequences.{ByFunctions, ByField, ByRecords, ByHeads, Follows};
 ghost use Rattle.mls_solver.specs.steps.Consequences.{HasConsequences};
+ghost use Rattle.mls_biunify.specs.Live.{IsStateIn};
 ghost use Rattle.mls_biunify.specs.steps.Tables.{HoldsThere};
 
 use crate::relation::Relation;

@@ -16,8 +16,8 @@ use crate::tree::NodeIds;
 use mls_automaton::automaton::{Automaton, Polarity};
 use mls_automaton::state_set::StateId;
 use mls_base::memory::Memory;
-use mls_solver::found::Found;
 use mls_book::book::NodeId;
+use mls_solver::found::Found;
 use std::alloc::Global;
 
 /// Adds nodes to a list.
