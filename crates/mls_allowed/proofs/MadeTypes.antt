@@ -15,7 +15,7 @@ use Rattle.mls_book.proofs.LongerBooks.{below_or_more}
 use Rattle.mls_automaton.specs.declared.scheme.Scheme.{Scheme}
 use Rattle.mls_automaton.specs.Schemes.{state_of}
 use Rattle.mls_automaton.proofs.Reaching.{entry-found}
-use Rattle.mls_biunify.specs.Relations.{IsGoal}
+use Rattle.mls_solver.specs.Relations.{IsGoal}
 use Rattle.mls_term.specs.declared.term.TermForm.{TermForm}
 use Rattle.mls_term.specs.declared.term.TermForm.TheVariants as form
 use Rattle.mls_term.specs.declared.term.TermNode.{TermNode}

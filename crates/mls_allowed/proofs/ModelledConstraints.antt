@@ -10,12 +10,12 @@ use Rattle.mls_automaton.specs.Automata.{Automaton}
 use Rattle.mls_automaton.specs.Models.{IsClosed}
 use Rattle.mls_automaton.specs.Schemes.{state_of, IsScheme, IsSchemeOf}
 use Rattle.mls_automaton.proofs.Instances.{HasModel, AreGoals}
-use Rattle.mls_biunify.specs.Clashes.{HasNoClash}
-use Rattle.mls_biunify.specs.Relations.{IsRelated}
-use Rattle.mls_biunify.specs.Solved.{IsSolved}
-use Rattle.mls_biunify.proofs.Clashing.{clash-fails}
-use Rattle.mls_biunify.proofs.Following.{related_states, related-below}
-use Rattle.mls_biunify.proofs.SolvedInstances.{over, over_solved, to_solved}
+use Rattle.mls_solver.specs.Clashes.{HasNoClash}
+use Rattle.mls_solver.specs.Relations.{IsRelated}
+use Rattle.mls_solver.specs.Solved.{IsSolved}
+use Rattle.mls_solver.proofs.Clashing.{clash-fails}
+use Rattle.mls_solver.proofs.Following.{related_states, related-below}
+use Rattle.mls_solver.proofs.SolvedInstances.{over, over_solved, to_solved}
 use Rattle.mls_term.specs.Terms.{TermTree}
 use Rattle.mls_term.specs.Derivations.{Known}
 use Rattle.mls_typing.specs.Typed.{Types, IsTyped}

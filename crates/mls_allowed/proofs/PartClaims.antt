@@ -16,10 +16,10 @@ use Rattle.mls_automaton.specs.Automata.{Automaton, polarity_at, head_at, flow, 
 use Rattle.mls_automaton.specs.Heads.{parts_of, set_at, combined}
 use Rattle.mls_automaton.specs.Models.{IsClosed}
 use Rattle.mls_automaton.proofs.Instances.{AreGoals}
-use Rattle.mls_biunify.specs.Relations.{IsRelated, along}
-use Rattle.mls_biunify.specs.Clashes.{HasNoClash}
-use Rattle.mls_biunify.specs.Solved.{ReachesBy, IsSolved}
-use Rattle.mls_biunify.proofs.Following.{in_domain-state, in_codomain-state, in_field-state, related_states}
+use Rattle.mls_solver.specs.Relations.{IsRelated, along}
+use Rattle.mls_solver.specs.Clashes.{HasNoClash}
+use Rattle.mls_solver.specs.Solved.{ReachesBy, IsSolved}
+use Rattle.mls_solver.proofs.Following.{in_domain-state, in_codomain-state, in_field-state, related_states}
 use Rattle.mls_flow.specs.Simulations.{IsHeadWithin}
 use Rattle.mls_flow.specs.Admissible.{IsAdmissible, IsMatched}
 use Rattle.mls_flow.proofs.Admissibles.{matched_more_in, admissible_flows}

@@ -20,9 +20,9 @@ use Rattle.mls_automaton.specs.Heads.{parts_of, set_at}
 use Rattle.mls_automaton.specs.Models.{IsClosed}
 use Rattle.mls_automaton.proofs.Instances.{AreGoals}
 use Rattle.mls_automaton.proofs.Lists.{Contains-here}
-use Rattle.mls_biunify.specs.Relations.{IsRelated, goal}
-use Rattle.mls_biunify.specs.Clashes.{HasNoClash}
-use Rattle.mls_biunify.specs.Solved.{IsSolved}
+use Rattle.mls_solver.specs.Relations.{IsRelated, goal}
+use Rattle.mls_solver.specs.Clashes.{HasNoClash}
+use Rattle.mls_solver.specs.Solved.{IsSolved}
 use Rattle.mls_subsume.specs.declared.verdict.StatePair.{StatePair}
 use Rattle.mls_subsume.specs.Walks.{IsIn, IsWalk}
 use Rattle.mls_term.specs.declared.term.Part.{Part}

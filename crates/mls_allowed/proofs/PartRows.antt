@@ -16,10 +16,10 @@ use Rattle.mls_automaton.specs.Heads.{parts_of}
 use Rattle.mls_automaton.specs.Models.{IsClosed}
 use Rattle.mls_automaton.proofs.Instances.{AreGoals}
 use Rattle.mls_automaton.specs.declared.automaton.HeadKind.TheVariants as kind
-use Rattle.mls_biunify.specs.Relations.{IsRelated}
-use Rattle.mls_biunify.specs.Clashes.{HasNoClash}
-use Rattle.mls_biunify.specs.Solved.{IsSolved}
-use Rattle.mls_biunify.proofs.Following.{related_states}
+use Rattle.mls_solver.specs.Relations.{IsRelated}
+use Rattle.mls_solver.specs.Clashes.{HasNoClash}
+use Rattle.mls_solver.specs.Solved.{IsSolved}
+use Rattle.mls_solver.proofs.Following.{related_states}
 use Rattle.mls_subsume.specs.declared.verdict.StatePair.{StatePair}
 use Rattle.mls_subsume.specs.Walks.{IsIn, IsWalk}
 use Rattle.mls_term.specs.declared.term.TermForm.TheVariants as form

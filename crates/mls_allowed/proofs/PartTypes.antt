@@ -21,9 +21,9 @@ use Rattle.mls_automaton.specs.Automata.{Automaton, IsState}
 use Rattle.mls_automaton.specs.Models.{IsClosed}
 use Rattle.mls_automaton.specs.Schemes.{state_of, IsScheme, IsSchemeOf}
 use Rattle.mls_automaton.proofs.Instances.{HasModel, AreGoals}
-use Rattle.mls_biunify.specs.Clashes.{HasNoClash}
-use Rattle.mls_biunify.specs.Relations.{IsGoal, IsRelated}
-use Rattle.mls_biunify.specs.Solved.{IsSolved}
+use Rattle.mls_solver.specs.Clashes.{HasNoClash}
+use Rattle.mls_solver.specs.Relations.{IsGoal, IsRelated}
+use Rattle.mls_solver.specs.Solved.{IsSolved}
 use Rattle.mls_term.specs.declared.term.TermNode.{TermNode}
 use Rattle.mls_term.specs.Terms.{TermTree, before}
 use Rattle.mls_term.specs.Derivations.{Known}

@@ -13,8 +13,8 @@ use Rattle.mls_book.specs.Schemes as book
 use Rattle.mls_book.specs.Schemes.{Subsumes}
 use Rattle.mls_automaton.specs.declared.scheme.Scheme.{Scheme}
 use Rattle.mls_automaton.specs.Schemes.{state_of}
-use Rattle.mls_biunify.specs.Clashes.{HasNoClash}
-use Rattle.mls_biunify.specs.Relations.{IsGoal, IsRelated}
+use Rattle.mls_solver.specs.Clashes.{HasNoClash}
+use Rattle.mls_solver.specs.Relations.{IsGoal, IsRelated}
 use Rattle.mls_subsume.specs.declared.verdict.StatePair.{StatePair}
 use Rattle.mls_subsume.specs.Verdicts.{DoesSubsume}
 use Rattle.mls_term.specs.declared.term.TermForm.TheVariants as form

@@ -20,11 +20,11 @@ use Rattle.mls_automaton.specs.Models.{IsClosed, IsDeterministic}
 use Rattle.mls_automaton.specs.Schemes.{state_of, IsScheme}
 use Rattle.mls_automaton.specs.Sets.{Rises}
 use Rattle.mls_automaton.proofs.Lists.{Contains-map, Contains-map_back}
-use Rattle.mls_biunify.specs.declared.goal.Goal.{Goal}
-use Rattle.mls_biunify.specs.Clashes.{HasNoClash}
-use Rattle.mls_biunify.specs.Relations.{IsGoal, IsRelated, goal}
-use Rattle.mls_biunify.specs.Solved.{IsNewFlow, IsSolved, ReachesBy}
-use Rattle.mls_biunify.proofs.Taking.{related-through}
+use Rattle.mls_solver.specs.declared.goal.Goal.{Goal}
+use Rattle.mls_solver.specs.Clashes.{HasNoClash}
+use Rattle.mls_solver.specs.Relations.{IsGoal, IsRelated, goal}
+use Rattle.mls_solver.specs.Solved.{IsNewFlow, IsSolved, ReachesBy}
+use Rattle.mls_solver.proofs.Taking.{related-through}
 use Rattle.mls_subsume.specs.declared.verdict.StatePair.{StatePair}
 use Rattle.mls_subsume.specs.Verdicts.{DoesSubsume}
 use Rattle.mls_subsume.specs.Walks.{IsIn}

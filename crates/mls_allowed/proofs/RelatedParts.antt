@@ -12,12 +12,12 @@ use Rattle.mls_automaton.specs.Automata.{Automaton, head_at}
 use Rattle.mls_automaton.specs.Heads.{parts_of, set_at}
 use Rattle.mls_automaton.specs.declared.automaton.HeadKind.{HeadKind}
 use Rattle.mls_automaton.specs.declared.automaton.HeadKind.TheVariants as kind
-use Rattle.mls_biunify.specs.declared.goal.ClashKind.TheVariants.{Unlike, Lacks}
-use Rattle.mls_biunify.specs.Relations.{IsRelated, domain, codomain, field}
+use Rattle.mls_solver.specs.declared.goal.ClashKind.TheVariants.{Unlike, Lacks}
+use Rattle.mls_solver.specs.Relations.{IsRelated, domain, codomain, field}
 use Rattle.mls_automaton.specs.Automata.{has_kind}
-use Rattle.mls_biunify.specs.Clashes.{LacksField, HasNoClash}
-use Rattle.mls_biunify.proofs.PartKinds.{same_kind-is}
-use Rattle.mls_biunify.proofs.RelatedHeads.{set_at-field}
+use Rattle.mls_solver.specs.Clashes.{LacksField, HasNoClash}
+use Rattle.mls_solver.proofs.PartKinds.{same_kind-is}
+use Rattle.mls_solver.proofs.RelatedHeads.{set_at-field}
 use Rattle.mls_deriv.specs.declared.derivation.Mode.{Mode}
 use Rattle.mls_deriv.specs.Pairs.{exchanged}
 use Rattle.mls_deriv.specs.declared.claim.Put.{Put}

@@ -34,8 +34,8 @@ use Rattle.mls_automaton.proofs.Instances.{HasModel, binder_of, model-of_subsume
 use Rattle.mls_automaton.proofs.CombinedStates.{found_at}
 use Rattle.mls_automaton.proofs.Lists.{Contains-here, Contains-map, found_any}
 use Rattle.mls_automaton.proofs.Signs.{all_upper, inside-trans}
-use Rattle.mls_biunify.proofs.RelatedHeads.{set_at-field}
-use Rattle.mls_biunify.proofs.Taking.{slice_get-contains}
+use Rattle.mls_solver.proofs.RelatedHeads.{set_at-field}
+use Rattle.mls_solver.proofs.Taking.{slice_get-contains}
 use Rattle.mls_flow.specs.Admissible.{IsAdmissible}
 use Rattle.mls_flow.specs.Simulations.{IsFieldWithin, IsFunctionWithin, IsHeadWithin, IsRecordWithin, IsSetWithin}
 use Rattle.mls_flow.specs.Separated.{IsSeparated}

@@ -9,7 +9,7 @@ use Rattle.mls_automaton.specs.declared.scheme.Scheme.{Scheme}
 use Rattle.mls_automaton.specs.Automata.{polarity_at, head_at, flow, HasFlow, IsState}
 use Rattle.mls_automaton.specs.Heads.{parts_of, combined, IsSameParts}
 use Rattle.mls_automaton.proofs.Lists.{Contains-here}
-use Rattle.mls_biunify.specs.Solved.{ReachesBy, IsSolved}
+use Rattle.mls_solver.specs.Solved.{ReachesBy, IsSolved}
 use Rattle.mls_flow.specs.Simulations.{IsHeadWithin}
 use Rattle.mls_flow.specs.Admissible.{IsFlowRelation, Holds, IsAdmissible}
 use Rattle.mls_subsume.specs.Walks.{IsWalk}

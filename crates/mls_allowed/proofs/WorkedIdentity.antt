@@ -18,7 +18,7 @@ use Rattle.mls_automaton.specs.Automata.{Automaton, empty_head, polarity_at, hea
 use Rattle.mls_automaton.specs.Heads.{parts_of}
 use Rattle.mls_automaton.proofs.Lists.{Contains-here, Contains-later, Contains-cases}
 use Rattle.mls_term.specs.Terms.{bound, fun, before, postorder}
-use Rattle.mls_biunify.specs.Relations.{IsRelated, goal, domain, codomain, field, along}
+use Rattle.mls_solver.specs.Relations.{IsRelated, goal, domain, codomain, field, along}
 use Rattle.mls_deriv.specs.Pairs.{put_at}
 use Rattle.mls_subsume.specs.declared.verdict.StatePair.{StatePair}
 use Rattle.mls_subsume.specs.Walks.{pair, IsIn}

@@ -18,7 +18,7 @@ use Rattle.mls_automaton.specs.declared.scheme.Scheme as type_scheme
 use Rattle.mls_automaton.specs.Automata.{Automaton, polarity_at, head_at, flow, HasFlow}
 use Rattle.mls_automaton.specs.Heads.{parts_of, set_at}
 use Rattle.mls_automaton.proofs.Lists.{Contains-here, Contains-later}
-use Rattle.mls_biunify.specs.Relations.{goal}
+use Rattle.mls_solver.specs.Relations.{goal}
 use Rattle.mls_subsume.specs.declared.verdict.StatePair.{StatePair}
 use Rattle.mls_subsume.specs.Walks.{IsIn}
 use Rattle.mls_term.specs.declared.term.Part.{Part}

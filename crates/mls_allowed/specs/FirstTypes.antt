@@ -10,8 +10,8 @@ use Rattle.mls_automaton.specs.Automata.{Automaton}
 use Rattle.mls_automaton.specs.Environments.{BindersRise}
 use Rattle.mls_automaton.specs.Models.{IsClosed, IsDeterministic}
 use Rattle.mls_automaton.specs.Schemes.{IsScheme, IsSchemeOf}
-use Rattle.mls_biunify.specs.Relations.{IsGoal, IsRelated}
-use Rattle.mls_biunify.specs.Solved.{IsSolved}
+use Rattle.mls_solver.specs.Relations.{IsGoal, IsRelated}
+use Rattle.mls_solver.specs.Solved.{IsSolved}
 use Rattle.mls_term.specs.declared.term.TermNode.{TermNode}
 use Rattle.mls_subsume.specs.Verdicts.{DoesSubsume}
 use Rattle.mls_term.specs.declared.term.TermForm.TheVariants as form

@@ -10,7 +10,7 @@ use Rattle.mls_book.specs.Schemes.{Env}
 use Rattle.mls_automaton.specs.declared.automaton.Polarity.TheVariants.{Negative}
 use Rattle.mls_automaton.specs.declared.scheme.Scheme.{Scheme}
 use Rattle.mls_automaton.specs.Automata.{polarity_at}
-use Rattle.mls_biunify.specs.declared.goal.Goal.{Goal}
+use Rattle.mls_solver.specs.declared.goal.Goal.{Goal}
 use Rattle.mls_subsume.specs.declared.verdict.StatePair.{StatePair}
 use Rattle.mls_subsume.specs.Walks.{IsIn}
 use Rattle.mls_term.specs.declared.term.TermForm.{TermForm}

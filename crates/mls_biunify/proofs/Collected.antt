@@ -1,8 +1,8 @@
 -- What is collected from the elements of a list, one after another.
 use Rattle.std.proofs.Common.{◌≡◌, ◌↔◌, ◌⊎◌, inl, inr, ℕ, ◌+◌, ◌<◌, ◌≤◌, List, [], ◌∷◌, ◌++◌, take, length, get_or, Contains, refl, sym, subst, arith}
 use Rattle.std.proofs.lemmas.List.Elements.{Contains-append_left, Contains-push, Contains-push_cases}
+use Rattle.mls_solver.proofs.Relating.{taken-before, taken-last, taken-cases, take-all}
 use Rattle.mls_biunify.specs.steps.Settlement.{GivenBy}
-use Rattle.mls_biunify.proofs.Relating.{taken-before, taken-last, taken-cases, take-all}
 
 module _ {X Y : Type 0} (By : X → Y → Type 0) (Old : Y → Type 0) where
   abbrev pub Collected : (Y → Type 0) → List X → Type 0

@@ -14,8 +14,8 @@ use Rattle.mls_automaton.proofs.Reaching.{found-entry}
 use Rattle.mls_automaton.specs.Schemes.{IsScheme, state_of}
 use Rattle.mls_automaton.proofs.IndexedFlows.{state_at-more}
 use Rattle.mls_automaton.proofs.Passing.{states_more}
+use Rattle.mls_solver.specs.Solutions.{scheme_over}
 use Rattle.mls_biunify.specs.Live.{IsStateIn}
-use Rattle.mls_biunify.specs.Solutions.{scheme_over}
 use Rattle.mls_biunify.specs.steps.Copying.{AreCopiedStates, CopiesFlows, HasStatesOf, IsCopy}
 use Rattle.mls_biunify.specs.steps.Tables.{IsNumbered, Numbered}
 use Rattle.mls_biunify.proofs.Collected.{Collected}

@@ -4,8 +4,8 @@ use Rattle.std.proofs.lemmas.Bool.{cases_eq}
 use Rattle.std.proofs.lemmas.List.{get_or-set_same, get_or-set_other, length-set}
 use Rattle.std.proofs.lemmas.List.Elements.{All-contains, Contains-append_left, Contains-get_or, Contains-push}
 use Rattle.mls_automaton.proofs.Lists.{Contains-here, Contains-later, Contains-cases}
+use Rattle.mls_solver.proofs.Relating.{taken-before, taken-last, taken-cases}
 use Rattle.mls_biunify.specs.steps.TwoWay.{AreCuts, EmptiesSets, HasPair, IsCleared, IsTwoWay, LeavesPairs, StoresSets, TwoWay}
-use Rattle.mls_biunify.proofs.Relating.{taken-before, taken-last, taken-cases}
 
 -- the sets behind those that are left are stored
 pub record AreStoring (old : List (List ℕ)) (changes left : List (ℕ × List ℕ)) (now : List (List ℕ)) : Type 0 where

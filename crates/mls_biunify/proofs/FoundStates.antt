@@ -17,10 +17,10 @@ use Rattle.mls_automaton.specs.Reached.{InAnyField}
 use Rattle.mls_automaton.specs.steps.Searching.{Found, Grows, IsBelow}
 use Rattle.mls_automaton.proofs.Lists.{Contains-cases, Contains-here, Contains-later}
 use Rattle.mls_automaton.proofs.Searches.{grows-both, grows-nothing, grows-one, grows-same, next-cases, next-last, next-more}
+use Rattle.mls_solver.specs.steps.Among.{is_among}
+use Rattle.mls_solver.proofs.Settling.{inserted}
 use Rattle.mls_biunify.specs.declared.reach.Search.{Search}
-use Rattle.mls_biunify.specs.steps.Among.{is_among}
 use Rattle.mls_biunify.specs.steps.Keeping.{Finds, found_of, InRoots, WasFound, marks_below}
-use Rattle.mls_biunify.proofs.Settling.{inserted}
 
 pub among-contains : (xs : List ℕ) (x : ℕ) → is_among xs x ≡ true → Contains xs x
 among-contains [] x it = let wrong : false ≡ true = it in absurd (cc)

@@ -4,11 +4,11 @@ use Rattle.std.proofs.lemmas.Bool.{cases_eq}
 use Rattle.std.proofs.lemmas.List.{get_or-set_same, get_or-set_other, length-set, append-nil}
 use Rattle.std.proofs.lemmas.List.Elements.{Contains-append_left, Contains-push, Contains-push_cases}
 use Rattle.mls_automaton.proofs.Lists.{Contains-here, Contains-cases}
-use Rattle.mls_biunify.specs.Rooms.{Room, Holds}
-use Rattle.mls_biunify.specs.steps.Growth.{BySome, Relates}
+use Rattle.mls_solver.specs.Rooms.{Room, Holds}
+use Rattle.mls_solver.specs.steps.Growth.{BySome, Relates}
+use Rattle.mls_solver.proofs.Relating.{taken-cases, Relates-same}
 use Rattle.mls_biunify.specs.steps.Relating.{IsIndexOf}
 use Rattle.mls_biunify.specs.steps.TwoWay.{TwoWay, HasPair, IsTwoWay, AddsPair, IsCleared}
-use Rattle.mls_biunify.proofs.Relating.{taken-cases, Relates-same}
 
 -- a relation, seen as a room
 abbrev pub room_with : List (ℕ × ℕ) → TwoWay → Room

@@ -8,16 +8,16 @@ use Rattle.mls_automaton.specs.declared.state_set.StateId.{StateId}
 use Rattle.mls_automaton.specs.Automata.{HasFlow, empty_head, flow, head_at, state_at}
 use Rattle.mls_automaton.specs.Reached.{HeadNames, Names}
 use Rattle.mls_automaton.proofs.Lists.{All-contained, Contains-cases, Contains-here, Contains-map, Contains-map_back}
+use Rattle.mls_solver.specs.steps.Numbers.{ByOne}
+use Rattle.mls_solver.proofs.Relating.{taken-before, taken-last, taken-cases}
 use Rattle.mls_biunify.specs.Live.{IsReachedFrom, numbers_in, named as by-name, root as by-root}
 use Rattle.mls_biunify.specs.steps.Absorbing.{AreLoose, RemovesStates}
 use Rattle.mls_biunify.specs.steps.Keeping.{AddsCut, AreShortened, EmptiesHeads, InRoots, IsUnfound, KeepsStates, StaysAmong, WasFound}
-use Rattle.mls_biunify.specs.steps.Numbers.{ByOne}
 use Rattle.mls_biunify.specs.steps.Tables.{CutsEdges, IsNumbered, Numbered, SetsHead}
 use Rattle.mls_biunify.specs.steps.TwoWay.{AreCuts}
 use Rattle.mls_biunify.proofs.Claiming.{names-there}
 use Rattle.mls_biunify.proofs.Filling.{same-states}
 use Rattle.mls_biunify.proofs.FoundStates.{among-or_not}
-use Rattle.mls_biunify.proofs.Relating.{taken-before, taken-last, taken-cases}
 use Rattle.mls_biunify.proofs.Removals.{empty-names_none, free-names_none}
 use Rattle.mls_biunify.proofs.TableSteps.{there-or_not}
 use Rattle.mls_biunify.proofs.Walking.{AreThere, reached-there}

@@ -6,18 +6,19 @@ use Rattle.mls_automaton.specs.declared.automaton.Polarity.TheVariants.{Positive
 use Rattle.mls_automaton.specs.declared.automaton.State.{State}
 use Rattle.mls_automaton.specs.Automata.{Automaton, HasFlow, IsState, flow}
 use Rattle.mls_automaton.specs.Sets.{Rises}
-use Rattle.mls_biunify.specs.declared.goal.Goal.{Goal}
-use Rattle.mls_biunify.specs.declared.goal.Clash.{Clash}
-use Rattle.mls_biunify.specs.declared.goal.Refusal.{Refusal}
-use Rattle.mls_biunify.specs.declared.goal.Refusal.TheVariants.{Clashing}
+use Rattle.mls_solver.specs.declared.goal.Goal.{Goal}
+use Rattle.mls_solver.specs.declared.goal.Clash.{Clash}
+use Rattle.mls_solver.specs.declared.goal.Refusal.{Refusal}
+use Rattle.mls_solver.specs.declared.goal.Refusal.TheVariants.{Clashing}
+use Rattle.mls_solver.specs.Relations.{IsGoal, IsGoalOf, IsRelated}
+use Rattle.mls_solver.specs.Clashes.{HasNoClash, IsFirstClash}
+use Rattle.mls_solver.specs.Rooms.{Room, Holds, HoldsJust}
+use Rattle.mls_solver.specs.Solutions.{HasInstancesUnder}
+use Rattle.mls_solver.specs.Solved.{IsSolved}
+use Rattle.mls_solver.proofs.SolvedRooms.{instances-under}
 use Rattle.mls_automaton.specs.Models.{IsClosed}
 use Rattle.mls_automaton.proofs.Lists.{All-contained}
 use Rattle.mls_biunify.specs.Live.{AddsStates, AreRelated, free_state, number_of, pairs_of, room_of_pairs, HasRelation, Inserts, IsCopyAt, IsRefusalOf, IsSameLive, IsSolvedFor, IsStateIn, IsTable, KeepsThere, Live}
-use Rattle.mls_biunify.specs.Relations.{IsGoal, IsGoalOf, IsRelated}
-use Rattle.mls_biunify.specs.Clashes.{HasNoClash, IsFirstClash}
-use Rattle.mls_biunify.specs.Rooms.{Room, Holds, HoldsJust}
-use Rattle.mls_biunify.specs.Solutions.{HasInstancesUnder}
-use Rattle.mls_biunify.specs.Solved.{IsSolved}
 use Rattle.mls_biunify.specs.steps.Absorbing.{AddsCopy, IsSameTable}
 use Rattle.mls_biunify.specs.steps.Keeping.{KeepsStates}
 use Rattle.mls_biunify.specs.steps.Settlement.{AddsEdges, AreNewEdges, IsTouched}
@@ -25,7 +26,6 @@ use Rattle.mls_biunify.specs.steps.LiveParts.{live_of}
 use Rattle.mls_biunify.specs.steps.Tables.{HoldsThere, InsertsState, IsNumbered, Numbered}
 use Rattle.mls_biunify.proofs.Claiming.{rising-same}
 use Rattle.mls_biunify.proofs.Filling.{number-in}
-use Rattle.mls_biunify.proofs.SolvedRooms.{instances-under}
 use Rattle.mls_biunify.proofs.TableSteps.{table-closed}
 use Rattle.mls_biunify.proofs.RelatedThere.{goal_states, related_there}
 

@@ -25,8 +25,8 @@ use Rattle.mls_automaton.specs.steps.Searching.{AreReached, InEntries}
 use Rattle.mls_automaton.proofs.KeptSchemes.{is-kept, kept-scheme, kept-states, keeps-reached}
 use Rattle.mls_automaton.proofs.Lists.{All-contained, Contains-cases, Contains-here, Contains-later, Contains-map, Contains-map_back}
 use Rattle.mls_automaton.proofs.RisingSets.{contains-place, divided-absent, found-divides, found-there, place-contains, rises-order}
+use Rattle.mls_solver.specs.Solutions.{scheme_over}
 use Rattle.mls_biunify.specs.Live.{IsReachedFrom, IsStateIn}
-use Rattle.mls_biunify.specs.Solutions.{scheme_over}
 use Rattle.mls_biunify.specs.steps.Keeping.{InRoots, marks_below}
 use Rattle.mls_biunify.specs.steps.Placing.{HasPlaces, IsFlowTo, IsPlacedFlow, MayPlace, PlacesFlows}
 use Rattle.mls_biunify.specs.steps.Renaming.{place_among}

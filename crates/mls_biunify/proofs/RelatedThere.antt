@@ -10,19 +10,19 @@ use Rattle.mls_automaton.specs.declared.automaton.Head.{Head}
 use Rattle.mls_automaton.specs.Automata.{Automaton, polarity_at, head_at, opposite, HasFlow}
 use Rattle.mls_automaton.specs.Models.{HasArmsIn, HasFieldsIn}
 use Rattle.mls_automaton.proofs.HeadOrder.{sets_found}
+use Rattle.mls_solver.specs.Relations.{IsGoal, InDomain, InCodomain, InField, IsRelated, goal, domain, codomain, field, along}
+use Rattle.mls_solver.specs.Rooms.{Room, Holds, HoldsJust}
+use Rattle.mls_solver.specs.steps.Consequences.{ByHeads, Follows, HasConsequences}
+use Rattle.mls_solver.specs.steps.Growth.{Relates}
+use Rattle.mls_solver.specs.declared.goal.Clash.{Clash}
+use Rattle.mls_solver.specs.declared.goal.Goal.{Goal}
+use Rattle.mls_solver.specs.steps.FirstClashes.{IsFirstOf, IsPairAt, IsPairBelow}
+use Rattle.mls_solver.proofs.FirstClashes.{pair_held}
+use Rattle.mls_solver.proofs.Relating.{Relates-kept}
+use Rattle.mls_solver.proofs.Taking.{by_heads-related, Follows-kept, consequences, related-through}
 use Rattle.mls_biunify.specs.Live.{IsStateIn, IsTable}
-use Rattle.mls_biunify.specs.Relations.{IsGoal, InDomain, InCodomain, InField, IsRelated, goal, domain, codomain, field, along}
-use Rattle.mls_biunify.specs.Rooms.{Room, Holds, HoldsJust}
 use Rattle.mls_biunify.specs.steps.Tables.{Numbered, IsNumbered, HoldsThere}
-use Rattle.mls_biunify.specs.steps.Consequences.{ByHeads, Follows, HasConsequences}
-use Rattle.mls_biunify.specs.steps.Growth.{Relates}
-use Rattle.mls_biunify.specs.declared.goal.Clash.{Clash}
-use Rattle.mls_biunify.specs.declared.goal.Goal.{Goal}
-use Rattle.mls_biunify.specs.steps.FirstClashes.{IsFirstOf, IsPairAt, IsPairBelow}
-use Rattle.mls_biunify.proofs.FirstClashes.{pair_held}
 use Rattle.mls_biunify.proofs.TableSteps.{table-closed}
-use Rattle.mls_biunify.proofs.Relating.{Relates-kept}
-use Rattle.mls_biunify.proofs.Taking.{by_heads-related, Follows-kept, consequences, related-through}
 
 abbrev IsThisPair : ℕ → ℕ → ℕ → ℕ → Type 0
 IsThisPair p n i j = (i ≡ p) × (j ≡ n)

@@ -9,7 +9,7 @@ use Rattle.std.proofs.lemmas.List.Kept.{Contains-dedup, Contains-from_dedup}
 use Rattle.std.proofs.lemmas.List.Sorted.{Contains-permutation, IsPermutation-sym}
 use Rattle.std.proofs.lemmas.Map.Views.{exact_unsigned_eq}
 use Rattle.mls_automaton.specs.Automata.{Automaton, HasFlow}
-use Rattle.mls_biunify.specs.Rooms.{Room, Holds}
+use Rattle.mls_solver.specs.Rooms.{Room, Holds}
 use Rattle.mls_biunify.specs.steps.Settlement.{AreNewEdges, GetsEdges, GivenBy}
 use Rattle.mls_biunify.specs.steps.Tables.{HoldsThere, IsNumbered, Numbered}
 use Rattle.mls_biunify.proofs.Collected.{Collected, same_given}

@@ -8,15 +8,15 @@ use Rattle.mls_automaton.specs.Automata.{Automaton, HasFlow, head_at, polarity_a
 use Rattle.mls_automaton.specs.Heads.{IsSameParts, combined, parts_of}
 use Rattle.mls_automaton.specs.Models.{HasRisingLabels}
 use Rattle.mls_automaton.proofs.Lists.{All-contained, Contains-here, Contains-cases}
+use Rattle.mls_solver.specs.Rooms.{Room, Holds}
+use Rattle.mls_solver.specs.Solved.{ReachesBy}
+use Rattle.mls_solver.specs.steps.Solving.{AreMembers, IsSolvedState}
+use Rattle.mls_solver.proofs.FirstClashes.{pair_held}
+use Rattle.mls_solver.proofs.Relating.{taken-cases}
 use Rattle.mls_biunify.specs.Live.{IsStateIn}
-use Rattle.mls_biunify.specs.Rooms.{Room, Holds}
-use Rattle.mls_biunify.specs.Solved.{ReachesBy}
 use Rattle.mls_biunify.specs.steps.Settlement.{AreNewHeads, GivenBy, TouchedBy}
-use Rattle.mls_biunify.specs.steps.Solving.{AreMembers, IsSolvedState}
 use Rattle.mls_biunify.specs.steps.Tables.{HoldsThere, IsNumbered, Numbered}
-use Rattle.mls_biunify.proofs.FirstClashes.{pair_held}
 use Rattle.mls_biunify.proofs.Collected.{both_put}
-use Rattle.mls_biunify.proofs.Relating.{taken-cases}
 
 -- the states of a pair that was found are there
 pub pair_there : (t : Numbered) (room : Room) → HoldsThere t room → (k : ℕ) → k < length room.pairs → (p n : ℕ) → (p, n) ≡ get_or room.pairs k (0, 0) → IsStateIn t.automaton t.there Positive p × IsStateIn t.automaton t.there Negative n

@@ -6,11 +6,11 @@ use Rattle.mls_automaton.specs.declared.automaton.Polarity.{Polarity}
 use Rattle.mls_automaton.specs.declared.automaton.Polarity.TheVariants.{Positive, Negative}
 use Rattle.mls_automaton.specs.declared.automaton.State.{State}
 use Rattle.mls_automaton.specs.Automata.{HasFlow, empty_head}
+use Rattle.mls_solver.proofs.Relating.{taken-before, taken-last, taken-cases}
 use Rattle.mls_biunify.specs.Live.{IsStateIn}
 use Rattle.mls_biunify.specs.steps.Settlement.{AddsEdges, Links, Unlinks}
 use Rattle.mls_biunify.specs.steps.Tables.{Numbered, RemovesFlow}
 use Rattle.mls_biunify.proofs.Collected.{pushed-one}
-use Rattle.mls_biunify.proofs.Relating.{taken-before, taken-last, taken-cases}
 
 -- the same states under the same numbers
 pub same-state-in : (old new : Numbered) → new.automaton.states ≡ old.automaton.states → new.there ≡ old.there → (p : Polarity) (s : ℕ) → IsStateIn old.automaton old.there p s → IsStateIn new.automaton new.there p s

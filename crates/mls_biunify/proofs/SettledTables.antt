@@ -12,13 +12,13 @@ use Rattle.mls_automaton.specs.Models.{HasStatesIn}
 use Rattle.mls_automaton.proofs.Lists.{All-contained, Contains-here, Contains-cases}
 use Rattle.mls_automaton.proofs.Passing.{states_more}
 use Rattle.mls_automaton.proofs.CombinedStates.{HasPartsIn, parts_in, combined_in, same_in, head_in}
+use Rattle.mls_solver.specs.Rooms.{Room, Holds}
+use Rattle.mls_solver.specs.Solved.{IsSolved, ReachesBy}
+use Rattle.mls_solver.specs.steps.Solving.{IsSolvedState}
+use Rattle.mls_solver.proofs.CombinedHeads.{same_parts-self}
 use Rattle.mls_biunify.specs.Live.{IsStateIn}
-use Rattle.mls_biunify.specs.Rooms.{Room, Holds}
-use Rattle.mls_biunify.specs.Solved.{IsSolved, ReachesBy}
 use Rattle.mls_biunify.specs.steps.Settlement.{AddsEdges, AreFit, AreNewEdges, AreNewHeads, IsTouched, StoresHeads}
-use Rattle.mls_biunify.specs.steps.Solving.{IsSolvedState}
 use Rattle.mls_biunify.specs.steps.Tables.{HoldsThere, IsNumbered, Numbered}
-use Rattle.mls_biunify.proofs.CombinedHeads.{same_parts-self}
 use Rattle.mls_biunify.proofs.SettledLinks.{same-state-in}
 
 -- one head, combined

@@ -10,8 +10,8 @@ use Rattle.mls_automaton.specs.Reached.{HeadNames, IsReached, Names, root as of-
 use Rattle.mls_automaton.specs.steps.Searching.{Found, Grows, InEntries, IsBelow, IsMarked}
 use Rattle.mls_automaton.proofs.Lists.{Contains-here, Contains-cases}
 use Rattle.mls_automaton.proofs.Reaching.{entry-found, found-entry}
+use Rattle.mls_solver.specs.Solutions.{scheme_over}
 use Rattle.mls_biunify.specs.Live.{IsReachedFrom, root as at-root, named as by-name}
-use Rattle.mls_biunify.specs.Solutions.{scheme_over}
 use Rattle.mls_biunify.specs.steps.Keeping.{Finds, found_of, InRoots, IsSearch, marks_below}
 use Rattle.mls_biunify.specs.steps.Tables.{IsNumbered, Numbered}
 use Rattle.mls_biunify.specs.declared.reach.Search.{Search}

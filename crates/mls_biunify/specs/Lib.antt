@@ -1,8 +1,2 @@
-pub mod Relations
-pub mod Clashes
-pub mod Solved
-pub mod Rooms
-pub mod Solutions
-pub mod Laws
 pub mod Live
 pub mod steps

@@ -10,12 +10,12 @@ use Rattle.mls_automaton.specs.Embeddings.{IsEmbedded}
 use Rattle.mls_automaton.specs.Models.{HasStatesIn, HasRisingLabels}
 use Rattle.mls_automaton.specs.Reached.{Names}
 use Rattle.mls_automaton.specs.Sets.{Rises}
-use Rattle.mls_biunify.specs.declared.goal.Goal.{Goal}
-use Rattle.mls_biunify.specs.declared.goal.Refusal.{Refusal}
-use Rattle.mls_biunify.specs.declared.goal.Refusal.TheVariants.{Clashing, NoMemory}
-use Rattle.mls_biunify.specs.Clashes.{IsFirstClash}
-use Rattle.mls_biunify.specs.Rooms.{Room}
-use Rattle.mls_biunify.specs.Solutions.{IsSaturated}
+use Rattle.mls_solver.specs.declared.goal.Goal.{Goal}
+use Rattle.mls_solver.specs.declared.goal.Refusal.{Refusal}
+use Rattle.mls_solver.specs.declared.goal.Refusal.TheVariants.{Clashing, NoMemory}
+use Rattle.mls_solver.specs.Clashes.{IsFirstClash}
+use Rattle.mls_solver.specs.Rooms.{Room}
+use Rattle.mls_solver.specs.Solutions.{IsSaturated}
 
 -- The table holds the states that are there under their numbers. A number that is free stands in it as a positive state
 -- with nothing and without an edge, as do all numbers past its end. The related pairs are there once the table is

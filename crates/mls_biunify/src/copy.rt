@@ -5,11 +5,11 @@ ghost use Rattle.mls_automaton.specs.Automata.{HasFlow, IsState, state_at, with_
 ghost use Rattle.mls_biunify.specs.Live.{IsStateIn};
 ghost use Rattle.mls_biunify.specs.steps.Copying.{AreCopiedStates, CopiesFlows, HasStatesOf, IsCopy};
 
-use crate::materialise::copied_head;
 use crate::table::Table;
 use mls_automaton::automaton::{Automaton, Head, Polarity};
 use mls_automaton::state_set::StateId;
 use mls_base::memory::Memory;
+use mls_solver::materialise::copied_head;
 use std::alloc::Global;
 
 // The automaton in which each number that is free is a positive state with nothing.

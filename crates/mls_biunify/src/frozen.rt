@@ -11,19 +11,19 @@ ghost use Rattle.mls_automaton.specs.Schemes.{IsScheme};
 ghost use Rattle.mls_automaton.specs.Sets.{Rises};
 ghost use Rattle.mls_automaton.specs.steps.Keeping.{renamed_entry};
 ghost use Rattle.mls_automaton.specs.steps.Numbers.{KeepsOrderInHead};
+ghost use Rattle.mls_solver.specs.Solutions.{scheme_over};
 ghost use Rattle.mls_biunify.specs.Live.{IsStateIn};
-ghost use Rattle.mls_biunify.specs.Solutions.{scheme_over};
 ghost use Rattle.mls_biunify.specs.steps.Placing.{HasPlaces, IsFlowTo, IsPlacedFlow, MayPlace, PlacesFlows};
 ghost use Rattle.mls_biunify.specs.steps.Renaming.{place_among};
 
 use crate::reach::reached;
 use crate::rename::{Numbers, place_in, rename_head};
-use crate::settle::listed;
 use crate::table::Table;
 use mls_automaton::automaton::Automaton;
 use mls_automaton::scheme::{Env, EnvEntry, Scheme};
 use mls_automaton::state_set::StateId;
 use mls_base::memory::Memory;
+use mls_solver::settle::listed;
 use std::alloc::Global;
 
 // The scheme of the states that heads reach from the root and the binders, in the order of their numbers. It goes over

@@ -1,27 +1,18 @@
-//! The closed relation of goals between states, and the automaton solved by it.
+//! Tables of states that are updated in place, with the closed relation of goals between them, and all of `mls_solver`.
 #![tactic(auto)]
 
+pub use mls_solver::{found, goal, laws, materialise, room, saturate, search, settle};
+
 mod absorb;
-mod cells;
 mod clash;
 mod copy;
 mod edges;
-pub mod found;
 mod frozen;
-pub mod goal;
 mod keep;
-pub mod laws;
-mod links;
 pub mod live;
-pub mod materialise;
-mod pairs;
 mod reach;
 mod relation;
 mod rename;
-pub mod room;
-pub mod saturate;
-pub mod search;
-pub mod settle;
 mod settlement;
 mod table;
 mod worklist;

@@ -1,7 +1,7 @@
 //! A relation between states that grows.
 ghost use Rattle.std.specs.Prelude.{◌≡◌, ◌↔◌, ℕ, ◌<◌, ◌≤◌, [], length, get_or, All, Contains, OnErr, OnOk, IsTrue};
-ghost use Rattle.mls_biunify.specs.Rooms.{Holds};
-ghost use Rattle.mls_biunify.specs.steps.Growth.{BySome, Relates};
+ghost use Rattle.mls_solver.specs.Rooms.{Holds};
+ghost use Rattle.mls_solver.specs.steps.Growth.{BySome, Relates};
 
 use crate::edges::Edges;
 use mls_automaton::state_set::{StateId, StateSet};
@@ -18,7 +18,7 @@ pub struct Relation {
 }
 
 impl Model for Relation {
-    ghost use Rattle.mls_biunify.specs.Rooms.{Room};
+    ghost use Rattle.mls_solver.specs.Rooms.{Room};
 
     ghost Value = { Room };
 

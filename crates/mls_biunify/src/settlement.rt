@@ -6,21 +6,21 @@ ghost use Rattle.mls_automaton.specs.declared.automaton.Polarity.TheVariants.{Po
 ghost use Rattle.mls_automaton.specs.Automata.{HasFlow, head_at, polarity_at};
 ghost use Rattle.mls_automaton.specs.Heads.{IsSameParts, combined, parts_of};
 ghost use Rattle.mls_automaton.specs.Models.{HasRisingLabels, HasStatesIn};
+ghost use Rattle.mls_solver.specs.Rooms.{Holds};
+ghost use Rattle.mls_solver.specs.Solved.{IsNewFlow};
+ghost use Rattle.mls_solver.specs.steps.Solving.{AreMembers, IsSolvedState};
 ghost use Rattle.mls_biunify.specs.Live.{IsStateIn};
-ghost use Rattle.mls_biunify.specs.Rooms.{Holds};
-ghost use Rattle.mls_biunify.specs.Solved.{IsNewFlow};
 ghost use Rattle.mls_biunify.specs.steps.Settlement.{AddsEdges, AreFit, AreNewEdges, AreNewHeads, GetsEdges, GivenBy};
 ghost use Rattle.mls_biunify.specs.steps.Settlement.{IsTouched, Links, StoresHeads, Unlinks};
-ghost use Rattle.mls_biunify.specs.steps.Solving.{AreMembers, IsSolvedState};
 ghost use Rattle.mls_biunify.specs.steps.Tables.{HoldsThere, IsNumbered};
 
-use crate::materialise::copied_head;
 use crate::relation::Relation;
 use crate::table::Table;
 use mls_automaton::automaton::{Head, Polarity};
 use mls_automaton::combine::combine_heads;
 use mls_automaton::state_set::{StateId, StateSet};
 use mls_base::memory::Memory;
+use mls_solver::materialise::copied_head;
 use std::alloc::Global;
 
 // Puts the members of a set into another one.

@@ -2,21 +2,21 @@
 ghost use Rattle.std.specs.Prelude.{◌≡◌, ℕ, ◌<◌, ◌≤◌, [], true, false, length, get_or, All, Contains, IfOk, OnOk, Some};
 ghost use Rattle.mls_automaton.specs.declared.automaton.Polarity.TheVariants.{Positive, Negative};
 ghost use Rattle.mls_automaton.specs.Automata.{HasFlow, head_at};
-ghost use Rattle.mls_biunify.specs.declared.goal.Goal.{Goal};
+ghost use Rattle.mls_solver.specs.declared.goal.Goal.{Goal};
+ghost use Rattle.mls_solver.specs.Relations.{IsGoal, IsRelated};
+ghost use Rattle.mls_solver.specs.Rooms.{Holds, HoldsJust};
+ghost use Rattle.mls_solver.specs.steps.Growth.{BySome, Relates};
+ghost use Rattle.mls_solver.specs.steps.Consequences.{ByFunctions, ByField, ByRecords, ByHeads, Follows};
+ghost use Rattle.mls_solver.specs.steps.Consequences.{HasConsequences};
 ghost use Rattle.mls_biunify.specs.Live.{IsStateIn};
-ghost use Rattle.mls_biunify.specs.Relations.{IsGoal, IsRelated};
-ghost use Rattle.mls_biunify.specs.Rooms.{Holds, HoldsJust};
-ghost use Rattle.mls_biunify.specs.steps.Growth.{BySome, Relates};
-ghost use Rattle.mls_biunify.specs.steps.Consequences.{ByFunctions, ByField, ByRecords, ByHeads, Follows};
-ghost use Rattle.mls_biunify.specs.steps.Consequences.{HasConsequences};
 ghost use Rattle.mls_biunify.specs.steps.Tables.{HoldsThere};
 
-use crate::goal::Goal;
 use crate::relation::Relation;
 use crate::table::Table;
 use mls_automaton::automaton::{Arms, FieldSet, FieldSets, Head};
 use mls_automaton::state_set::{StateId, StateSet};
 use mls_base::memory::Memory;
+use mls_solver::goal::Goal;
 
 // Makes the relation the least closed one of the goals. Each pair is taken once, at the cost of the members of the sets
 // that its heads name in the same place, and of the pairs found so far at the other end of each edge at one of its

@@ -19,7 +19,7 @@ use Rattle.mls_automaton.specs.Reached.{KeepsReached}
 use Rattle.mls_automaton.specs.Schemes.{AreEquivalentSchemes, IsScheme, state_of}
 use Rattle.mls_automaton.proofs.Lists.{All-contained, Contains-cases, Contains-here, Contains-later, Contains-map}
 use Rattle.mls_biunify.specs.Live.{IsLive, IsLiveState, IsReachedFrom, IsRegion, IsThere, KeepsThere, Live, StaysBeside, numbers_in}
-use Rattle.mls_biunify.specs.Solutions.{scheme_over}
+use Rattle.mls_solver.specs.Solutions.{scheme_over}
 use Rattle.mls_infer.specs.Constraints.{HasStates, no_goals}
 use Rattle.mls_infer.specs.Doing.{IsTakenOut}
 use Rattle.mls_infer.specs.Finishing.{without_env}

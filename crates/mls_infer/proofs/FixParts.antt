@@ -12,7 +12,7 @@ use Rattle.mls_automaton.specs.declared.scheme.EnvEntry.{EnvEntry}
 use Rattle.mls_automaton.specs.declared.scheme.Scheme.{Scheme}
 use Rattle.mls_automaton.specs.Automata.{Automaton, polarity_at}
 use Rattle.mls_automaton.proofs.Lists.{All-one, Contains-cases, Contains-filter, Contains-filtered, Contains-here, Contains-map}
-use Rattle.mls_biunify.specs.declared.goal.Goal.{Goal}
+use Rattle.mls_solver.specs.declared.goal.Goal.{Goal}
 use Rattle.mls_biunify.specs.Live.{IsLive, IsLiveGoal, IsLiveState, Live}
 use Rattle.mls_term.specs.declared.term.TermForm.{TermForm}
 use Rattle.mls_term.specs.declared.term.TermForm.TheVariants as form

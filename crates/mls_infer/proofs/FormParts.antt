@@ -13,7 +13,7 @@ use Rattle.mls_automaton.specs.declared.scheme.Scheme.{Scheme}
 use Rattle.mls_automaton.specs.Automata.{Automaton, empty_head}
 use Rattle.mls_automaton.proofs.Lists.{All-one, Contains-cases, Contains-here, Contains-later}
 use Rattle.std.proofs.lemmas.List.Elements.{All-cons}
-use Rattle.mls_biunify.specs.declared.goal.Goal.{Goal}
+use Rattle.mls_solver.specs.declared.goal.Goal.{Goal}
 use Rattle.mls_biunify.specs.Live.{IsLiveGoal, IsLiveState, IsThere, Live}
 use Rattle.mls_term.specs.declared.term.TermForm.{TermForm}
 use Rattle.mls_term.specs.declared.term.TermForm.TheVariants as form

@@ -17,7 +17,7 @@ use Rattle.mls_automaton.specs.declared.state_set.StateId.{StateId}
 use Rattle.mls_automaton.specs.Automata.{Automaton, empty_head, polarity_at}
 use Rattle.mls_automaton.specs.Models.{HasStatesIn}
 use Rattle.mls_automaton.proofs.Lists.{All-one, Contains-here}
-use Rattle.mls_biunify.specs.declared.goal.Goal.{Goal}
+use Rattle.mls_solver.specs.declared.goal.Goal.{Goal}
 use Rattle.mls_biunify.specs.Live.{IsLiveGoal, IsLiveState, Live}
 use Rattle.mls_term.specs.declared.term.TermForm.TheVariants as form
 use Rattle.mls_infer.specs.declared.solve.NoSolution.{NoSolution}

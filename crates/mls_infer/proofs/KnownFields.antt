@@ -14,7 +14,7 @@ use Rattle.mls_automaton.specs.Models.{HasStatesIn}
 use Rattle.mls_automaton.specs.Schemes.{AreEquivalentSchemes, IsScheme}
 use Rattle.mls_automaton.proofs.HeadOrder.{sets_found}
 use Rattle.mls_biunify.specs.Live.{IsLiveState, IsStateIn, Live}
-use Rattle.mls_biunify.specs.Solutions.{scheme_over}
+use Rattle.mls_solver.specs.Solutions.{scheme_over}
 use Rattle.mls_infer.specs.Constraints.{HasStates, project_constraint, record_head}
 use Rattle.mls_infer.specs.Fields.{HasOnly, IsRecord}
 use Rattle.mls_infer.specs.Regions.{TablePart, part_over, scheme_at}

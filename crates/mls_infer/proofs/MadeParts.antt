@@ -8,7 +8,7 @@ use Rattle.std.proofs.Common.{◌≡◌, ℕ, Bool, true, false, List, [], ◌�
 use Rattle.mls_automaton.specs.declared.state_set.StateId.{StateId}
 use Rattle.mls_automaton.specs.declared.scheme.EnvEntry.{EnvEntry}
 use Rattle.mls_automaton.specs.Automata.{Automaton, polarity_at}
-use Rattle.mls_biunify.specs.declared.goal.Goal.{Goal}
+use Rattle.mls_solver.specs.declared.goal.Goal.{Goal}
 use Rattle.mls_biunify.specs.Live.{IsLive, IsLiveGoal, IsRegion, IsTable, IsThere, Live}
 use Rattle.mls_biunify.proofs.TableSteps.{table-closed}
 use Rattle.mls_term.specs.declared.term.TermForm.{TermForm}

@@ -22,13 +22,13 @@ use Rattle.mls_automaton.specs.Embeddings.{appended, renamed_flow, renamed_head,
 use Rattle.mls_automaton.specs.Models.{IsClosed}
 use Rattle.mls_automaton.proofs.Appends.{first-state, second-state, flows-appended, renamed_head-self}
 use Rattle.mls_automaton.proofs.Lists.{Contains-map, Contains-map_back}
-use Rattle.mls_biunify.specs.Relations.{IsRelated, goal, domain, codomain, field, along}
+use Rattle.mls_solver.specs.Relations.{IsRelated, goal, domain, codomain, field, along}
 use Rattle.mls_infer.specs.declared.fault.SiteKind.{SiteKind}
 use Rattle.mls_infer.specs.Constraints.{Constraint, HasOneState, HasStates, Joined, joined, grown, size, up, negative, positive, function_head, record_head}
 use Rattle.mls_infer.specs.Constraints.{bool_head, states_of}
 use Rattle.mls_infer.specs.Constraints.{IsApplied, project_constraint, apply_constraint, turned_constraint, choice_constraint, fix_constraint}
 use Rattle.mls_automaton.proofs.Instances.{AreGoals}
-use Rattle.mls_biunify.specs.Relations.{IsGoal}
+use Rattle.mls_solver.specs.Relations.{IsGoal}
 use Rattle.mls_infer.specs.declared.constraints.Constraints.{Constraints}
 use Rattle.mls_infer.specs.declared.solve.NoSolution.{NoSolution}
 use Rattle.mls_infer.specs.declared.solve.NoSolution.TheVariants as none

@@ -17,11 +17,11 @@ use Rattle.mls_automaton.specs.declared.scheme.Scheme.{Scheme}
 use Rattle.mls_automaton.specs.Automata.{Automaton, IsState}
 use Rattle.mls_automaton.specs.Environments.{BindersRise}
 use Rattle.mls_automaton.specs.Schemes.{IsScheme}
-use Rattle.mls_biunify.specs.declared.goal.Clash.{Clash}
-use Rattle.mls_biunify.specs.declared.goal.Goal.{Goal}
-use Rattle.mls_biunify.specs.Clashes.{IsClashOf}
-use Rattle.mls_biunify.specs.Relations.{IsGoal, IsGoalOf, IsRelated}
-use Rattle.mls_biunify.proofs.SolvedInstances.{over}
+use Rattle.mls_solver.specs.declared.goal.Clash.{Clash}
+use Rattle.mls_solver.specs.declared.goal.Goal.{Goal}
+use Rattle.mls_solver.specs.Clashes.{IsClashOf}
+use Rattle.mls_solver.specs.Relations.{IsGoal, IsGoalOf, IsRelated}
+use Rattle.mls_solver.proofs.SolvedInstances.{over}
 use Rattle.mls_infer.specs.declared.solve.NoSolution.{NoSolution}
 use Rattle.mls_infer.specs.declared.solve.NoSolution.TheVariants as none
 use Rattle.mls_infer.specs.Constraints.{Constraint, HasStates, HasTypes, id, no_goals}

@@ -25,12 +25,12 @@ use Rattle.mls_automaton.specs.Heads.{set_at}
 use Rattle.mls_automaton.specs.Models.{HasArmsIn, HasFieldsIn, HasStatesIn, IsClosed}
 use Rattle.mls_automaton.proofs.Instances.{AreGoals}
 use Rattle.mls_automaton.proofs.Lists.{Contains-map, Contains-map_back, map-map, map-same}
-use Rattle.mls_biunify.specs.declared.goal.Clash.{Clash}
-use Rattle.mls_biunify.specs.declared.goal.ClashKind.{ClashKind}
-use Rattle.mls_biunify.specs.declared.goal.ClashKind.TheVariants.{Unlike, Lacks}
-use Rattle.mls_biunify.specs.Clashes.{Clashes, IsAtMost, IsClashOf, IsFirstClash, LacksField, clash_key, key_cmp, kind_key, label_of}
-use Rattle.mls_biunify.specs.Relations.{InDomain, InCodomain, InField, IsRelated, goal, domain, codomain, field, along}
-use Rattle.mls_biunify.proofs.Following.{related_states}
+use Rattle.mls_solver.specs.declared.goal.Clash.{Clash}
+use Rattle.mls_solver.specs.declared.goal.ClashKind.{ClashKind}
+use Rattle.mls_solver.specs.declared.goal.ClashKind.TheVariants.{Unlike, Lacks}
+use Rattle.mls_solver.specs.Clashes.{Clashes, IsAtMost, IsClashOf, IsFirstClash, LacksField, clash_key, key_cmp, kind_key, label_of}
+use Rattle.mls_solver.specs.Relations.{InDomain, InCodomain, InField, IsRelated, goal, domain, codomain, field, along}
+use Rattle.mls_solver.proofs.Following.{related_states}
 use Rattle.mls_shape.proofs.HeadsAlike.{set_at-renamed}
 use Rattle.mls_infer.specs.declared.fault.SiteKind.{SiteKind}
 use Rattle.mls_infer.specs.declared.fault.SiteKind.TheVariants as told

@@ -31,10 +31,10 @@ use Rattle.mls_automaton.proofs.Lists.{All-contained, Contains-cases, Contains-h
 use Rattle.mls_automaton.proofs.Reaching.{named-in}
 use Rattle.mls_automaton.proofs.RisingSets.{contains-place}
 use Rattle.mls_biunify.specs.Live.{AddsStates, Inserts, IsCopiedFlow, IsCopyAt, IsLive, IsLiveState, IsReachedFrom, IsThere, KeepsThere, Live, number_of, root as at-root, named as by-name}
-use Rattle.mls_biunify.specs.Relations.{InCodomain, InDomain, InField, IsRelated, goal, domain, codomain, field, along}
-use Rattle.mls_biunify.specs.Solved.{IsNewFlow, IsSolved, ReachesBy}
-use Rattle.mls_biunify.proofs.CombinedHeads.{same_parts-self, same_parts-trans, same_parts-two}
-use Rattle.mls_biunify.proofs.RelatedHeads.{set_at-field}
+use Rattle.mls_solver.specs.Relations.{InCodomain, InDomain, InField, IsRelated, goal, domain, codomain, field, along}
+use Rattle.mls_solver.specs.Solved.{IsNewFlow, IsSolved, ReachesBy}
+use Rattle.mls_solver.proofs.CombinedHeads.{same_parts-self, same_parts-trans, same_parts-two}
+use Rattle.mls_solver.proofs.RelatedHeads.{set_at-field}
 use Rattle.mls_biunify.proofs.Removals.{empty-names_none}
 use Rattle.mls_biunify.proofs.SettledTables.{combined-alone}
 use Rattle.mls_biunify.proofs.TableSteps.{there-or_not}

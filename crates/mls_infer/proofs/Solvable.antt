@@ -10,8 +10,8 @@ use Rattle.mls_automaton.specs.Automata.{Automaton, IsState}
 use Rattle.mls_automaton.specs.Schemes.{IsScheme}
 use Rattle.mls_automaton.proofs.Lists.{Contains-map}
 use Rattle.std.proofs.lemmas.List.Elements.{All-contains}
-use Rattle.mls_biunify.specs.declared.goal.Goal.{Goal}
-use Rattle.mls_biunify.specs.Relations.{IsGoal, IsGoalOf}
+use Rattle.mls_solver.specs.declared.goal.Goal.{Goal}
+use Rattle.mls_solver.specs.Relations.{IsGoal, IsGoalOf}
 use Rattle.mls_infer.specs.Merges.{AreBetween, Merges}
 use Rattle.mls_infer.specs.Posed.{goal_pair}
 use Rattle.mls_infer.proofs.Grown.{Contains-mapped}

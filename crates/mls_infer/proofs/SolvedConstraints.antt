@@ -19,17 +19,17 @@ use Rattle.mls_automaton.proofs.BooksExist.{scheme_exists}
 use Rattle.mls_automaton.proofs.Instances.{AreGoals}
 use Rattle.mls_automaton.proofs.Lists.{any_found, found_any}
 use Rattle.mls_automaton.proofs.Reaching.{entry-found}
-use Rattle.mls_biunify.specs.declared.goal.Clash.{Clash}
-use Rattle.mls_biunify.specs.declared.goal.Goal.{Goal}
-use Rattle.mls_biunify.specs.Clashes.{HasNoClash, IsClashOf, IsFirstClash}
-use Rattle.mls_biunify.specs.Relations.{IsGoal, IsGoalOf, IsRelated, IsTable, goal, domain, codomain, field, along}
-use Rattle.mls_biunify.specs.Rooms.{Room, HoldsJust}
-use Rattle.mls_biunify.specs.Solved.{IsSolved}
-use Rattle.mls_biunify.proofs.Following.{related_states}
-use Rattle.mls_biunify.proofs.Solution.{Sources}
-use Rattle.mls_biunify.proofs.SolvedInstances.{over}
-use Rattle.mls_biunify.proofs.SolvedRooms.{solved-same}
-use Rattle.mls_biunify.proofs.SourceLists.{sources_from_table}
+use Rattle.mls_solver.specs.declared.goal.Clash.{Clash}
+use Rattle.mls_solver.specs.declared.goal.Goal.{Goal}
+use Rattle.mls_solver.specs.Clashes.{HasNoClash, IsClashOf, IsFirstClash}
+use Rattle.mls_solver.specs.Relations.{IsGoal, IsGoalOf, IsRelated, IsTable, goal, domain, codomain, field, along}
+use Rattle.mls_solver.specs.Rooms.{Room, HoldsJust}
+use Rattle.mls_solver.specs.Solved.{IsSolved}
+use Rattle.mls_solver.proofs.Following.{related_states}
+use Rattle.mls_solver.proofs.Solution.{Sources}
+use Rattle.mls_solver.proofs.SolvedInstances.{over}
+use Rattle.mls_solver.proofs.SolvedRooms.{solved-same}
+use Rattle.mls_solver.proofs.SourceLists.{sources_from_table}
 use Rattle.mls_infer.specs.Constraints.{Constraint, HasStates, no_goals}
 use Rattle.mls_infer.specs.Posed.{goal_pair}
 use Rattle.mls_infer.specs.Merges.{HaveSameTypes}

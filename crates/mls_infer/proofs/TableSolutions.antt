@@ -19,17 +19,17 @@ use Rattle.mls_automaton.specs.Automata.{Automaton, IsState, polarity_at, state_
 use Rattle.mls_automaton.specs.Environments.{BindersRise}
 use Rattle.mls_automaton.specs.Models.{IsClosed}
 use Rattle.mls_automaton.specs.Schemes.{AreEquivalentSchemes, IsScheme}
-use Rattle.mls_biunify.specs.declared.goal.Clash.{Clash}
-use Rattle.mls_biunify.specs.declared.goal.Goal.{Goal}
-use Rattle.mls_biunify.specs.declared.goal.Refusal.TheVariants.{Clashing}
-use Rattle.mls_biunify.specs.Clashes.{IsFirstClash}
+use Rattle.mls_solver.specs.declared.goal.Clash.{Clash}
+use Rattle.mls_solver.specs.declared.goal.Goal.{Goal}
+use Rattle.mls_solver.specs.declared.goal.Refusal.TheVariants.{Clashing}
+use Rattle.mls_solver.specs.Clashes.{IsFirstClash}
 use Rattle.mls_biunify.specs.Live.{AreRelated, IsCopyAt, IsLive, IsLiveGoal, IsReachedFrom, IsRefusalOf, IsSolvedFor, IsThere, KeepsThere, Live, number_of, pairs_of, room_of_pairs, root as at-root, named as by-name}
-use Rattle.mls_biunify.specs.Relations.{IsGoal, IsGoalOf, IsRelated}
-use Rattle.mls_biunify.specs.Rooms.{Holds}
-use Rattle.mls_biunify.specs.Solutions.{scheme_over}
-use Rattle.mls_biunify.specs.Solved.{IsSolved}
+use Rattle.mls_solver.specs.Relations.{IsGoal, IsGoalOf, IsRelated}
+use Rattle.mls_solver.specs.Rooms.{Holds}
+use Rattle.mls_solver.specs.Solutions.{scheme_over}
+use Rattle.mls_solver.specs.Solved.{IsSolved}
 use Rattle.mls_biunify.proofs.Lives.{state-of}
-use Rattle.mls_biunify.proofs.SolvedRooms.{solved-same}
+use Rattle.mls_solver.proofs.SolvedRooms.{solved-same}
 use Rattle.mls_biunify.proofs.TableSteps.{table-closed}
 use Rattle.mls_infer.specs.Constraints.{Constraint, HasStates, id, no_goals, renamed_entry}
 use Rattle.mls_infer.specs.Merges.{HaveSameTypes}

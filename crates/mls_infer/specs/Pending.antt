@@ -8,12 +8,12 @@ use Rattle.mls_automaton.specs.declared.scheme.EnvEntry.{EnvEntry}
 use Rattle.mls_automaton.specs.declared.scheme.Scheme.{Scheme}
 use Rattle.mls_automaton.specs.Automata.{Automaton, HasFlow, state_at}
 use Rattle.mls_automaton.specs.Models.{IsClosed}
-use Rattle.mls_biunify.specs.declared.goal.Clash.{Clash}
-use Rattle.mls_biunify.specs.declared.goal.Goal.{Goal}
-use Rattle.mls_biunify.specs.declared.goal.Refusal.TheVariants.{Clashing}
+use Rattle.mls_solver.specs.declared.goal.Clash.{Clash}
+use Rattle.mls_solver.specs.declared.goal.Goal.{Goal}
+use Rattle.mls_solver.specs.declared.goal.Refusal.TheVariants.{Clashing}
 use Rattle.mls_biunify.specs.Live.{AreRelated, IsLive, IsLiveState, IsRefusalOf, IsSolvedFor, IsThere, Live, numbers_in}
-use Rattle.mls_biunify.specs.Relations.{IsGoal, IsRelated}
-use Rattle.mls_biunify.specs.Solved.{IsSolved}
+use Rattle.mls_solver.specs.Relations.{IsGoal, IsRelated}
+use Rattle.mls_solver.specs.Solved.{IsSolved}
 use Rattle.mls_term.specs.declared.term.TermForm.{TermForm}
 use Rattle.mls_infer.specs.declared.fault.SiteKind.{SiteKind}
 use Rattle.mls_infer.specs.declared.forms.Rows.{Rows}

@@ -4,7 +4,7 @@ use Rattle.mls_automaton.specs.declared.automaton.Polarity.TheVariants.{Positive
 use Rattle.mls_automaton.specs.declared.automaton.FieldSet.{FieldSet}
 use Rattle.mls_automaton.specs.declared.scheme.Scheme.{Scheme}
 use Rattle.mls_automaton.specs.Automata.{Automaton, IsState}
-use Rattle.mls_biunify.specs.declared.goal.Goal.{Goal}
+use Rattle.mls_solver.specs.declared.goal.Goal.{Goal}
 use Rattle.mls_infer.specs.declared.constraints.Constraints.{Constraints}
 use Rattle.mls_infer.specs.declared.constraints.Open.{Open}
 use Rattle.mls_infer.specs.Constraints.{Constraint, AreFieldsOf, joined, make_constraint}

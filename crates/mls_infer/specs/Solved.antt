@@ -4,14 +4,14 @@ use Rattle.mls_automaton.specs.declared.automaton.FieldSet.{FieldSet}
 use Rattle.mls_automaton.specs.declared.automaton.Head.{Head}
 use Rattle.mls_automaton.specs.Automata.{Automaton, head_at}
 use Rattle.mls_automaton.specs.Models.{IsClosed}
-use Rattle.mls_biunify.specs.declared.goal.Clash.{Clash}
-use Rattle.mls_biunify.specs.declared.goal.ClashKind.{ClashKind}
-use Rattle.mls_biunify.specs.declared.goal.ClashKind.TheVariants as kind
-use Rattle.mls_biunify.specs.declared.goal.Goal.{Goal}
-use Rattle.mls_biunify.specs.Clashes.{HasNoClash, IsFirstClash, label_of}
-use Rattle.mls_biunify.specs.Relations.{IsGoal, IsRelated}
-use Rattle.mls_biunify.specs.Rooms.{Room, HoldsJust}
-use Rattle.mls_biunify.specs.Solved.{IsSolved}
+use Rattle.mls_solver.specs.declared.goal.Clash.{Clash}
+use Rattle.mls_solver.specs.declared.goal.ClashKind.{ClashKind}
+use Rattle.mls_solver.specs.declared.goal.ClashKind.TheVariants as kind
+use Rattle.mls_solver.specs.declared.goal.Goal.{Goal}
+use Rattle.mls_solver.specs.Clashes.{HasNoClash, IsFirstClash, label_of}
+use Rattle.mls_solver.specs.Relations.{IsGoal, IsRelated}
+use Rattle.mls_solver.specs.Rooms.{Room, HoldsJust}
+use Rattle.mls_solver.specs.Solved.{IsSolved}
 use Rattle.mls_infer.specs.declared.fault.SiteKind.{SiteKind}
 use Rattle.mls_infer.specs.declared.fault.SiteKind.TheVariants as told
 use Rattle.mls_infer.specs.declared.solve.NoSolution.{NoSolution}

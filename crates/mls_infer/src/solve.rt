@@ -2,8 +2,8 @@
 ghost use Rattle.std.specs.Prelude.{◌≡◌, All, IfErr, IfOk};
 ghost use Rattle.mls_automaton.specs.Automata.{head_at};
 ghost use Rattle.mls_automaton.specs.Models.{IsClosed};
-ghost use Rattle.mls_biunify.specs.Clashes.{Clashes, label_of};
-ghost use Rattle.mls_biunify.specs.Relations.{IsGoalOf};
+ghost use Rattle.mls_solver.specs.Clashes.{Clashes, label_of};
+ghost use Rattle.mls_solver.specs.Relations.{IsGoalOf};
 ghost use Rattle.mls_infer.specs.Constraints.{HasStates};
 ghost use Rattle.mls_infer.specs.Posed.{constraint_of, scheme_in};
 ghost use Rattle.mls_infer.specs.Solved.{ClashesFirst, HasField, IsClashWithout, IsSolvedFor, TellsFirstClash};

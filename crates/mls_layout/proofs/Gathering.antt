@@ -6,7 +6,7 @@ use Rattle.std.proofs.Common.{◌≡◌, ◌⊎◌, inl, inr, ℕ, ◌+◌, ◌<
 use Rattle.std.specs.Prelude.{◌↔◌, Contains, get_or}
 use Rattle.std.proofs.lemmas.List.Elements.{Contains-append_left, Contains-append_right, Contains-append_cases, Contains-push, Contains-push_cases}
 use Rattle.mls_book.specs.declared.book.NodeId.{NodeId}
-use Rattle.mls_biunify.proofs.Relating.{taken-before, taken-last, taken-cases, take-all}
+use Rattle.mls_solver.proofs.Relating.{taken-before, taken-last, taken-cases, take-all}
 use Rattle.mls_layout.specs.Trees.{IsNodeIn}
 use Rattle.mls_layout.specs.steps.Sources.{Gathers}
 use Rattle.mls_layout.proofs.WorkedParts.{nothing}

@@ -17,7 +17,7 @@ use Rattle.mls_book.specs.declared.book.NodeId.{NodeId}
 use Rattle.mls_book.proofs.LongerBooks.{below_or_more}
 use Rattle.mls_automaton.specs.declared.automaton.Head.{Head}
 use Rattle.mls_automaton.specs.Automata.{Automaton, head_at}
-use Rattle.mls_biunify.proofs.Relating.{taken-before, taken-last, taken-cases}
+use Rattle.mls_solver.proofs.Relating.{taken-before, taken-last, taken-cases}
 use Rattle.mls_subsume.specs.declared.verdict.StatePair.{StatePair}
 use Rattle.mls_subsume.specs.Walks.{pair, IsIn}
 use Rattle.mls_layout.specs.declared.layout.Places.{Places}

@@ -25,7 +25,7 @@ use Rattle.mls_automaton.specs.declared.scheme.Scheme.{Scheme}
 use Rattle.mls_automaton.specs.Automata.{Automaton, HasFlow, empty_head, flow, head_at, polarity_at, state_at}
 use Rattle.mls_automaton.specs.Heads.{parts_of}
 use Rattle.mls_automaton.specs.Models.{IsClosed}
-use Rattle.mls_biunify.specs.Rooms.{Room, Holds, HoldsJust}
+use Rattle.mls_solver.specs.Rooms.{Room, Holds, HoldsJust}
 use Rattle.mls_subsume.specs.declared.verdict.StatePair.{StatePair}
 use Rattle.mls_subsume.specs.Walks.{IsIn}
 use Rattle.mls_layout.specs.declared.layout.Places.{Places}

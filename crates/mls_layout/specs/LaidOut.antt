@@ -6,7 +6,7 @@ use Rattle.mls_book.specs.declared.book.Node.TheVariants as node
 use Rattle.mls_book.specs.Books.{node_at, IsClosedBook}
 use Rattle.mls_automaton.specs.declared.scheme.Scheme.{Scheme}
 use Rattle.mls_automaton.specs.Automata.{Automaton, head_at}
-use Rattle.mls_biunify.specs.Rooms.{Room, HoldsJust}
+use Rattle.mls_solver.specs.Rooms.{Room, HoldsJust}
 use Rattle.mls_subsume.specs.declared.verdict.StatePair.{StatePair}
 use Rattle.mls_layout.specs.declared.layout.Places.{Places}
 use Rattle.mls_layout.specs.declared.layout.numbers.Owned.{Owned}

@@ -2,7 +2,7 @@
 ghost use Rattle.std.specs.Prelude.{◌≡◌, ◌↔◌, ℕ, ◌<◌, length, get_or, All, IfOk, IsTrue, None};
 ghost use Rattle.mls_book.specs.Books.{IsClosedBook};
 ghost use Rattle.mls_automaton.specs.Models.{IsClosed};
-ghost use Rattle.mls_biunify.specs.Rooms.{HoldsStates};
+ghost use Rattle.mls_solver.specs.Rooms.{HoldsStates};
 ghost use Rattle.mls_layout.specs.LaidOut.{LaysOut, node_of, place_of};
 
 mod distinct;
@@ -20,8 +20,8 @@ use crate::tree::NodeIds;
 use leaves::push_leaves;
 use mls_automaton::automaton::Automaton;
 use mls_base::memory::Memory;
-use mls_biunify::found::Found;
 use mls_book::book::{Book, NodeId};
+use mls_solver::found::Found;
 use mls_subsume::verdict::StatePair;
 use numbers::{Owned, owned_of};
 use owned::push_own;

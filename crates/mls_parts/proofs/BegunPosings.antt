@@ -18,7 +18,7 @@ use Rattle.mls_automaton.specs.declared.automaton.State.{State}
 use Rattle.mls_automaton.specs.Automata.{Automaton, empty_head, head_at, polarity_at, state_at, IsState}
 use Rattle.mls_automaton.specs.Heads.{head_value}
 use Rattle.mls_automaton.specs.Models.{HasRisingLabels, HasStatesIn, IsInside}
-use Rattle.mls_biunify.specs.declared.goal.Goal.{Goal}
+use Rattle.mls_solver.specs.declared.goal.Goal.{Goal}
 use Rattle.mls_infer.proofs.HeadValues.{empty_value}
 use Rattle.mls_typing.specs.Typed.{IsType}
 use Rattle.mls_typing.proofs.Contexts.{same_key}

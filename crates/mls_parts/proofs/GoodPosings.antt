@@ -22,8 +22,8 @@ use Rattle.mls_automaton.specs.Embeddings.{appended, renamed_state}
 use Rattle.mls_automaton.specs.Models.{HasRisingLabels, HasStatesIn, IsClosed}
 use Rattle.mls_automaton.proofs.Appends.{closed-appended, second-embedded, second-state}
 use Rattle.mls_automaton.proofs.Lists.{All-contained, Contains-cases, Contains-map_back}
-use Rattle.mls_biunify.specs.declared.goal.Goal.{Goal}
-use Rattle.mls_biunify.specs.Relations.{IsGoalOf}
+use Rattle.mls_solver.specs.declared.goal.Goal.{Goal}
+use Rattle.mls_solver.specs.Relations.{IsGoalOf}
 use Rattle.mls_infer.proofs.Grown.{states_more}
 use Rattle.mls_term.specs.declared.term.TermForm.{TermForm}
 use Rattle.mls_term.specs.declared.term.TermForm.TheVariants as form

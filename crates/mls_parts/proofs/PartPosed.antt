@@ -13,7 +13,7 @@ use Rattle.mls_automaton.specs.declared.scheme.Scheme.{Scheme}
 use Rattle.mls_automaton.specs.Automata.{Automaton, empty_head, flow, head_at, polarity_at, HasFlow, IsState}
 use Rattle.mls_automaton.specs.Heads.{head_value}
 use Rattle.mls_automaton.specs.Models.{HasStatesIn, IsClosed, IsInside}
-use Rattle.mls_biunify.specs.Relations.{IsGoal}
+use Rattle.mls_solver.specs.Relations.{IsGoal}
 use Rattle.mls_infer.proofs.Grown.{states_more}
 use Rattle.mls_term.specs.declared.term.TermForm.{TermForm}
 use Rattle.mls_term.specs.declared.term.TermForm.TheVariants as form

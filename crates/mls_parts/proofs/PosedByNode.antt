@@ -19,8 +19,8 @@ use Rattle.mls_automaton.specs.Automata.{empty_head, state_at, HasFlow}
 use Rattle.mls_automaton.specs.Embeddings.{renamed_state}
 use Rattle.mls_automaton.specs.Heads.{set_at}
 use Rattle.mls_automaton.proofs.Lists.{Contains-here, Contains-map, Contains-map_back}
-use Rattle.mls_biunify.specs.declared.goal.Goal.{Goal}
-use Rattle.mls_biunify.specs.Relations.{IsGoal}
+use Rattle.mls_solver.specs.declared.goal.Goal.{Goal}
+use Rattle.mls_solver.specs.Relations.{IsGoal}
 use Rattle.mls_term.specs.declared.term.Part.{Part}
 use Rattle.mls_term.specs.declared.term.TermForm.{TermForm}
 use Rattle.mls_term.specs.declared.term.TermForm.TheVariants as form

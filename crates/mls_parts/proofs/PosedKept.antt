@@ -12,7 +12,7 @@ use Rattle.mls_automaton.specs.declared.automaton.FieldSet.{FieldSet}
 use Rattle.mls_automaton.specs.declared.automaton.State.{State}
 use Rattle.mls_automaton.specs.declared.scheme.Scheme.{Scheme}
 use Rattle.mls_automaton.specs.Automata.{Automaton, empty_head, state_at, head_at, HasFlow}
-use Rattle.mls_biunify.specs.Relations.{IsGoal}
+use Rattle.mls_solver.specs.Relations.{IsGoal}
 use Rattle.mls_term.specs.declared.term.TermForm.{TermForm}
 use Rattle.mls_term.specs.declared.term.TermForm.TheVariants as form
 use Rattle.mls_parts.specs.declared.pose.Posing.{Posing}

@@ -27,7 +27,7 @@ use Rattle.mls_automaton.specs.Schemes.{IsScheme, IsSchemeOf}
 use Rattle.mls_automaton.proofs.Lists.{Contains-cases, Contains-here, Contains-later, Contains-map_back}
 use Rattle.mls_book.specs.Schemes.{binder_passes}
 use Rattle.mls_automaton.specs.Models.{IsInside, IsModel}
-use Rattle.mls_biunify.specs.declared.goal.Goal.{Goal}
+use Rattle.mls_solver.specs.declared.goal.Goal.{Goal}
 use Rattle.mls_infer.proofs.HeadValues.{bool_value, empty_value, function_head-value, int_value, record_head-value, set_one}
 use Rattle.mls_infer.proofs.Grown.{head_value-agree, head_value-moved, model_agree, states_more}
 use Rattle.mls_term.specs.Derivations.{Known}

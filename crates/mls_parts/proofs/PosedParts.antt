@@ -12,7 +12,7 @@ use Rattle.std.proofs.lemmas.List.Elements.{Contains-append_left, Contains-push,
 use Rattle.mls_automaton.specs.declared.automaton.Polarity.TheVariants.{Negative}
 use Rattle.mls_automaton.specs.declared.scheme.Scheme.{Scheme}
 use Rattle.mls_automaton.specs.Automata.{IsState}
-use Rattle.mls_biunify.specs.Relations.{IsGoal}
+use Rattle.mls_solver.specs.Relations.{IsGoal}
 use Rattle.mls_term.specs.declared.term.TermForm.{TermForm}
 use Rattle.mls_term.specs.declared.term.TermForm.TheVariants as form
 use Rattle.mls_term.specs.declared.term.TermNode.{TermNode}

@@ -8,8 +8,8 @@ use Rattle.mls_automaton.specs.declared.scheme.Scheme.{Scheme}
 use Rattle.mls_automaton.specs.Automata.{empty_head, head_at, state_at, HasFlow, IsState}
 use Rattle.mls_automaton.specs.Embeddings.{renamed_state}
 use Rattle.mls_automaton.specs.Models.{HasRisingLabels, HasStatesIn, IsClosed}
-use Rattle.mls_biunify.specs.declared.goal.Goal.{Goal}
-use Rattle.mls_biunify.specs.Relations.{IsGoalOf}
+use Rattle.mls_solver.specs.declared.goal.Goal.{Goal}
+use Rattle.mls_solver.specs.Relations.{IsGoalOf}
 use Rattle.mls_term.specs.declared.term.TermForm.{TermForm}
 use Rattle.mls_term.specs.declared.term.TermForm.TheVariants as form
 use Rattle.mls_parts.specs.declared.pose.Need.{Need}

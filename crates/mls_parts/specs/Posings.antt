@@ -15,7 +15,7 @@ use Rattle.mls_automaton.specs.Embeddings.{renamed_head, renamed_state}
 use Rattle.mls_automaton.specs.Heads.{set_at, AreRising}
 use Rattle.mls_automaton.specs.Models.{IsClosed}
 use Rattle.mls_automaton.specs.Schemes.{state_of}
-use Rattle.mls_biunify.specs.declared.goal.Goal.{Goal}
+use Rattle.mls_solver.specs.declared.goal.Goal.{Goal}
 use Rattle.mls_term.specs.declared.term.Part.{Part}
 use Rattle.mls_term.specs.declared.term.TermForm.{TermForm}
 use Rattle.mls_term.specs.declared.term.TermForm.TheVariants as form

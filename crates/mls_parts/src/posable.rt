@@ -23,8 +23,8 @@ use mls_automaton::automaton::{Arms, Automaton, FieldSet, FieldSets, Head, Polar
 use mls_automaton::scheme::{EnvEntry, Scheme};
 use mls_automaton::state_set::{StateId, StateSet};
 use mls_base::memory::Memory;
-use mls_biunify::goal::is_state;
 use mls_book::name::Name;
+use mls_solver::goal::is_state;
 use mls_term::term::{Part, TermForm, TermNode};
 use std::alloc::Global;
 use std::collections::{BTreeMap, BTreeSet};

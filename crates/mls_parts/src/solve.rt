@@ -1,16 +1,16 @@
 //! The solved automaton of a constraint, and the pairs of states that solving relates.
 ghost use Rattle.std.specs.Prelude.{All, IfOk};
 ghost use Rattle.mls_automaton.specs.Models.{IsClosed};
-ghost use Rattle.mls_biunify.specs.Relations.{IsGoal, IsGoalOf, IsRelated};
-ghost use Rattle.mls_biunify.specs.Rooms.{Holds, HoldsJust, HoldsStates};
-ghost use Rattle.mls_biunify.specs.Solved.{IsSolved};
+ghost use Rattle.mls_solver.specs.Relations.{IsGoal, IsGoalOf, IsRelated};
+ghost use Rattle.mls_solver.specs.Rooms.{Holds, HoldsJust, HoldsStates};
+ghost use Rattle.mls_solver.specs.Solved.{IsSolved};
 
 use mls_automaton::automaton::Automaton;
 use mls_base::memory::Memory;
-use mls_biunify::found::Found;
-use mls_biunify::goal::Goal;
-use mls_biunify::search::search;
-use mls_biunify::settle::settle;
+use mls_solver::found::Found;
+use mls_solver::goal::Goal;
+use mls_solver::search::search;
+use mls_solver::settle::settle;
 use std::alloc::Global;
 
 /// The related pairs of a constraint, and its solved automaton.

@@ -23,8 +23,8 @@ use Rattle.mls_automaton.proofs.Instances.{plain}
 use Rattle.mls_automaton.specs.declared.automaton.HeadKind.{HeadKind}
 use Rattle.mls_automaton.specs.declared.automaton.HeadKind.TheVariants as kind
 use Rattle.mls_automaton.specs.Automata.{has_kind}
-use Rattle.mls_biunify.specs.Relations.{InDomain, InCodomain, InField}
-use Rattle.mls_biunify.proofs.Following.{in_domain-state, in_codomain-state, in_field-state}
+use Rattle.mls_solver.specs.Relations.{InDomain, InCodomain, InField}
+use Rattle.mls_solver.proofs.Following.{in_domain-state, in_codomain-state, in_field-state}
 use Rattle.mls_flow.proofs.Quiet.{quiet, loud, loud_inside, state_quiet}
 use Rattle.mls_flow.proofs.Separating.{single-value, single-field}
 use Rattle.mls_subsume.specs.declared.verdict.Step.{Step}

@@ -22,7 +22,7 @@ use Rattle.mls_automaton.specs.Automata.{has_kind, head_at}
 use Rattle.mls_automaton.specs.Heads.{AreRising, set_at}
 use Rattle.mls_automaton.proofs.CombinedStates.{found_at}
 use Rattle.mls_automaton.proofs.JoinedFields.{rising-less}
-use Rattle.mls_biunify.specs.Clashes.{rank}
+use Rattle.mls_solver.specs.Clashes.{rank}
 use Rattle.mls_flow.proofs.Fields.{set_at-field}
 use Rattle.mls_subsume.specs.declared.verdict.Reason.{Reason}
 use Rattle.mls_subsume.specs.declared.verdict.Reason.TheVariants as reason

@@ -14,7 +14,7 @@ use Rattle.mls_automaton.specs.Automata.{Automaton, head_at}
 use Rattle.mls_automaton.specs.Heads.{AreRising, set_at}
 use Rattle.mls_automaton.specs.Models.{HasRisingLabels, HasSingleArms, HasSingleFields, IsDeterministic, IsSingle}
 use Rattle.mls_automaton.proofs.Lists.{All-contained, Contains-here, Contains-cases}
-use Rattle.mls_biunify.specs.Relations.{InDomain, InCodomain, InField}
+use Rattle.mls_solver.specs.Relations.{InDomain, InCodomain, InField}
 use Rattle.mls_flow.specs.Needs.{only}
 use Rattle.mls_flow.proofs.Fields.{set_at-field, field-set_at}
 use Rattle.mls_flow.proofs.Separating.{single-field}

@@ -13,7 +13,7 @@ use Rattle.mls_automaton.specs.declared.scheme.Scheme.{Scheme}
 use Rattle.mls_automaton.specs.Automata.{polarity_at, head_at, HasFlow}
 use Rattle.mls_automaton.specs.Heads.{set_at}
 use Rattle.mls_automaton.specs.Automata.{has_kind}
-use Rattle.mls_biunify.specs.Clashes.{rank}
+use Rattle.mls_solver.specs.Clashes.{rank}
 use Rattle.mls_flow.specs.Admissible.{IsAdmissible}
 use Rattle.mls_subsume.specs.declared.verdict.Step.{Step}
 use Rattle.mls_subsume.specs.declared.verdict.Step.TheVariants as step

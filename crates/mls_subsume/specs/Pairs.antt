@@ -2,7 +2,7 @@
 use Rattle.std.specs.Prelude.{ℕ, List, [], ◌∷◌}
 use Rattle.mls_automaton.specs.declared.scheme.Scheme.{Scheme}
 use Rattle.mls_automaton.specs.Automata.{Automaton}
-use Rattle.mls_biunify.specs.Relations.{InDomain, InCodomain, InField}
+use Rattle.mls_solver.specs.Relations.{InDomain, InCodomain, InField}
 use Rattle.mls_subsume.specs.declared.verdict.Step.{Step}
 use Rattle.mls_subsume.specs.declared.verdict.Step.TheVariants as step
 

@@ -6,7 +6,7 @@ use Rattle.std.proofs.lemmas.Option.{slice_get_within, slice_get-get_or}
 use Rattle.std.specs.Prelude.{slice_get, Option, Some, Ok, Err}
 use Rattle.mls_base.specs.Files.{Files}
 use Rattle.mls_automaton.proofs.Lists.{Contains-here}
-use Rattle.mls_biunify.proofs.Taking.{slice_get-contains}
+use Rattle.mls_solver.proofs.Taking.{slice_get-contains}
 use Rattle.mls_grammar.specs.declared.module.Import.{Import}
 use Rattle.mls_grammar.specs.declared.module.Module.{Module}
 use Rattle.mls_grammar.specs.Trees.{ImportTree}

@@ -5,9 +5,9 @@ use Rattle.mls_automaton.specs.declared.state_set.StateId.{StateId}
 use Rattle.mls_automaton.specs.Automata.{HasFlow, empty_head, head_at, state_at}
 use Rattle.mls_automaton.specs.Reached.{Names}
 use Rattle.mls_automaton.specs.steps.Searching.{Found, Grows, IsBelow, IsMarked}
+use Rattle.mls_solver.specs.steps.Among.{is_among}
 use Rattle.mls_biunify.specs.Live.{IsReachedFrom}
 use Rattle.mls_biunify.specs.declared.reach.Search.{Search}
-use Rattle.mls_biunify.specs.steps.Among.{is_among}
 use Rattle.mls_biunify.specs.steps.Tables.{Numbered}
 
 -- whether each number below the limit is among these

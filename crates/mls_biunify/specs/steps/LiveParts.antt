@@ -1,7 +1,7 @@
 -- What holds of the parts of a table of states.
 use Rattle.std.specs.Prelude.{Bool, cond, Some, None}
+use Rattle.mls_solver.specs.Rooms.{Room}
 use Rattle.mls_biunify.specs.Live.{Live}
-use Rattle.mls_biunify.specs.Rooms.{Room}
 use Rattle.mls_biunify.specs.steps.Tables.{Numbered}
 use Rattle.mls_biunify.specs.declared.live.Live.TheInside.{Inside}
 

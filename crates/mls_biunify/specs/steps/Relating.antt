@@ -1,6 +1,6 @@
 -- What holds of the parts of a relation that grows.
 use Rattle.std.specs.Prelude.{◌↔◌, ℕ, List, [], length, Contains}
-use Rattle.mls_biunify.specs.Rooms.{Room}
+use Rattle.mls_solver.specs.Rooms.{Room}
 use Rattle.mls_biunify.specs.steps.TwoWay.{TwoWay, HasPair}
 use Rattle.mls_biunify.specs.declared.relation.Relation.TheInside.{Inside}
 

@@ -3,9 +3,9 @@ use Rattle.std.specs.Prelude.{◌≡◌, ◌↔◌, ◌⊎◌, ℕ, true, false,
 use Rattle.mls_automaton.specs.declared.automaton.Head.{Head}
 use Rattle.mls_automaton.specs.Automata.{Automaton, HasFlow, polarity_at, state_at}
 use Rattle.mls_automaton.specs.Models.{HasRisingLabels, HasStatesIn}
+use Rattle.mls_solver.specs.Solved.{IsNewFlow}
+use Rattle.mls_solver.specs.steps.Solving.{IsSolvedState, IsSolvedFlow}
 use Rattle.mls_biunify.specs.Live.{IsStateIn}
-use Rattle.mls_biunify.specs.Solved.{IsNewFlow}
-use Rattle.mls_biunify.specs.steps.Solving.{IsSolvedState, IsSolvedFlow}
 use Rattle.mls_biunify.specs.steps.Tables.{Numbered}
 
 -- some element of the list gives it

@@ -7,8 +7,8 @@ use Rattle.mls_automaton.specs.declared.automaton.Polarity.TheVariants.{Positive
 use Rattle.mls_automaton.specs.declared.automaton.Head.{Head}
 use Rattle.mls_automaton.specs.declared.automaton.State.{State}
 use Rattle.mls_automaton.specs.Automata.{Automaton, HasFlow, empty_head, state_at}
+use Rattle.mls_solver.specs.Rooms.{Room, Holds}
 use Rattle.mls_biunify.specs.Live.{IsTable, IsStateIn, free_state}
-use Rattle.mls_biunify.specs.Rooms.{Room, Holds}
 use Rattle.mls_biunify.specs.steps.TwoWay.{TwoWay, flows_from}
 
 -- the states, where free numbers stand as a positive state with nothing, and which numbers are there; they are below

@@ -3,7 +3,7 @@ ghost use Rattle.std.specs.Prelude.{◌≡◌, ℕ, ◌<◌, ◌+◌, [], length
 ghost use Rattle.mls_automaton.specs.Environments.{BindersRise};
 ghost use Rattle.mls_automaton.specs.Models.{IsClosed};
 ghost use Rattle.mls_automaton.specs.Schemes.{IsScheme};
-ghost use Rattle.mls_biunify.specs.Rooms.{HoldsStates};
+ghost use Rattle.mls_solver.specs.Rooms.{HoldsStates};
 ghost use Rattle.mls_term.specs.declared.term.TermForm.TheVariants as form;
 ghost use Rattle.mls_scheme.specs.ReadTypes.{IsReadFromBook};
 ghost use Rattle.mls_iface.specs.Matches.{IsRead};

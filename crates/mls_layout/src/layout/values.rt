@@ -3,7 +3,7 @@ ghost use Rattle.std.specs.Prelude.{◌≡◌, ◌↔◌, ℕ, ◌<◌, ◌++◌
 ghost use Rattle.mls_automaton.specs.declared.automaton.Polarity.TheVariants.{Positive, Negative};
 ghost use Rattle.mls_automaton.specs.Automata.{IsState, polarity_at};
 ghost use Rattle.mls_automaton.specs.Models.{IsClosed};
-ghost use Rattle.mls_biunify.specs.Rooms.{Holds, HoldsStates};
+ghost use Rattle.mls_solver.specs.Rooms.{Holds, HoldsStates};
 ghost use Rattle.mls_layout.specs.Trees.{IsNodeIn};
 ghost use Rattle.mls_layout.specs.steps.Owned.{HaveTrees};
 ghost use Rattle.mls_layout.specs.steps.Planned.{Extends};
@@ -16,8 +16,8 @@ use crate::tree::NodeIds;
 use mls_automaton::automaton::{Automaton, Polarity};
 use mls_automaton::state_set::StateId;
 use mls_base::memory::Memory;
-use mls_biunify::found::Found;
 use mls_book::book::NodeId;
+use mls_solver::found::Found;
 use std::alloc::Global;
 
 /// Adds nodes to a list.

@@ -1,5 +1,5 @@
+use Rattle.mls_solver.proofs.Answered.{always_err}
 use Rattle.mls_biunify.specs.steps.Absorbing.{AreUnfilled}
-use Rattle.mls_biunify.proofs.Answered.{always_err}
 use Rattle.mls_biunify.proofs.Filling.{edges-fit, heads-fit, filled, unfilled}
 use Rattle.mls_biunify.proofs.absorb.fill.Goals as goal
 

@@ -1,7 +1,7 @@
 use Rattle.std.proofs.Common.{[], ◌∷◌, sym, ap, ◌∙◌}
 use Rattle.std.specs.Ordering.{is_le}
-use Rattle.mls_biunify.specs.Clashes.{key_cmp, kind_key}
-use Rattle.mls_biunify.proofs.FirstClashes.{earlier_right}
+use Rattle.mls_solver.specs.Clashes.{key_cmp, kind_key}
+use Rattle.mls_solver.proofs.FirstClashes.{earlier_right}
 use Rattle.mls_biunify.proofs.clash.earlier_of.Goals as goal
 
 pub returns-else-is_le : goal.returns-else-is_le

@@ -1,6 +1,6 @@
 use Rattle.std.proofs.Common.{◌≡◌, length, subst, arith}
-use Rattle.mls_biunify.specs.steps.FirstClashes.{IsFirstOf, IsPairBelow}
-use Rattle.mls_biunify.proofs.FirstClashes.{first_none, first_more, none_at_all, first_at_all}
+use Rattle.mls_solver.specs.steps.FirstClashes.{IsFirstOf, IsPairBelow}
+use Rattle.mls_solver.proofs.FirstClashes.{first_none, first_more, none_at_all, first_at_all}
 use Rattle.mls_biunify.proofs.RelatedThere.{first_there, found_there}
 use Rattle.mls_biunify.proofs.clash.first_clash_of.Goals as goal
 

@@ -1,7 +1,7 @@
 use Rattle.std.proofs.Common.{◌≡◌, ◌∙◌, ℕ, List, Contains, get_or, refl, subst}
 use Rattle.mls_automaton.specs.declared.automaton.Polarity.TheVariants.{Positive, Negative}
 use Rattle.mls_automaton.specs.Automata.{HasFlow}
-use Rattle.mls_biunify.proofs.Relating.{element}
+use Rattle.mls_solver.proofs.Relating.{element}
 use Rattle.mls_biunify.proofs.Collected.{collected-none, collected-more, collected-all}
 use Rattle.mls_biunify.proofs.Copied.{has-kept, flows-given}
 use Rattle.mls_biunify.proofs.copy.copy_flows_from.Goals as goal

@@ -1,6 +1,6 @@
 use Rattle.std.proofs.Common.{ℕ, ◌<◌, get_or, sym, subst}
 use Rattle.std.proofs.lemmas.List.Elements.{Contains-get_or}
-use Rattle.mls_biunify.proofs.Relating.{take-all}
+use Rattle.mls_solver.proofs.Relating.{take-all}
 use Rattle.mls_biunify.proofs.IndexedPairs.{cleared-none, cleared-more, cleared-all}
 use Rattle.mls_biunify.proofs.edges.clear_first.Goals as goal
 

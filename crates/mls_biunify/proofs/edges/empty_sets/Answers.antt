@@ -1,5 +1,5 @@
+use Rattle.mls_solver.proofs.Relating.{take-all}
 use Rattle.mls_biunify.proofs.CutSets.{empties-all, empties-low, empties-more, empties-none}
-use Rattle.mls_biunify.proofs.Relating.{take-all}
 use Rattle.mls_biunify.proofs.edges.empty_sets.Goals as goal
 
 pub loop-s-init : goal.loop-s-init

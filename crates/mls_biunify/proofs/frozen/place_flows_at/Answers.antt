@@ -1,7 +1,7 @@
 use Rattle.std.proofs.Common.{◌∙◌, ℕ, List, Contains, get_or, refl, subst}
 use Rattle.mls_automaton.specs.Automata.{HasFlow}
+use Rattle.mls_solver.proofs.Relating.{element}
 use Rattle.mls_biunify.specs.steps.Placing.{IsFlowTo}
-use Rattle.mls_biunify.proofs.Relating.{element}
 use Rattle.mls_biunify.proofs.Collected.{collected-none, collected-more, collected-all}
 use Rattle.mls_biunify.proofs.PlacedStates.{flow-may_place, flows-placed, number-there}
 use Rattle.mls_biunify.proofs.frozen.place_flows_at.Goals as goal

@@ -2,8 +2,8 @@ use Rattle.std.proofs.Common.{◌≡◌, true, false, get_or}
 use Rattle.std.proofs.lemmas.List.Elements.{All-contains, Contains-get_or}
 use Rattle.mls_automaton.specs.declared.state_set.StateId.{StateId}
 use Rattle.mls_automaton.specs.Automata.{HasFlow}
+use Rattle.mls_solver.proofs.Relating.{take-all}
 use Rattle.mls_biunify.proofs.KeptTables.{shortened-all, shortened-more, shortened-none}
-use Rattle.mls_biunify.proofs.Relating.{take-all}
 use Rattle.mls_biunify.proofs.keep.cuts_before.Goals as goal
 
 pub loop-s-init : goal.loop-s-init

@@ -1,7 +1,7 @@
 use Rattle.std.proofs.Common.{◌≡◌, ◌⊎◌, ◌↔◌, [], ℕ, List, take, Contains, subst, sym}
-use Rattle.mls_biunify.specs.steps.Numbers.{ByOne}
+use Rattle.mls_solver.specs.steps.Numbers.{ByOne}
+use Rattle.mls_solver.proofs.Settling.{grow-none, grow-more, grow-all}
 use Rattle.mls_biunify.proofs.KeptTables.{found-all}
-use Rattle.mls_biunify.proofs.Settling.{grow-none, grow-more, grow-all}
 use Rattle.mls_biunify.proofs.keep.left_of.Goals as goal
 
 pub loop-s-init : goal.loop-s-init

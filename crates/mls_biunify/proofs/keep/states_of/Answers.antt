@@ -1,9 +1,9 @@
 use Rattle.std.proofs.Common.{◌++◌, ◌∙◌, ap, sym}
 use Rattle.std.specs.Map.Iter.{deref}
 use Rattle.std.proofs.lemmas.Map.Iter.{rest_more, rest_all}
+use Rattle.mls_solver.proofs.Settling.{listed_more, listed_all}
 use Rattle.mls_biunify.specs.Live.{numbers_in}
 use Rattle.mls_biunify.proofs.Regions.{numbers-more}
-use Rattle.mls_biunify.proofs.Settling.{listed_more, listed_all}
 use Rattle.mls_biunify.proofs.keep.states_of.Goals as goal
 
 pub loop-s-init : goal.loop-s-init

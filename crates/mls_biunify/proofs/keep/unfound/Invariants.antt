@@ -1,6 +1,6 @@
 use Rattle.std.proofs.Common.{◌≡◌, ◌⊎◌, [], ℕ, take, Contains}
 use Rattle.std.specs.Prelude.{◌↔◌}
-use Rattle.mls_biunify.specs.steps.Numbers.{ByOne}
+use Rattle.mls_solver.specs.steps.Numbers.{ByOne}
 use Rattle.mls_biunify.proofs.keep.unfound.Given as goal
 
 -- those of the states so far

@@ -1,7 +1,7 @@
 use Rattle.std.proofs.Common.{List, ℕ, All, get_or, rules, subst}
+use Rattle.mls_solver.proofs.Relating.{take-all}
 use Rattle.mls_biunify.specs.steps.Keeping.{WasFound}
 use Rattle.mls_biunify.proofs.KeptTables.{found-first}
-use Rattle.mls_biunify.proofs.Relating.{take-all}
 use Rattle.mls_biunify.proofs.keep.were_found.Goals as goal
 
 pub loop-s-preserved : goal.loop-s-preserved

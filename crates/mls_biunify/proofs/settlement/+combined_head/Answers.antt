@@ -3,7 +3,7 @@ use Rattle.std.specs.Prelude.{IfOk}
 use Rattle.mls_automaton.specs.declared.automaton.Head.{Head}
 use Rattle.mls_automaton.specs.Automata.{head_at}
 use Rattle.mls_automaton.specs.Heads.{combined_two, parts_of, IsSameParts}
-use Rattle.mls_biunify.proofs.CombinedHeads.{both_ok, halves_ok}
+use Rattle.mls_solver.proofs.CombinedHeads.{both_ok, halves_ok}
 use Rattle.mls_biunify.proofs.settlement.+combined_head.Goals as goal
 
 pub returns-clause-parts : goal.returns-clause-parts

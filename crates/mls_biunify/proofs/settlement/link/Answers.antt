@@ -1,6 +1,6 @@
 use Rattle.std.proofs.Common.{true, false, ◌≡◌, ◌∙◌, ℕ, List, [], ◌∷◌, ◌++◌, ap}
+use Rattle.mls_solver.proofs.Answered.{always_err}
 use Rattle.mls_biunify.specs.steps.Settlement.{AddsEdges}
-use Rattle.mls_biunify.proofs.Answered.{always_err}
 use Rattle.mls_biunify.proofs.SettledLinks.{links-there, links-new, adds-none}
 use Rattle.mls_biunify.proofs.settlement.link.Goals as goal
 

@@ -1,9 +1,9 @@
 use Rattle.std.proofs.Common.{◌↔◌, ◌⊎◌, ℕ, List, Contains, subst}
 use Rattle.mls_automaton.specs.declared.automaton.Polarity.TheVariants.{Positive, Negative}
-use Rattle.mls_biunify.specs.Rooms.{Holds}
+use Rattle.mls_solver.specs.Rooms.{Holds}
+use Rattle.mls_solver.specs.steps.Solving.{AreMembers}
+use Rattle.mls_solver.proofs.Answered.{if_ok}
 use Rattle.mls_biunify.specs.steps.Settlement.{GivenBy}
-use Rattle.mls_biunify.specs.steps.Solving.{AreMembers}
-use Rattle.mls_biunify.proofs.Answered.{if_ok}
 use Rattle.mls_biunify.proofs.SettledHeads.{positive-members, negative-members, partners_low}
 use Rattle.mls_biunify.proofs.settlement.members.Goals as goal
 

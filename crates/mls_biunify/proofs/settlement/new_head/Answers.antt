@@ -1,5 +1,5 @@
 use Rattle.std.proofs.Common.{◌≡◌, true, false, List, ℕ, All, get_or, subst, sym}
-use Rattle.mls_biunify.specs.Rooms.{Holds}
+use Rattle.mls_solver.specs.Rooms.{Holds}
 use Rattle.mls_biunify.proofs.SettledHeads.{members_there, solved_state}
 use Rattle.mls_biunify.proofs.settlement.new_head.Goals as goal
 

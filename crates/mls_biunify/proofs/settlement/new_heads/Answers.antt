@@ -1,7 +1,7 @@
 use Rattle.std.proofs.Common.{ℕ, List, subst}
-use Rattle.mls_biunify.specs.Rooms.{Holds}
+use Rattle.mls_solver.specs.Rooms.{Holds}
+use Rattle.mls_solver.proofs.Relating.{take-all}
 use Rattle.mls_biunify.specs.steps.Settlement.{AreNewHeads}
-use Rattle.mls_biunify.proofs.Relating.{take-all}
 use Rattle.mls_biunify.proofs.SettledHeads.{heads-none, heads-more}
 use Rattle.mls_biunify.proofs.settlement.new_heads.Goals as goal
 

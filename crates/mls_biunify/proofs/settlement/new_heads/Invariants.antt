@@ -1,5 +1,5 @@
 use Rattle.std.proofs.Common.{take}
-use Rattle.mls_biunify.specs.Rooms.{Holds}
+use Rattle.mls_solver.specs.Rooms.{Holds}
 use Rattle.mls_biunify.specs.steps.Settlement.{AreNewHeads}
 use Rattle.mls_biunify.proofs.settlement.new_heads.Given as goal
 

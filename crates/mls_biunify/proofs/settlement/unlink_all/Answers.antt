@@ -1,7 +1,7 @@
 use Rattle.std.proofs.Common.{ℕ, List, get_or, subst, arith}
 use Rattle.std.proofs.lemmas.List.Elements.{Contains-get_or}
+use Rattle.mls_solver.proofs.Relating.{take-all}
 use Rattle.mls_biunify.specs.steps.Settlement.{Unlinks}
-use Rattle.mls_biunify.proofs.Relating.{take-all}
 use Rattle.mls_biunify.proofs.SettledLinks.{same-there-in, unlinks-none, unlinks-more}
 use Rattle.mls_biunify.proofs.settlement.unlink_all.Goals as goal
 

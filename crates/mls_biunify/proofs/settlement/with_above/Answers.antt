@@ -1,5 +1,5 @@
 use Rattle.std.proofs.Common.{Contains, get_or}
-use Rattle.mls_biunify.specs.Rooms.{Holds}
+use Rattle.mls_solver.specs.Rooms.{Holds}
 use Rattle.mls_biunify.proofs.Collected.{collected-none, collected-more, collected-all, same_given}
 use Rattle.mls_biunify.proofs.settlement.with_above.Goals as goal
 

@@ -1,5 +1,5 @@
 use Rattle.std.proofs.Common.{take, Contains}
-use Rattle.mls_biunify.specs.Rooms.{Holds}
+use Rattle.mls_solver.specs.Rooms.{Holds}
 use Rattle.mls_biunify.proofs.Collected.{Collected}
 use Rattle.mls_biunify.proofs.settlement.with_above.Given as goal
 

@@ -1,8 +1,8 @@
 use Rattle.std.proofs.Common.{ℕ, List, Contains, get_or, ◌<◌, ◌≤◌, subst, sym, arith}
 use Rattle.mls_automaton.specs.Automata.{HasFlow}
-use Rattle.mls_biunify.proofs.Relating.{element, take-all}
+use Rattle.mls_solver.proofs.Relating.{element, take-all}
+use Rattle.mls_solver.proofs.Taking.{Follows-none, after-follows, after-more}
 use Rattle.mls_biunify.proofs.TableSteps.{table-closed}
-use Rattle.mls_biunify.proofs.Taking.{Follows-none, after-follows, after-more}
 use Rattle.mls_biunify.proofs.worklist.add_after.Goals as goal
 
 pub loop-q-init : goal.loop-q-init

@@ -1,6 +1,6 @@
 use Rattle.std.proofs.Common.{ℕ, take, Contains}
-use Rattle.mls_biunify.specs.Rooms.{Holds}
-use Rattle.mls_biunify.specs.steps.Consequences.{Follows}
+use Rattle.mls_solver.specs.Rooms.{Holds}
+use Rattle.mls_solver.specs.steps.Consequences.{Follows}
 use Rattle.mls_biunify.proofs.worklist.add_after.Given as goal
 
 abbrev pub invariant-loop-q : goal.invariant-loop-q

@@ -1,7 +1,7 @@
 use Rattle.std.proofs.Common.{◌<◌, Contains, Some, refl, subst, sym}
-use Rattle.mls_biunify.specs.steps.Consequences.{ByFunctions}
-use Rattle.mls_biunify.proofs.Relating.{Relates-then}
-use Rattle.mls_biunify.proofs.HeadRules.{by_domain, by_codomain, by_functions-cases}
+use Rattle.mls_solver.specs.steps.Consequences.{ByFunctions}
+use Rattle.mls_solver.proofs.Relating.{Relates-then}
+use Rattle.mls_solver.proofs.HeadRules.{by_domain, by_codomain, by_functions-cases}
 use Rattle.mls_biunify.proofs.worklist.add_by_arms.Goals as goal
 
 pub add_sets-requires : goal.add_sets-requires

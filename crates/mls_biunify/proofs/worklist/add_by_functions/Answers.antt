@@ -1,7 +1,7 @@
 use Rattle.std.proofs.Common.{Some, Option, OnOk, subst, sym}
 use Rattle.mls_automaton.specs.declared.automaton.Arms.{Arms}
-use Rattle.mls_biunify.specs.steps.Growth.{Relates}
-use Rattle.mls_biunify.specs.steps.Consequences.{ByFunctions}
+use Rattle.mls_solver.specs.steps.Growth.{Relates}
+use Rattle.mls_solver.specs.steps.Consequences.{ByFunctions}
 use Rattle.mls_biunify.proofs.worklist.add_by_functions.Goals as goal
 
 pub add_by_arms-requires : goal.add_by_arms-requires

@@ -1,6 +1,6 @@
 use Rattle.std.proofs.Common.{inl, inr}
-use Rattle.mls_biunify.specs.steps.Consequences.{ByFunctions, ByRecords, ByHeads}
-use Rattle.mls_biunify.proofs.Relating.{Relates-then}
+use Rattle.mls_solver.specs.steps.Consequences.{ByFunctions, ByRecords, ByHeads}
+use Rattle.mls_solver.proofs.Relating.{Relates-then}
 use Rattle.mls_biunify.proofs.worklist.add_by_heads.Goals as goal
 
 pub returns : goal.returns

@@ -1,8 +1,8 @@
-use Rattle.mls_biunify.specs.steps.Growth.{BySome, Relates}
-use Rattle.mls_biunify.specs.steps.Consequences.{ByField, ByRecords}
-use Rattle.mls_biunify.proofs.Answered.{on_ok}
-use Rattle.mls_biunify.proofs.Relating.{Relates-same}
-use Rattle.mls_biunify.proofs.HeadRules.{by_records-to, by_records-from}
+use Rattle.mls_solver.specs.steps.Growth.{BySome, Relates}
+use Rattle.mls_solver.specs.steps.Consequences.{ByField, ByRecords}
+use Rattle.mls_solver.proofs.Answered.{on_ok}
+use Rattle.mls_solver.proofs.Relating.{Relates-same}
+use Rattle.mls_solver.proofs.HeadRules.{by_records-to, by_records-from}
 use Rattle.mls_biunify.proofs.worklist.add_by_records.Goals as goal
 
 pub add_fields-requires : goal.add_fields-requires

@@ -1,7 +1,7 @@
 use Rattle.std.proofs.Common.{◌≤◌, subst, sym}
 use Rattle.mls_automaton.specs.declared.automaton.Head.{Head}
 use Rattle.mls_automaton.specs.Automata.{head_at}
-use Rattle.mls_biunify.specs.steps.Consequences.{ByHeads}
+use Rattle.mls_solver.specs.steps.Consequences.{ByHeads}
 use Rattle.mls_biunify.proofs.RelatedThere.{heads_fit, pair_consequences, heads_grow, grown_kept}
 use Rattle.mls_biunify.proofs.worklist.add_consequences.Goals as goal
 

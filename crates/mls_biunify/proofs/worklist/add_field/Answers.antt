@@ -1,9 +1,9 @@
 use Rattle.std.proofs.Common.{Contains}
-use Rattle.mls_biunify.specs.steps.Growth.{Relates}
-use Rattle.mls_biunify.specs.steps.Consequences.{ByField}
-use Rattle.mls_biunify.proofs.Answered.{on_ok}
-use Rattle.mls_biunify.proofs.Relating.{Relates-same}
-use Rattle.mls_biunify.proofs.HeadRules.{by_field-to, by_field-from}
+use Rattle.mls_solver.specs.steps.Growth.{Relates}
+use Rattle.mls_solver.specs.steps.Consequences.{ByField}
+use Rattle.mls_solver.proofs.Answered.{on_ok}
+use Rattle.mls_solver.proofs.Relating.{Relates-same}
+use Rattle.mls_solver.proofs.HeadRules.{by_field-to, by_field-from}
 use Rattle.mls_biunify.proofs.worklist.add_field.Goals as goal
 
 pub add_sets-requires : goal.add_sets-requires

@@ -1,8 +1,8 @@
 use Rattle.std.proofs.Common.{◌<◌, subst, sym}
 use Rattle.mls_automaton.specs.declared.automaton.FieldSet.{FieldSet}
-use Rattle.mls_biunify.specs.steps.Growth.{Relates}
-use Rattle.mls_biunify.specs.steps.Consequences.{ByField}
-use Rattle.mls_biunify.proofs.Relating.{Relates-more, Relates-all}
+use Rattle.mls_solver.specs.steps.Growth.{Relates}
+use Rattle.mls_solver.specs.steps.Consequences.{ByField}
+use Rattle.mls_solver.proofs.Relating.{Relates-more, Relates-all}
 use Rattle.mls_biunify.proofs.worklist.add_fields.Goals as goal
 
 pub add_field-requires : goal.add_field-requires

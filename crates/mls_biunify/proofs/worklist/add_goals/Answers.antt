@@ -1,9 +1,9 @@
 use Rattle.std.proofs.Common.{get_or, ◌<◌, subst, sym}
-use Rattle.mls_biunify.specs.declared.goal.Goal.{Goal}
-use Rattle.mls_biunify.specs.Relations.{IsGoal}
-use Rattle.mls_biunify.specs.steps.Growth.{BySome}
-use Rattle.mls_biunify.proofs.Relating.{Relates-more, Relates-all, Relates-same}
-use Rattle.mls_biunify.proofs.HeadRules.{ByGoal, by_goals-to, by_goals-from}
+use Rattle.mls_solver.specs.declared.goal.Goal.{Goal}
+use Rattle.mls_solver.specs.Relations.{IsGoal}
+use Rattle.mls_solver.specs.steps.Growth.{BySome}
+use Rattle.mls_solver.proofs.Relating.{Relates-more, Relates-all, Relates-same}
+use Rattle.mls_solver.proofs.HeadRules.{ByGoal, by_goals-to, by_goals-from}
 use Rattle.mls_biunify.proofs.worklist.add_goals.Goals as goal
 
 abbrev no_goal : Goal

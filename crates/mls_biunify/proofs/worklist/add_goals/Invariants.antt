@@ -1,6 +1,6 @@
 use Rattle.std.proofs.Common.{◌≡◌, take}
-use Rattle.mls_biunify.specs.declared.goal.Goal.{Goal}
-use Rattle.mls_biunify.specs.steps.Growth.{BySome, Relates}
+use Rattle.mls_solver.specs.declared.goal.Goal.{Goal}
+use Rattle.mls_solver.specs.steps.Growth.{BySome, Relates}
 use Rattle.mls_biunify.proofs.worklist.add_goals.Given as goal
 
 abbrev pub invariant-loop-goal : goal.invariant-loop-goal

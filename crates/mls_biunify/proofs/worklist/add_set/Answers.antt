@@ -1,5 +1,5 @@
 use Rattle.std.proofs.Common.{◌<◌, ◌≡◌, get_or, subst, sym}
-use Rattle.mls_biunify.proofs.Relating.{element, Relates-more, Relates-all}
+use Rattle.mls_solver.proofs.Relating.{element, Relates-more, Relates-all}
 use Rattle.mls_biunify.proofs.worklist.add_set.Goals as goal
 
 pub add-requires-clause-positive : goal.add-requires-clause-positive

@@ -1,6 +1,6 @@
 use Rattle.std.proofs.Common.{◌<◌, ◌≡◌, ℕ, Contains, get_or, refl, subst, sym}
-use Rattle.mls_biunify.specs.steps.Growth.{BySome}
-use Rattle.mls_biunify.proofs.Relating.{element, Relates-more, Relates-all, Relates-same}
+use Rattle.mls_solver.specs.steps.Growth.{BySome}
+use Rattle.mls_solver.proofs.Relating.{element, Relates-more, Relates-all, Relates-same}
 use Rattle.mls_biunify.proofs.worklist.add_sets.Goals as goal
 
 pub add_set-requires : goal.add_set-requires

@@ -1,5 +1,5 @@
 use Rattle.std.proofs.Common.{◌≡◌, take}
-use Rattle.mls_biunify.specs.steps.Growth.{BySome, Relates}
+use Rattle.mls_solver.specs.steps.Growth.{BySome, Relates}
 use Rattle.mls_biunify.proofs.worklist.add_sets.Given as goal
 
 abbrev pub invariant-loop-p : goal.invariant-loop-p

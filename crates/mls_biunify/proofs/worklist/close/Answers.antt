@@ -1,5 +1,5 @@
 use Rattle.std.proofs.Common.{◌≡◌, ◌<◌, ◌≤◌, length, sym, subst, arith}
-use Rattle.mls_biunify.proofs.Taking.{taken-none, taken-next, taken-all}
+use Rattle.mls_solver.proofs.Taking.{taken-none, taken-next, taken-all}
 use Rattle.mls_biunify.proofs.RelatedThere.{there_at}
 use Rattle.mls_biunify.proofs.worklist.close.Goals as goal
 

@@ -1,5 +1,5 @@
 use Rattle.std.proofs.Common.{◌^◌, ◌-◌}
-use Rattle.mls_biunify.specs.steps.Consequences.{AreTaken}
+use Rattle.mls_solver.specs.steps.Consequences.{AreTaken}
 use Rattle.mls_biunify.proofs.worklist.close.Given as goal
 
 abbrev pub invariant-loop-next : goal.invariant-loop-next

@@ -1,5 +1,5 @@
 use Rattle.std.proofs.Common.{◌≡◌, ◌∙◌, ◌↔◌, ◌<◌, ℕ, List, Contains, subst, sym}
-use Rattle.mls_biunify.specs.Rooms.{Holds}
+use Rattle.mls_solver.specs.Rooms.{Holds}
 use Rattle.mls_biunify.proofs.IndexedPairs.{column-copied, only-one}
 use Rattle.mls_biunify.proofs.worklist.copy_column.Goals as goal
 

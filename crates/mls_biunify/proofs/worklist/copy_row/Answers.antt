@@ -1,5 +1,5 @@
 use Rattle.std.proofs.Common.{◌≡◌, ◌∙◌, ◌↔◌, ℕ, List, Contains, subst, sym}
-use Rattle.mls_biunify.specs.Rooms.{Holds}
+use Rattle.mls_solver.specs.Rooms.{Holds}
 use Rattle.mls_biunify.proofs.IndexedPairs.{row-copied}
 use Rattle.mls_biunify.proofs.worklist.copy_row.Goals as goal
 

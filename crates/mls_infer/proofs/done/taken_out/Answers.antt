@@ -2,7 +2,7 @@ use Rattle.std.proofs.Common.{List, subst}
 use Rattle.mls_automaton.specs.declared.scheme.EnvEntry.{EnvEntry}
 use Rattle.mls_automaton.specs.Schemes.{AreEquivalentSchemes}
 use Rattle.mls_biunify.specs.Live.{Live}
-use Rattle.mls_biunify.specs.Solutions.{scheme_over}
+use Rattle.mls_solver.specs.Solutions.{scheme_over}
 use Rattle.mls_infer.specs.Pending.{part_in}
 use Rattle.mls_infer.specs.Regions.{TablePart}
 use Rattle.mls_infer.proofs.DoneOut.{each_there, entries_live, taken_out_as}

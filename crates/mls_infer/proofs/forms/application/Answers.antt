@@ -1,5 +1,5 @@
 use Rattle.std.proofs.Common.{[], ◌∷◌, ap}
-use Rattle.mls_biunify.specs.declared.goal.Goal.{Goal}
+use Rattle.mls_solver.specs.declared.goal.Goal.{Goal}
 use Rattle.mls_infer.specs.Pending.{part_in, states_in}
 use Rattle.mls_infer.proofs.FormSteps.{application_live, application_made, application_none, application_states, application_stops}
 use Rattle.mls_infer.proofs.forms.application.Goals as goal

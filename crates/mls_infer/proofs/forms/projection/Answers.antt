@@ -1,5 +1,5 @@
 use Rattle.std.proofs.Common.{[], ◌∷◌, ap, refl}
-use Rattle.mls_biunify.specs.declared.goal.Goal.{Goal}
+use Rattle.mls_solver.specs.declared.goal.Goal.{Goal}
 use Rattle.mls_infer.specs.Pending.{part_in, states_in}
 use Rattle.mls_infer.proofs.FormSteps.{projection_live, projection_made, projection_none, projection_states, projection_stops}
 use Rattle.mls_infer.proofs.forms.projection.Goals as goal

@@ -1,10 +1,10 @@
 use Rattle.std.proofs.Common.{◌≡◌, ◌∙◌, List, ap, subst}
 use Rattle.mls_automaton.specs.Automata.{Automaton}
-use Rattle.mls_biunify.specs.declared.goal.Goal.{Goal}
-use Rattle.mls_biunify.specs.declared.goal.Refusal.{Refusal}
-use Rattle.mls_biunify.specs.declared.goal.Refusal.TheVariants.{Clashing}
+use Rattle.mls_solver.specs.declared.goal.Goal.{Goal}
+use Rattle.mls_solver.specs.declared.goal.Refusal.{Refusal}
+use Rattle.mls_solver.specs.declared.goal.Refusal.TheVariants.{Clashing}
 use Rattle.mls_biunify.specs.Live.{IsRefusalOf, Live}
-use Rattle.mls_biunify.specs.Relations.{IsGoal, IsRelated}
+use Rattle.mls_solver.specs.Relations.{IsGoal, IsRelated}
 use Rattle.mls_infer.proofs.forms.solves.Goals as goal
 
 pub returns-in_ok-settle-in-Ok : goal.returns-in_ok-settle-in-Ok

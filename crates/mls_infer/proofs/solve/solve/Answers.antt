@@ -1,5 +1,5 @@
 use Rattle.std.proofs.Common.{rules, ◌≡◌, List, [], subst}
-use Rattle.mls_biunify.specs.declared.goal.Goal.{Goal}
+use Rattle.mls_solver.specs.declared.goal.Goal.{Goal}
 use Rattle.mls_infer.specs.Posed.{constraint_of}
 use Rattle.mls_infer.specs.Solved.{ClashesFirst, IsClashWithout, IsSolvedFor, TellsFirstClash}
 use Rattle.mls_infer.proofs.MergedKinds.{first_told}

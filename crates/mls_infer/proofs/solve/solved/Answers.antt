@@ -1,6 +1,6 @@
-use Rattle.mls_biunify.specs.Relations.{IsGoal, IsRelated}
-use Rattle.mls_biunify.specs.Rooms.{Holds}
-use Rattle.mls_biunify.proofs.SolvedRooms.{solved-same}
+use Rattle.mls_solver.specs.Relations.{IsGoal, IsRelated}
+use Rattle.mls_solver.specs.Rooms.{Holds}
+use Rattle.mls_solver.proofs.SolvedRooms.{solved-same}
 use Rattle.mls_infer.proofs.SolvedConstraints.{free_same}
 use Rattle.mls_infer.proofs.solve.solved.Goals as goal
 

@@ -1,6 +1,6 @@
 use Rattle.std.proofs.Common.{subst, sym}
 use Rattle.mls_automaton.specs.Automata.{Automaton}
-use Rattle.mls_biunify.specs.Rooms.{HoldsStates}
+use Rattle.mls_solver.specs.Rooms.{HoldsStates}
 use Rattle.mls_parts.proofs.solve.solution_of.Goals as goal
 
 pub settle-requires-clause-states : goal.settle-requires-clause-states

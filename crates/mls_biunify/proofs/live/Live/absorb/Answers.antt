@@ -1,8 +1,8 @@
 use Rattle.std.proofs.Common.{◌↔◌, ◌⊎◌, ℕ, false, subst}
 use Rattle.mls_automaton.specs.Automata.{HasFlow}
+use Rattle.mls_solver.proofs.Answered.{always_err}
 use Rattle.mls_biunify.specs.Live.{AddsStates, IsCopiedFlow, IsSameLive, Live}
 use Rattle.mls_biunify.specs.steps.LiveParts.{live_of}
-use Rattle.mls_biunify.proofs.Answered.{always_err}
 use Rattle.mls_biunify.proofs.Lives.{copy-added, same-table-live, states-added}
 use Rattle.mls_biunify.proofs.live.Live.absorb.Goals as goal
 

@@ -1,8 +1,8 @@
 use Rattle.std.proofs.Common.{◌≡◌, ◌↔◌, ◌⊎◌, ℕ, subst}
 use Rattle.mls_automaton.specs.Automata.{HasFlow}
+use Rattle.mls_solver.proofs.Answered.{always_err}
 use Rattle.mls_biunify.specs.Live.{IsSameLive, Live}
 use Rattle.mls_biunify.specs.steps.LiveParts.{live_of}
-use Rattle.mls_biunify.proofs.Answered.{always_err}
 use Rattle.mls_biunify.proofs.Lives.{same-live}
 use Rattle.mls_biunify.proofs.live.Live.edge.Goals as goal
 

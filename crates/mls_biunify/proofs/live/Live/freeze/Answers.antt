@@ -4,8 +4,8 @@ use Rattle.mls_automaton.specs.declared.scheme.EnvEntry.{EnvEntry}
 use Rattle.mls_automaton.specs.Reached.{KeepsReached}
 use Rattle.mls_automaton.specs.Schemes.{AreEquivalentSchemes}
 use Rattle.mls_automaton.proofs.Kept.{kept_equivalent}
+use Rattle.mls_solver.specs.Solutions.{scheme_over}
 use Rattle.mls_biunify.specs.Live.{IsLiveState, Live}
-use Rattle.mls_biunify.specs.Solutions.{scheme_over}
 use Rattle.mls_biunify.proofs.Copied.{table_scheme}
 use Rattle.mls_biunify.proofs.live.Live.freeze.Goals as goal
 

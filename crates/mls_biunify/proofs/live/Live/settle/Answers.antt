@@ -1,13 +1,13 @@
 use Rattle.std.proofs.Common.{ℕ, List, Contains, refl, subst, sym}
+use Rattle.mls_solver.specs.Relations.{IsGoal}
+use Rattle.mls_solver.specs.Rooms.{Holds}
+use Rattle.mls_solver.specs.Solutions.{HasInstancesUnder}
+use Rattle.mls_solver.specs.Solved.{IsSolved}
+use Rattle.mls_solver.specs.declared.goal.Goal.{Goal}
+use Rattle.mls_solver.proofs.Answered.{always_err}
 use Rattle.mls_biunify.specs.Live.{AreRelated, IsSameLive, IsSolvedFor, Live}
-use Rattle.mls_biunify.specs.Relations.{IsGoal}
-use Rattle.mls_biunify.specs.Rooms.{Holds}
-use Rattle.mls_biunify.specs.Solutions.{HasInstancesUnder}
-use Rattle.mls_biunify.specs.Solved.{IsSolved}
 use Rattle.mls_biunify.specs.steps.LiveParts.{live_of}
-use Rattle.mls_biunify.specs.declared.goal.Goal.{Goal}
 use Rattle.mls_biunify.specs.steps.Settlement.{AddsEdges, AreNewHeads}
-use Rattle.mls_biunify.proofs.Answered.{always_err}
 use Rattle.mls_biunify.proofs.TableSteps.{table-closed}
 use Rattle.mls_biunify.proofs.Lives.{solved_there, held_there, related-settled, settled-instances, touched_there, new_edges_there, same-pairs-live, no-edges}
 use Rattle.mls_biunify.proofs.SettledTables.{heads-fit, settled}

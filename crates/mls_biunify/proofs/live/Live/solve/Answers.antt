@@ -1,10 +1,10 @@
 use Rattle.std.proofs.Common.{◌∙◌, All, subst, sym}
 use Rattle.mls_automaton.proofs.Refusals.{accepted}
+use Rattle.mls_solver.specs.Relations.{IsGoal, IsRelated}
+use Rattle.mls_solver.specs.Clashes.{HasNoClash}
+use Rattle.mls_solver.specs.Rooms.{Holds, HoldsJust}
+use Rattle.mls_solver.proofs.Answered.{on_ok, on_both}
 use Rattle.mls_biunify.specs.Live.{IsLiveGoal, IsSolvedFor, Live}
-use Rattle.mls_biunify.specs.Relations.{IsGoal, IsRelated}
-use Rattle.mls_biunify.specs.Clashes.{HasNoClash}
-use Rattle.mls_biunify.specs.Rooms.{Holds, HoldsJust}
-use Rattle.mls_biunify.proofs.Answered.{on_ok, on_both}
 use Rattle.mls_biunify.proofs.Lives.{relation_there, is_solved}
 use Rattle.mls_biunify.proofs.live.Live.solve.Goals as goal
 

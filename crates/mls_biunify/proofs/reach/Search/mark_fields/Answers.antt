@@ -1,9 +1,9 @@
 use Rattle.std.proofs.Common.{List, subst}
 use Rattle.mls_automaton.specs.declared.automaton.FieldSet.{FieldSet}
 use Rattle.mls_automaton.specs.Reached.{InAnyField}
+use Rattle.mls_solver.proofs.Relating.{take-all}
 use Rattle.mls_biunify.specs.steps.Keeping.{Finds}
 use Rattle.mls_biunify.proofs.FoundStates.{finds-field}
-use Rattle.mls_biunify.proofs.Relating.{take-all}
 use Rattle.mls_biunify.proofs.reach.Search.mark_fields.Goals as goal
 
 pub loop-field-preserved : goal.loop-field-preserved

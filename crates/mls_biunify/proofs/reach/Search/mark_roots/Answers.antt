@@ -1,8 +1,8 @@
 use Rattle.std.proofs.Common.{List, subst}
 use Rattle.mls_automaton.specs.declared.state_set.StateId.{StateId}
+use Rattle.mls_solver.proofs.Relating.{take-all}
 use Rattle.mls_biunify.specs.steps.Keeping.{Finds, InRoots}
 use Rattle.mls_biunify.proofs.FoundStates.{finds-root}
-use Rattle.mls_biunify.proofs.Relating.{take-all}
 use Rattle.mls_biunify.proofs.reach.Search.mark_roots.Goals as goal
 
 pub loop-root-preserved : goal.loop-root-preserved

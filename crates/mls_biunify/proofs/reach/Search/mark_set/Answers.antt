@@ -1,7 +1,7 @@
 use Rattle.std.proofs.Common.{◌∙◌, ℕ, List, Contains, subst}
+use Rattle.mls_solver.proofs.Relating.{take-all}
 use Rattle.mls_biunify.specs.steps.Keeping.{Finds}
 use Rattle.mls_biunify.proofs.FoundStates.{finds-member}
-use Rattle.mls_biunify.proofs.Relating.{take-all}
 use Rattle.mls_biunify.proofs.reach.Search.mark_set.Goals as goal
 
 pub loop-s-preserved : goal.loop-s-preserved

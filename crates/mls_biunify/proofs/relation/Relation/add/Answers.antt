@@ -1,6 +1,6 @@
 use Rattle.std.proofs.Common.{◌≡◌, ◌∙◌, ℕ, List, [], ◌∷◌, ◌++◌, ap, subst}
-use Rattle.mls_biunify.specs.Rooms.{Room, Holds}
-use Rattle.mls_biunify.specs.steps.Growth.{Relates}
+use Rattle.mls_solver.specs.Rooms.{Room, Holds}
+use Rattle.mls_solver.specs.steps.Growth.{Relates}
 use Rattle.mls_biunify.proofs.IndexedPairs.{room_with, index-same, index-added, pair-relates, none-relates}
 use Rattle.mls_biunify.proofs.relation.Relation.add.Goals as goal
 

@@ -1,5 +1,5 @@
 use Rattle.std.proofs.Common.{◌↔◌, ◌<◌, Contains, subst}
-use Rattle.mls_biunify.specs.Rooms.{Room, Holds}
+use Rattle.mls_solver.specs.Rooms.{Room, Holds}
 use Rattle.mls_biunify.proofs.relation.Relation.below.Goals as goal
 
 pub returns-clause-members : goal.returns-clause-members

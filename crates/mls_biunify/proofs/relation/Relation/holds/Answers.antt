@@ -1,5 +1,5 @@
 use Rattle.std.proofs.Common.{◌↔◌, IsTrue, subst}
-use Rattle.mls_biunify.specs.Rooms.{Room, Holds}
+use Rattle.mls_solver.specs.Rooms.{Room, Holds}
 use Rattle.mls_biunify.proofs.relation.Relation.holds.Goals as goal
 
 pub returns : goal.returns

@@ -1,10 +1,10 @@
 use Rattle.std.proofs.Common.{◌≡◌, ◌↔◌, ◌⊎◌, ℕ, subst, sym, ap, ◌∙◌}
 use Rattle.mls_automaton.specs.declared.automaton.Polarity.TheVariants.{Positive, Negative}
 use Rattle.mls_automaton.specs.Automata.{HasFlow}
+use Rattle.mls_solver.proofs.Answered.{on_ok, on_err}
 use Rattle.mls_biunify.specs.Live.{IsStateIn}
 use Rattle.mls_biunify.specs.steps.TwoWay.{TwoWay, AddsPair, IsSamePairs}
 use Rattle.mls_biunify.specs.steps.Tables.{Numbered, numbered_of}
-use Rattle.mls_biunify.proofs.Answered.{on_ok, on_err}
 use Rattle.mls_biunify.proofs.TableSteps.{flow-in, edge-added, edge-same, edge-numbered}
 use Rattle.mls_biunify.proofs.table.Table.edge.Goals as goal
 

@@ -1,5 +1,5 @@
 use Rattle.std.proofs.Common.{◌≡◌, ◌↔◌, ◌⊎◌, ◌∙◌, ℕ, true, false, Contains, get_or, sym}
-use Rattle.mls_biunify.proofs.Answered.{on_ok}
+use Rattle.mls_solver.proofs.Answered.{on_ok}
 use Rattle.mls_biunify.proofs.Numbers.{number-free, number-put}
 use Rattle.mls_biunify.proofs.table.Table.push_number.Goals as goal
 

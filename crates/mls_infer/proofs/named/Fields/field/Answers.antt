@@ -4,7 +4,7 @@ use Rattle.mls_automaton.specs.declared.scheme.EnvEntry.{EnvEntry}
 use Rattle.mls_automaton.specs.Automata.{head_at}
 use Rattle.mls_automaton.specs.Schemes.{AreEquivalentSchemes}
 use Rattle.mls_biunify.specs.Live.{Live}
-use Rattle.mls_biunify.specs.Solutions.{scheme_over}
+use Rattle.mls_solver.specs.Solutions.{scheme_over}
 use Rattle.mls_infer.specs.Fields.{HasOnly}
 use Rattle.mls_infer.specs.Pending.{part_in}
 use Rattle.mls_infer.specs.Regions.{TablePart}

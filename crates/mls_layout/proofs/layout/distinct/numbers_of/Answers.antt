@@ -1,7 +1,7 @@
 use Rattle.std.proofs.Common.{◌≡◌, ◌≤◌, ◌∙◌, List, length, take, rules, subst}
 use Rattle.std.proofs.lemmas.List.{take_all}
 use Rattle.mls_book.specs.declared.book.NodeId.{NodeId}
-use Rattle.mls_biunify.proofs.Settling.{inserted}
+use Rattle.mls_solver.proofs.Settling.{inserted}
 use Rattle.mls_layout.proofs.Distinct.{AreNumbersOf, numbers_more}
 use Rattle.mls_layout.proofs.layout.distinct.numbers_of.Goals as goal
 

@@ -1,6 +1,6 @@
 use Rattle.std.proofs.Common.{List, ◌++◌, ap, ◌∙◌, get_or}
-use Rattle.mls_biunify.specs.Rooms.{Holds}
-use Rattle.mls_biunify.proofs.Relating.{element}
+use Rattle.mls_solver.specs.Rooms.{Holds}
+use Rattle.mls_solver.proofs.Relating.{element}
 use Rattle.mls_book.specs.declared.book.NodeId.{NodeId}
 use Rattle.mls_layout.specs.steps.Sources.{IsOfState}
 use Rattle.mls_layout.proofs.Gathering.{gathers_first, gathers_more, gathers_all}

@@ -1,6 +1,6 @@
 use Rattle.mls_automaton.specs.declared.automaton.Polarity.TheVariants.{Positive}
 use Rattle.mls_automaton.specs.Automata.{polarity_at}
-use Rattle.mls_biunify.specs.Rooms.{Holds}
+use Rattle.mls_solver.specs.Rooms.{Holds}
 use Rattle.mls_layout.specs.Trees.{IsNodeIn}
 use Rattle.mls_layout.specs.steps.Planned.{end_of}
 use Rattle.mls_layout.specs.steps.Sources.{IsEntering}

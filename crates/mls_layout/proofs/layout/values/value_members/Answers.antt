@@ -1,7 +1,7 @@
 use Rattle.std.proofs.Common.{ℕ, ◌∙◌, subst, sym}
 use Rattle.std.specs.Prelude.{◌↔◌}
 use Rattle.mls_automaton.specs.declared.automaton.Polarity.{Polarity}
-use Rattle.mls_biunify.specs.Rooms.{Holds}
+use Rattle.mls_solver.specs.Rooms.{Holds}
 use Rattle.mls_layout.specs.Trees.{IsNodeIn}
 use Rattle.mls_layout.specs.steps.Sources.{IsEntering}
 use Rattle.mls_layout.proofs.layout.values.value_members.Goals as goal

@@ -1,7 +1,7 @@
 use Rattle.std.proofs.Common.{◌≡◌, ◌∙◌, List, ap, map, subst}
 use Rattle.mls_automaton.specs.declared.automaton.FieldSet.{FieldSet}
 use Rattle.mls_automaton.specs.declared.automaton.Head.{Head}
-use Rattle.mls_biunify.proofs.Answered.{on_ok}
+use Rattle.mls_solver.proofs.Answered.{on_ok}
 use Rattle.mls_infer.specs.Joining.{row_field}
 use Rattle.mls_parts.specs.Posings.{Adds, AreFieldsOf, NoEdge, literal_added, record_head, root_in, size}
 use Rattle.mls_parts.proofs.FieldsPosed.{fields_posed}

@@ -1,7 +1,7 @@
 use Rattle.std.proofs.Common.{sym, subst}
 use Rattle.std.specs.Prelude.{OnOk}
 use Rattle.mls_automaton.specs.declared.scheme.Scheme.{Scheme}
-use Rattle.mls_biunify.proofs.Answered.{on_ok}
+use Rattle.mls_solver.proofs.Answered.{on_ok}
 use Rattle.mls_term.specs.declared.term.TermForm.{TermForm}
 use Rattle.mls_term.specs.declared.term.TermForm.TheVariants as form
 use Rattle.mls_parts.specs.Posings.{Adds, AddsNode, IsCopiedEdge, binder_in, copy_added, known_in, root_in, size}

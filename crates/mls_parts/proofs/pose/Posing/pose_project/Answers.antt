@@ -1,7 +1,7 @@
 use Rattle.std.proofs.Common.{◌≡◌, suc, [], ◌∷◌, ◌++◌, ◌∙◌, ap, subst, Some, None}
 use Rattle.std.specs.BTreeMap.{Updates}
 use Rattle.std.specs.Ordering.{nat_cmp}
-use Rattle.mls_biunify.specs.declared.goal.Goal.{Goal}
+use Rattle.mls_solver.specs.declared.goal.Goal.{Goal}
 use Rattle.mls_parts.specs.declared.pose.Posing.{Posing}
 use Rattle.mls_parts.specs.Posings.{goal, one_field, record_head, root_in, size}
 use Rattle.mls_parts.specs.steps.Results.{HasResult}

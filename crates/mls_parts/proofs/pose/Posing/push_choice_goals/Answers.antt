@@ -1,4 +1,4 @@
-use Rattle.mls_biunify.proofs.Answered.{on_ok}
+use Rattle.mls_solver.proofs.Answered.{on_ok}
 use Rattle.mls_parts.proofs.Posings.{three_goals}
 use Rattle.mls_parts.proofs.pose.Posing.push_choice_goals.Goals as goal_of
 

@@ -1,7 +1,7 @@
 use Rattle.std.proofs.Common.{ℕ, List, subst, sym}
 use Rattle.std.specs.Prelude.{All}
 use Rattle.std.proofs.lemmas.List.Elements.{Contains-get_or}
-use Rattle.mls_biunify.specs.Relations.{IsGoalOf}
+use Rattle.mls_solver.specs.Relations.{IsGoalOf}
 use Rattle.mls_parts.specs.PosedParts.{ArePosable}
 use Rattle.mls_parts.proofs.SplitParts.{posable}
 use Rattle.mls_emit.proofs.derive.section.Draft.solved.Goals as goal

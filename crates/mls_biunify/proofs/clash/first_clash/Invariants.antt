@@ -1,5 +1,0 @@
-use Rattle.mls_biunify.specs.steps.FirstClashes.{IsFirstOf, IsPairBelow}
-use Rattle.mls_biunify.proofs.clash.first_clash.Given as goal
-
-abbrev pub invariant-loop-i : goal.invariant-loop-i
-invariant-loop-i l = IsFirstOf l.a (IsPairBelow l.room l.i) l.first

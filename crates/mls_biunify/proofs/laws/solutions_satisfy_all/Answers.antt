@@ -1,6 +1,0 @@
-use Rattle.mls_biunify.specs.Relations.{IsGoal}
-use Rattle.mls_biunify.proofs.Following.{goals_between, related-below}
-use Rattle.mls_biunify.proofs.laws.solutions_satisfy_all.Goals as goal
-
-pub returns : goal.returns
-returns c a goals closed are value model hold p n it = related-below a value model (IsGoal goals) closed (goals_between a goals are) hold p n it

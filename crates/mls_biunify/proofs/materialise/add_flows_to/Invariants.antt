@@ -1,7 +1,0 @@
-use Rattle.std.proofs.Common.{take}
-use Rattle.mls_biunify.specs.steps.Solving.{AddsFlows}
-use Rattle.mls_biunify.proofs.AddedFlows.{ToSome}
-use Rattle.mls_biunify.proofs.materialise.add_flows_to.Given as goal
-
-abbrev pub invariant-loop-q : goal.invariant-loop-q
-invariant-loop-q l = AddsFlows l.initial.solved l.solved (ToSome l.n.0 (take l.q-index l.targets))

@@ -1,7 +1,0 @@
-use Rattle.std.proofs.Common.{take}
-use Rattle.mls_biunify.specs.Rooms.{Holds}
-use Rattle.mls_biunify.specs.steps.Numbers.{Inserts, ByOne}
-use Rattle.mls_biunify.proofs.materialise.mark_below_all.Given as goal
-
-abbrev pub invariant-loop-p : goal.invariant-loop-p
-invariant-loop-p l = Inserts l.initial.marks l.marks (ByOne (take l.p-index l.positives) (λ p n. Holds l.room p n))

@@ -1,7 +1,0 @@
-use Rattle.std.proofs.Common.{◌≡◌, take}
-use Rattle.mls_biunify.specs.declared.goal.Goal.{Goal}
-use Rattle.mls_biunify.specs.steps.Growth.{BySome, Relates}
-use Rattle.mls_biunify.proofs.saturate.add_goals.Given as goal
-
-abbrev pub invariant-loop-goal : goal.invariant-loop-goal
-invariant-loop-goal l = Relates l.initial.room l.room (BySome (take l.goal-index l.goals) (λ (g : Goal) p n. (p ≡ g.positive.0) × (n ≡ g.negative.0)))

@@ -1,6 +1,0 @@
-use Rattle.std.proofs.Common.{◌≡◌, take}
-use Rattle.mls_biunify.specs.steps.Growth.{BySome, Relates}
-use Rattle.mls_biunify.proofs.saturate.add_set.Given as goal
-
-abbrev pub invariant-loop-n : goal.invariant-loop-n
-invariant-loop-n l = Relates l.initial.room l.room (BySome (take l.n-index l.negatives) (λ m p n. (p ≡ l.positive) × (n ≡ m)))

@@ -1,6 +1,0 @@
-use Rattle.std.proofs.Common.{◌≡◌, take}
-use Rattle.mls_biunify.specs.steps.Growth.{BySome, Relates}
-use Rattle.mls_biunify.proofs.saturate.add_sets.Given as goal
-
-abbrev pub invariant-loop-p : goal.invariant-loop-p
-invariant-loop-p l = Relates l.initial.room l.room (BySome (take l.p-index l.positives) (λ q. BySome l.negatives (λ m p n. (p ≡ q) × (n ≡ m))))

@@ -1,9 +1,0 @@
-use Rattle.std.proofs.Common.{◌*◌, ◌-◌}
-use Rattle.mls_biunify.specs.steps.Consequences.{AreTaken}
-use Rattle.mls_biunify.proofs.saturate.close.Given as goal
-
-abbrev pub invariant-loop-next : goal.invariant-loop-next
-invariant-loop-next l = AreTaken l.a l.initial.room l.next l.room
-
-abbrev pub decreases-loop-next : goal.decreases-loop-next
-decreases-loop-next l = l.room.positives * l.room.negatives - l.next

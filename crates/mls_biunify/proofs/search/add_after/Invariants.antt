@@ -1,7 +1,0 @@
-use Rattle.std.proofs.Common.{◌≡◌, take}
-use Rattle.mls_biunify.specs.Rooms.{Holds}
-use Rattle.mls_biunify.specs.steps.Growth.{BySome, Relates}
-use Rattle.mls_biunify.proofs.search.add_after.Given as goal
-
-abbrev pub invariant-loop-q : goal.invariant-loop-q
-invariant-loop-q l = Relates l.initial.found l.found (BySome (take l.q-index l.q-items) (λ q p n. (p ≡ l.positive.0) × Holds l.direct q n))

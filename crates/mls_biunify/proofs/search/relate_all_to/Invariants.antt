@@ -1,6 +1,0 @@
-use Rattle.std.proofs.Common.{◌≡◌, take}
-use Rattle.mls_biunify.specs.steps.Growth.{BySome, Relates}
-use Rattle.mls_biunify.proofs.search.relate_all_to.Given as goal
-
-abbrev pub invariant-loop-p : goal.invariant-loop-p
-invariant-loop-p l = Relates l.initial.found l.found (BySome (take l.p-index l.positives) (λ m p n. (p ≡ m) × (n ≡ l.negative)))

@@ -1,8 +1,0 @@
-use Rattle.std.proofs.Common.{◌⊎◌, ℕ, take, Contains}
-use Rattle.std.specs.Prelude.{◌↔◌}
-use Rattle.mls_biunify.specs.Rooms.{Holds}
-use Rattle.mls_biunify.specs.steps.Numbers.{ByOne}
-use Rattle.mls_biunify.proofs.settle.add_above.Given as goal
-
-abbrev pub invariant-loop-n : goal.invariant-loop-n
-invariant-loop-n l = (j : ℕ) → Contains l.members.keys j ↔ Contains l.initial.members.keys j ⊎ ByOne (take l.n-index l.negatives) (λ n p. Holds l.found p n) j

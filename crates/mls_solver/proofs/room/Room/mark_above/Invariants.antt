@@ -1,0 +1,9 @@
+use Rattle.mls_solver.specs.steps.Links.{first, second}
+use Rattle.mls_solver.proofs.Walks.{IsMarkWalk}
+use Rattle.mls_solver.proofs.room.Room.mark_above.Given as goal
+
+abbrev pub invariant-loop-at : goal.invariant-loop-at
+invariant-loop-at l = IsMarkWalk second first l.self l.fn.n.0 l.initial.marks l.marks l.at
+
+abbrev pub decreases-loop-at : goal.decreases-loop-at
+decreases-loop-at l = l.at

@@ -1,0 +1,11 @@
+use Rattle.std.proofs.Common.{inl, inr}
+use Rattle.mls_solver.specs.steps.Consequences.{ByFunctions, ByRecords, ByHeads}
+use Rattle.mls_solver.proofs.Relating.{Relates-then}
+use Rattle.mls_solver.proofs.saturate.add_by_heads.Goals as goal
+
+pub returns : goal.returns
+returns c =
+    Relates-then c.args.room.now c.add_by_functions.new.room c.add_by_records.new.room
+    (ByFunctions c.args.upper.now.function c.args.lower.now.function) (ByRecords c.args.upper.now.fields c.args.lower.now.fields)
+    (ByHeads c.args.upper.now c.args.lower.now) c.add_by_functions.ensures c.add_by_records.ensures
+    (λ p n it. inl it) (λ p n it. inr it) (λ p n it. it)

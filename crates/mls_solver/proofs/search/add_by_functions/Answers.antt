@@ -1,0 +1,16 @@
+use Rattle.std.proofs.Common.{Contains}
+use Rattle.mls_solver.specs.steps.Consequences.{ByFunctions}
+use Rattle.mls_solver.proofs.Relating.{Relates-then}
+use Rattle.mls_solver.proofs.HeadRules.{by_domain, by_codomain, by_functions-cases}
+use Rattle.mls_solver.proofs.search.add_by_functions.Goals as goal
+
+pub returns-in-Some-lower : goal.returns-in-Some-lower
+returns-in-Some-lower c =
+    Relates-then c.args.found.now c.add_sets.new.found c.add_sets-in-Some-lower.new.found
+    (λ p n. Contains c.as_slice.result.now p × Contains c.as_slice-in-Some-lower.result.now n)
+    (λ p n. Contains c.as_slice-in-Some-lower-2.result.now p × Contains c.as_slice-in-Some-lower-3.result.now n)
+    (ByFunctions c.args.upper.now c.args.lower.now) c.in_ok-add_sets.ensures c.in_ok-add_sets-2.ensures
+    (λ p n it. by_domain c.args.upper.now c.args.lower.now c.in-Some.arms c.in-Some-lower.others c.in-Some.is c.in-Some-lower.is c.as_slice.result.now c.as_slice-in-Some-lower.result.now c.as_slice.ensures.members c.as_slice-in-Some-lower.ensures.members p n it.0 it.1)
+    (λ p n it. by_codomain c.args.upper.now c.args.lower.now c.in-Some.arms c.in-Some-lower.others c.in-Some.is c.in-Some-lower.is c.as_slice-in-Some-lower-2.result.now c.as_slice-in-Some-lower-3.result.now c.as_slice-in-Some-lower-2.ensures.members c.as_slice-in-Some-lower-3.ensures.members p n it.0 it.1)
+    (by_functions-cases c.args.upper.now c.args.lower.now c.in-Some.arms c.in-Some-lower.others c.in-Some.is c.in-Some-lower.is c.as_slice.result.now c.as_slice-in-Some-lower.result.now c.as_slice-in-Some-lower-2.result.now c.as_slice-in-Some-lower-3.result.now
+    c.as_slice.ensures.members c.as_slice-in-Some-lower.ensures.members c.as_slice-in-Some-lower-2.ensures.members c.as_slice-in-Some-lower-3.ensures.members)

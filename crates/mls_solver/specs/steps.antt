@@ -1,0 +1,16 @@
+pub mod Among
+pub mod Numbers
+pub mod Cells
+pub mod RoomParts
+pub mod Growth
+pub mod Consequences
+pub mod Chains
+pub mod Numbering
+pub mod Kinds
+pub mod FirstClashes
+pub mod Solving
+pub mod Links
+pub mod Finding
+pub mod PairParts
+pub mod FoundParts
+pub mod Settling
