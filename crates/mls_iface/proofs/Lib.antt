@@ -11,7 +11,6 @@ pub mod InterfaceTotal
 pub mod LeastDeclarationFaults
 pub mod FaultsWithin
 pub mod MatchLaws
-pub mod TwoEntries
 pub mod EntryNumbers
 pub mod MatchedFronts
 pub mod OtherPlaces

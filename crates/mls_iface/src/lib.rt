@@ -9,8 +9,6 @@ pub mod matching;
 pub mod print;
 pub mod read;
 pub mod signature;
-#[cfg(test)]
-mod tests;
 
 pub use interface::{IfaceFault, Interface, Val};
 pub use matching::{MatchAnswer, Path, matches};

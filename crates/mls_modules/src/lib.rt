@@ -8,6 +8,4 @@ pub mod fault;
 pub mod first;
 pub mod infer;
 pub mod laws;
-#[cfg(test)]
-mod tests;
 mod types;

@@ -8,11 +8,3 @@ pub mod pose;
 mod shared;
 pub mod solve;
 pub mod split;
-#[cfg(test)]
-mod tests_of_lists;
-#[cfg(test)]
-mod tests_of_parts;
-#[cfg(test)]
-mod tests_of_posing;
-#[cfg(test)]
-mod tests_of_sharing;

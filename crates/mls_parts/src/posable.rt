@@ -51,8 +51,8 @@ pub fn posed(
     pose_part(alloc, nodes, part, binders, known)
 }
 
-/// Whether the number is in the set.
-pub(crate) fn has(set: &BTreeSet<usize>, number: usize) -> bool
+// Whether the number is in the set.
+fn has(set: &BTreeSet<usize>, number: usize) -> bool
     ensures { IsTrue result ↔ Has set.now number }
 {
     set.contains(&number)

@@ -9,6 +9,4 @@ mod flows;
 mod queue;
 mod reasons;
 pub mod subsume;
-#[cfg(test)]
-mod tests;
 pub mod verdict;

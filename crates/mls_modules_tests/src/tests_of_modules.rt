@@ -1,16 +1,16 @@
 //! Signatures of modules without imports; the tests of `run` are over imports.
-use crate::check::check_module;
-use crate::environment::names_of;
-use crate::fault::ModuleFault;
-use crate::first::infer_first;
-use crate::infer::infer_module;
-use crate::laws::signatures_are_valid;
 use mls_base::memory::Memory;
 use mls_iface::interface::IfaceFault;
 use mls_iface::laws::interface_is_valid;
 use mls_iface::matching::MatchAnswer;
 use mls_iface::read::read_interface;
 use mls_iface::signature::SigEntry;
+use mls_modules::check::check_module;
+use mls_modules::environment::names_of;
+use mls_modules::fault::ModuleFault;
+use mls_modules::first::infer_first;
+use mls_modules::infer::infer_module;
+use mls_modules::laws::signatures_are_valid;
 use mls_syntax::parse::{Fault, parse_module};
 use std::alloc::{AllocError, Global};
 use std::test::Fail;

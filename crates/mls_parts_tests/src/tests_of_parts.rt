@@ -1,21 +1,19 @@
 //! Small parts: whether they may be posed, their solutions, and the types of first parts.
 ghost use Rattle.std.specs.Prelude.{IfOk};
 ghost use Rattle.mls_automaton.specs.Models.{IsClosed};
-ghost use Rattle.mls_automaton.specs.Schemes.{IsScheme};
 
-use crate::first_type::first_type_of;
-use crate::posable::posed;
-use crate::pose::KnownTypes;
-use crate::solve::solution_of;
-use crate::tests_of_lists::is_part_list;
-use crate::tests_of_posing::no_types;
+use crate::lists::is_part_list;
+use crate::samples::{no_types, scheme};
 use mls_automaton::automaton::Automaton;
-use mls_automaton::sample::{automaton_of, scheme_of, show_automaton, show_scheme};
-use mls_automaton::scheme::Scheme;
+use mls_automaton::sample::{automaton_of, show_automaton, show_scheme};
 use mls_automaton::state_set::StateId;
 use mls_base::memory::Memory;
 use mls_base::spelling::is_name;
 use mls_book::name::Name;
+use mls_parts::first_type::first_type_of;
+use mls_parts::posable::posed;
+use mls_parts::pose::KnownTypes;
+use mls_parts::solve::solution_of;
 use mls_solver::goal::{Goal, are_goals};
 use mls_term::term::{Part, Parts, TermForm, TermNode, TermNodes};
 use std::alloc::Global;
@@ -29,16 +27,6 @@ fn sample(rt: &impl Abort, alloc: Global, text: &str) -> Result<Automaton, Memor
     match automaton_of(alloc, text)? {
         Some(a) => Ok(a),
         None => panic!(rt; "no automaton: {text}"),
-    }
-}
-
-// The scheme of a text, which is one.
-pub(crate) fn scheme(rt: &impl Abort, alloc: Global, text: &str) -> Result<Scheme, Memory>
-    ensures { IfOk result IsScheme }
-{
-    match scheme_of(alloc, text)? {
-        Some(scheme) => Ok(scheme),
-        None => panic!(rt; "no scheme: {text}"),
     }
 }
 

@@ -5,8 +5,8 @@ use Rattle.std.proofs.lemmas.List.{take_all, take_more}
 use Rattle.mls_parts.specs.PosedParts.{IsPartList}
 use Rattle.mls_layout.specs.steps.Posable.{HasJust}
 use Rattle.mls_layout.proofs.KeySets.{just_none, just_more, number_same, number_self}
-use Rattle.mls_parts.proofs.PartLists.{list_none, list_more}
-use Rattle.mls_parts.proofs.tests_of_lists.is_part_list.Goals as goal
+use Rattle.mls_parts_tests.proofs.TestLists.{list_none, list_more}
+use Rattle.mls_parts_tests.proofs.lists.is_part_list.Goals as goal
 
 pub loop-node-init : goal.loop-node-init
 loop-node-init c = record {

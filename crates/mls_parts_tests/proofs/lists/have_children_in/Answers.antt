@@ -3,7 +3,7 @@ use Rattle.std.proofs.lemmas.List.{take_all}
 use Rattle.std.proofs.lemmas.List.Elements.{All-more}
 use Rattle.mls_term.specs.declared.term.Part.{Part}
 use Rattle.mls_layout.specs.steps.Posable.{Has}
-use Rattle.mls_parts.proofs.tests_of_lists.have_children_in.Goals as goal
+use Rattle.mls_parts_tests.proofs.lists.have_children_in.Goals as goal
 
 pub loop-part-preserved : goal.loop-part-preserved
 loop-part-preserved c =

@@ -1,22 +1,17 @@
 //! Whether lists of nodes are parts, for tests that pose them.
-ghost use Rattle.std.specs.Prelude.{All, IfOk, IsTrue};
+ghost use Rattle.std.specs.Prelude.{◌↔◌, All, IfOk, IsTrue};
 ghost use Rattle.mls_term.specs.declared.term.Part.{Part};
 ghost use Rattle.mls_layout.specs.PosedNodes.{HasPartsIn};
 ghost use Rattle.mls_parts.specs.PosedParts.{IsPartList};
 ghost use Rattle.mls_layout.specs.steps.Posable.{Has, MayFollow};
 
-use crate::posable::has;
 use mls_base::memory::Memory;
 use mls_term::term::{Part, TermForm, TermNode};
 use std::alloc::Global;
 use std::collections::BTreeSet;
 
-/// Whether these are nodes of a term, each once and each behind its parts.
-pub(crate) fn is_part_list(
-    alloc: Global,
-    nodes: &[TermNode],
-    part: &[usize],
-) -> Result<bool, Memory>
+// Whether these are nodes of a term, each once and each behind its parts.
+pub fn is_part_list(alloc: Global, nodes: &[TermNode], part: &[usize]) -> Result<bool, Memory>
     ensures { IfOk result (λ is. IsTrue is → IsPartList nodes.now part.now) }
 {
     let mut done = BTreeSet::new(alloc);
@@ -68,4 +63,11 @@ fn have_children_in(done: &BTreeSet<usize>, parts: &[Part]) -> bool
         }
     }
     true
+}
+
+// Whether the number is in the set.
+fn has(set: &BTreeSet<usize>, number: usize) -> bool
+    ensures { IsTrue result ↔ Has set.now number }
+{
+    set.contains(&number)
 }

@@ -3,8 +3,8 @@ use Rattle.std.specs.Prelude.{bytes_eq}
 use Rattle.mls_typetext.proofs.FieldOrder.{bytes_eq-self}
 use Rattle.mls_iface.specs.declared.signature.SigEntry.{SigEntry}
 use Rattle.mls_iface.specs.Signatures.{AreEntries}
-use Rattle.mls_iface.proofs.TwoEntries.{two_entries}
-use Rattle.mls_iface.proofs.tests.signature.Goals as goal
+use Rattle.mls_iface_tests.proofs.TwoEntries.{two_entries}
+use Rattle.mls_iface_tests.proofs.tests_of_signatures.signature.Goals as goal
 
 pub returns : goal.returns
 returns g c =

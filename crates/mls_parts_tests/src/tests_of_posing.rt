@@ -2,27 +2,20 @@
 ghost use Rattle.std.specs.Prelude.{IsTrue};
 ghost use Rattle.mls_parts.specs.Posings.{CanPose};
 
-use crate::pose::{Goals, KnownTypes, Needs, Posing, pose_part};
+use crate::samples::no_types;
 use mls_automaton::automaton::{Automaton, Head, Polarity};
 use mls_automaton::sample::show_automaton;
 use mls_automaton::state_set::StateId;
 use mls_base::memory::Memory;
 use mls_base::spelling::is_name;
 use mls_book::name::Name;
+use mls_parts::pose::{Goals, KnownTypes, Needs, Posing, pose_part};
 use mls_solver::goal::is_state;
 use mls_term::term::TermForm;
 use std::alloc::Global;
 use std::collections::BTreeMap;
 use std::process::Abort;
 use std::test::Fail;
-
-// No name is known.
-pub(crate) fn no_types(alloc: Global) -> KnownTypes {
-    KnownTypes {
-        globals: BTreeMap::new(alloc),
-        lets: BTreeMap::new(alloc),
-    }
-}
 
 // A constraint with a state for binder 0.
 fn one_binder(alloc: Global) -> Result<Posing, Memory> {
