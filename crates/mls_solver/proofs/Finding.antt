@@ -33,8 +33,7 @@ set_more sets number member more low are k m = go (cases_eq k number)
   where
     go : (k ≡ number) ⊎ (k ≢ number) → HasMember (slice_set sets number more) k m ↔ HasMember sets k m ⊎ ((k ≡ number) × (m ≡ member))
     go (inl same) =
-        let here : get_or (slice_set sets number more) k [] ≡ more = ap (λ j. get_or (slice_set sets number more) j []) same ∙ get_or-set_same sets number more [] low in
-        (
+        let here : get_or (slice_set sets number more) k [] ≡ more = ap (λ j. get_or (slice_set sets number more) j []) same ∙ get_or-set_same sets number more [] low in (
           λ it. elim ((are m).0 (subst (λ (xs : List ℕ). Contains xs m) here it)) [
             | inl is ↦ inr (same, is)
             | inr there ↦ inl (subst (λ j. HasMember sets j m) (sym same) there)
@@ -45,8 +44,7 @@ set_more sets number member more low are k m = go (cases_eq k number)
           ]),
         )
     go (inr apart) =
-        let there : get_or (slice_set sets number more) k [] ≡ get_or sets k [] = get_or-set_other sets number k more [] apart in
-        (
+        let there : get_or (slice_set sets number more) k [] ≡ get_or sets k [] = get_or-set_other sets number k more [] apart in (
           λ it. inl (subst (λ (xs : List ℕ). Contains xs m) there it),
           λ both. elim both [
             | inl before ↦ subst (λ (xs : List ℕ). Contains xs m) (sym there) before

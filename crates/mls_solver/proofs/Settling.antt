@@ -360,20 +360,34 @@ grow-as old new First Second it same j = (
   λ both. (it j).1 (elim both [ inl before ↦ inl before | inr more ↦ inr ((same j).1 more) ]),
 )
 
-pub members-grown : (a : Automaton) (R : ℕ → ℕ → Type 0) (s : ℕ) (none one new : List ℕ) → none ≡ [] → ((j : ℕ) → Contains one j ↔ Contains none j ⊎ Contains (s ∷ []) j)
+pub members-grown : (a : Automaton) (R : ℕ → ℕ → Type 0) (s : ℕ) (one new : List ℕ) → one ≡ s ∷ []
     → ((j : ℕ) → Contains new j ↔ Contains one j ⊎ ReachesBy a R (polarity_at a s) s j) → AreMembers a R s new
-members-grown a R s none one new is first it = record {
-  self = (it s).1 (inl ((first s).1 (inr (Contains-here s []))));
+members-grown a R s one new is it = record {
+  self = (it s).1 (inl (subst (λ (xs : List ℕ). Contains xs s) (sym is) (Contains-here s [])));
   reached = λ j there. elim ((it j).0 there) [
-    | inl before ↦
-        elim ((first j).0 before) [
-          | inl none ↦ no_element j (subst (λ (xs : List ℕ). Contains xs j) is none)
-          | inr here ↦ inl (only s j here)
-        ]
+    | inl before ↦ inl (only s j (subst (λ (xs : List ℕ). Contains xs j) is before))
     | inr reach ↦ inr reach
   ];
   reaching = λ j reach. (it j).1 (inr reach);
 }
+
+-- lists of the same members
+pub members-same : (a : Automaton) (R : ℕ → ℕ → Type 0) (s : ℕ) (old new : List ℕ) → ((j : ℕ) → Contains new j ↔ Contains old j) → AreMembers a R s old → AreMembers a R s new
+members-same a R s old new same are = record {
+  self = (same s).1 are.self;
+  reached = λ j there. are.reached j ((same j).0 there);
+  reaching = λ j reach. (same j).1 (are.reaching j reach);
+}
+
+-- numbers behind others
+pub extended : (old new numbers : List ℕ) → new ≡ old ++ numbers → (j : ℕ) → Contains new j ↔ Contains old j ⊎ Contains numbers j
+extended old new numbers is j = (
+  λ it. Contains-append_cases old numbers j (subst (λ (xs : List ℕ). Contains xs j) is it),
+  λ both. subst (λ (xs : List ℕ). Contains xs j) (sym is) (elim both [
+    | inl before ↦ Contains-append_left old numbers j before
+    | inr there ↦ Contains-append_right old numbers j there
+  ]),
+)
 
 -- a list of what is gone over
 pub listed_more : (keys rest later : List ℕ) (list longer : List ℕ) (s : ℕ) → keys ≡ list ++ rest → rest ≡ s ∷ later → longer ≡ list ++ s ∷ [] → keys ≡ longer ++ later

@@ -101,8 +101,7 @@ fn change_of(alloc: Global, found: &Found, a: &Automaton, s: StateId) -> Result<
     ensures state { IfOk result (λ (c : Change). c.state.0 ≡ s.0) }
 {
     let polarity = a.polarity(s);
-    let set = members(alloc, found, a, s)?;
-    let all = listed(alloc, &set)?;
+    let all = members(alloc, found, a, s)?;
     let head = combined_head(alloc, a, polarity, all.as_slice())?;
     let ends = ends_of(alloc, a, polarity, all.as_slice())?;
     Ok(Change {
@@ -123,35 +122,39 @@ pub fn listed(alloc: Global, set: &BTreeSet<usize>) -> Result<Vec<usize>, Memory
     Ok(list)
 }
 
-// The states whose old heads go into the new head of a state.
-fn members(
-    alloc: Global,
-    found: &Found,
-    a: &Automaton,
-    s: StateId,
-) -> Result<BTreeSet<usize>, Memory>
+// The states whose old heads go into the new head of a state, each once.
+fn members(alloc: Global, found: &Found, a: &Automaton, s: StateId) -> Result<Vec<usize>, Memory>
     requires closed { IsClosed a.now }
     requires states { HoldsStates a.now found.now }
     requires in_range { s.0 < length a.now.states }
-    ensures members { IfOk result (λ all. AreMembers a.now (Holds found.now) s.0 all.keys) }
-    ensures states { IfOk result (λ all. All (IsState a.now (polarity_at a.now s.0)) all.keys) }
+    ensures members { IfOk result (λ all. AreMembers a.now (Holds found.now) s.0 all.items) }
+    ensures states { IfOk result (λ all. All (IsState a.now (polarity_at a.now s.0)) all.items) }
 {
-    let mut all = BTreeSet::new(alloc);
-    insert_all(&mut all, &[s.0])?;
+    let mut all = Vec::new(alloc);
+    all.push(s.0)?;
     add_reaching(&mut all, found, a, s)?;
-    Ok(all)
+    Ok(distinct(all))
+}
+
+// The same numbers, each once.
+fn distinct(mut numbers: Vec<usize>) -> Vec<usize>
+    ensures { (j : ℕ) → Contains result.items j ↔ Contains numbers.items j }
+{
+    numbers.sort_unstable();
+    numbers.dedup();
+    numbers
 }
 
 // Adds the states whose old heads go into the new head of a state by an edge and a related pair.
 fn add_reaching(
-    members: &mut BTreeSet<usize>,
+    members: &mut Vec<usize>,
     found: &Found,
     a: &Automaton,
     s: StateId,
 ) -> Result<(), Memory>
     requires closed { IsClosed a.now }
     requires in_range { s.0 < length a.now.states }
-    ensures { OnOk result ((j : ℕ) → Contains members.new.keys j ↔ Contains members.old.keys j
+    ensures { OnOk result ((j : ℕ) → Contains members.new.items j ↔ Contains members.old.items j
         ⊎ ReachesBy a.now (Holds found.now) (polarity_at a.now s.0) s.0 j) }
 {
     match a.polarity(s) {
@@ -167,31 +170,23 @@ fn add_reaching(
 }
 
 // Adds the states that are related to one of the negative ones.
-fn add_above(
-    members: &mut BTreeSet<usize>,
-    found: &Found,
-    negatives: &[usize],
-) -> Result<(), Memory>
-    ensures { OnOk result ((j : ℕ) → Contains members.new.keys j ↔ Contains members.old.keys j
+fn add_above(members: &mut Vec<usize>, found: &Found, negatives: &[usize]) -> Result<(), Memory>
+    ensures { OnOk result ((j : ℕ) → Contains members.new.items j ↔ Contains members.old.items j
         ⊎ ByOne negatives.now (λ n p. Holds found.now p n) j) }
 {
     for n in negatives {
-        insert_all(members, found.above(StateId(*n)))?;
+        members.extend_from_slice(found.above(StateId(*n)))?;
     }
     Ok(())
 }
 
 // Adds the states to which one of the positive ones is related.
-fn add_below(
-    members: &mut BTreeSet<usize>,
-    found: &Found,
-    positives: &[usize],
-) -> Result<(), Memory>
-    ensures { OnOk result ((j : ℕ) → Contains members.new.keys j ↔ Contains members.old.keys j
+fn add_below(members: &mut Vec<usize>, found: &Found, positives: &[usize]) -> Result<(), Memory>
+    ensures { OnOk result ((j : ℕ) → Contains members.new.items j ↔ Contains members.old.items j
         ⊎ ByOne positives.now (λ p n. Holds found.now p n) j) }
 {
     for p in positives {
-        insert_all(members, found.below(StateId(*p)))?;
+        members.extend_from_slice(found.below(StateId(*p)))?;
     }
     Ok(())
 }

@@ -27,8 +27,7 @@ returns-clause-there c =
     c.index_mut.ensures.value ∙ get_or_default sets c.args.number c.index_mut.result.now [] c.in_ok-lengthen.ensures.there in
     let same : (k m : ℕ) → HasMember sets k m ↔ HasMember c.args.sets.now.items k m = c.in_ok-lengthen.ensures.same in
     let there : c.in_ok-is_new.is_new ≡ false ↔ HasMember sets c.args.number c.args.member =
-    subst (λ (old : List ℕ). c.in_ok-is_new.is_new ≡ false ↔ Contains old c.args.member) at c.in_ok-is_new.ensures.there in
-    (
+    subst (λ (old : List ℕ). c.in_ok-is_new.is_new ≡ false ↔ Contains old c.args.member) at c.in_ok-is_new.ensures.there in (
       λ is. (same c.args.number c.args.member).0 (there.0 is),
       λ it. there.1 ((same c.args.number c.args.member).1 it),
     )

@@ -5,4 +5,4 @@ use Rattle.mls_solver.specs.steps.Numbers.{ByOne}
 use Rattle.mls_solver.proofs.settle.add_above.Given as goal
 
 abbrev pub invariant-loop-n : goal.invariant-loop-n
-invariant-loop-n l = (j : ℕ) → Contains l.members.keys j ↔ Contains l.initial.members.keys j ⊎ ByOne (take l.n-index l.negatives) (λ n p. Holds l.found p n) j
+invariant-loop-n l = (j : ℕ) → Contains l.members.items j ↔ Contains l.initial.members.items j ⊎ ByOne (take l.n-index l.negatives) (λ n p. Holds l.found p n) j

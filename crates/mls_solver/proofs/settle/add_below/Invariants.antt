@@ -5,4 +5,4 @@ use Rattle.mls_solver.specs.steps.Numbers.{ByOne}
 use Rattle.mls_solver.proofs.settle.add_below.Given as goal
 
 abbrev pub invariant-loop-p : goal.invariant-loop-p
-invariant-loop-p l = (j : ℕ) → Contains l.members.keys j ↔ Contains l.initial.members.keys j ⊎ ByOne (take l.p-index l.positives) (λ p n. Holds l.found p n) j
+invariant-loop-p l = (j : ℕ) → Contains l.members.items j ↔ Contains l.initial.members.items j ⊎ ByOne (take l.p-index l.positives) (λ p n. Holds l.found p n) j
