@@ -23,8 +23,8 @@ use mls_automaton::automaton::Automaton;
 use mls_automaton::scheme::{Env, EnvEntry, Scheme};
 use mls_automaton::state_set::StateId;
 use mls_base::memory::Memory;
-use mls_solver::settle::listed;
 use std::alloc::Global;
+use std::collections::BTreeSet;
 
 // The scheme of the states that heads reach from the root and the binders, in the order of their numbers. It goes over
 // these states alone.
@@ -159,4 +159,15 @@ fn placed_env(alloc: Global, env: &[EnvEntry], numbers: &[usize]) -> Result<Env,
         })?;
     }
     Ok(placed)
+}
+
+// The members of a set in order.
+fn listed(alloc: Global, set: &BTreeSet<usize>) -> Result<Vec<usize>, Memory>
+    ensures { IfOk result (λ list. list.items ≡ set.now.keys) }
+{
+    let mut list = Vec::new(alloc);
+    for number in set {
+        list.push(*number)?;
+    }
+    Ok(list)
 }

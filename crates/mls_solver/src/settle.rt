@@ -111,17 +111,6 @@ fn change_of(alloc: Global, found: &Found, a: &Automaton, s: StateId) -> Result<
     })
 }
 
-// The members of a set in order.
-pub fn listed(alloc: Global, set: &BTreeSet<usize>) -> Result<Vec<usize>, Memory>
-    ensures { IfOk result (λ list. list.items ≡ set.now.keys) }
-{
-    let mut list = Vec::new(alloc);
-    for number in set {
-        list.push(*number)?;
-    }
-    Ok(list)
-}
-
 // The states whose old heads go into the new head of a state, each once.
 fn members(alloc: Global, found: &Found, a: &Automaton, s: StateId) -> Result<Vec<usize>, Memory>
     requires closed { IsClosed a.now }

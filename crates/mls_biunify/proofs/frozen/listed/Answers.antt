@@ -2,7 +2,7 @@ use Rattle.std.proofs.Common.{◌++◌, ◌∙◌, ap, sym}
 use Rattle.std.specs.Map.Iter.{deref}
 use Rattle.std.proofs.lemmas.Map.Iter.{rest_more, rest_all}
 use Rattle.mls_solver.proofs.Settling.{listed_more, listed_all}
-use Rattle.mls_solver.proofs.settle.listed.Goals as goal
+use Rattle.mls_biunify.proofs.frozen.listed.Goals as goal
 
 pub loop-number-init : goal.loop-number-init
 loop-number-init c = sym c.into_iter-number-iterator.ensures.into_iter_gives.0 ∙ sym (ap (λ xs. xs ++ c.into_iter-number-iterator.result) c.new-list.ensures.items)
