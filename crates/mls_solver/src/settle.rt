@@ -112,7 +112,7 @@ fn change_of(alloc: Global, found: &Found, a: &Automaton, s: StateId) -> Result<
     })
 }
 
-// The members of a set in order.
+/// The members of a set in order.
 pub fn listed(alloc: Global, set: &BTreeSet<usize>) -> Result<Vec<usize>, Memory>
     ensures { IfOk result (λ list. list.items ≡ set.now.keys) }
 {
