@@ -8,9 +8,9 @@ use Rattle.std.proofs.lemmas.List.{get_or_default}
 use Rattle.mls_automaton.specs.Automata.{Automaton, head_at}
 use Rattle.mls_solver.specs.declared.goal.Clash.{Clash}
 use Rattle.mls_solver.specs.declared.goal.ClashKind.{ClashKind}
-use Rattle.mls_solver.specs.Clashes.{Clashes, HasNoClash, IsClashOf, IsFirstClash, IsAtMost, clash_key, key_cmp, kind_key}
+use Rattle.mls_solver.specs.Clashes.{Clashes, HasNoClash, IsClashOf, IsFirstClash, IsFirstKind, IsAtMost, clash_key, key_cmp, kind_key}
 use Rattle.mls_solver.specs.Rooms.{Room, Holds}
-use Rattle.mls_solver.specs.steps.FirstClashes.{IsFirstKind, IsFirstOf, IsEarlier, IsPairAt, IsPairBelow}
+use Rattle.mls_solver.specs.steps.FirstClashes.{IsFirstOf, IsEarlier, IsPairAt, IsPairBelow}
 use Rattle.mls_solver.proofs.KeyOrder.{at_most-pair, IsAtMost-trans, IsAtMost-flip}
 
 pub earlier_right : (a : Automaton) (first other : Option Clash) (left right : Clash) → first ≡ Some left → other ≡ Some right → is_le (key_cmp (clash_key a left) (clash_key a right)) ≡ false → IsEarlier a first other (Some right)

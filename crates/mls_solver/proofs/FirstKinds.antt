@@ -18,9 +18,8 @@ use Rattle.mls_automaton.specs.Heads.{set_at}
 use Rattle.mls_automaton.specs.Models.{HasRisingLabels}
 use Rattle.mls_solver.specs.declared.goal.ClashKind.{ClashKind}
 use Rattle.mls_solver.specs.declared.goal.ClashKind.TheVariants.{Unlike, Lacks}
-use Rattle.mls_solver.specs.Clashes.{LacksField, Clashes, label_of, rank, kind_key}
+use Rattle.mls_solver.specs.Clashes.{IsFirstKind, LacksField, Clashes, label_of, rank, kind_key}
 use Rattle.mls_solver.specs.steps.Kinds.{first_kind, other_kind, is_unlike, unlike_kind, lacks}
-use Rattle.mls_solver.specs.steps.FirstClashes.{IsFirstKind}
 use Rattle.mls_solver.proofs.PartKinds.{same_kind, same_kind-is, same_kind-self}
 use Rattle.mls_solver.proofs.KeyOrder.{at_most-then, labels-at_most, slice_get-below}
 

@@ -50,6 +50,12 @@ abbrev pub kind_key : Head → ClashKind → List ℕ
 kind_key h (Unlike first second) = 0 ∷ rank first ∷ rank second ∷ []
 kind_key h (Lacks i) = 1 ∷ label_of h.fields i
 
+-- the first kind in which two heads clash, if they clash
+abbrev pub IsFirstKind : Head → Head → Option ClashKind → Type 0
+IsFirstKind h k None = (kind : ClashKind) → Clashes h k kind → ⊥
+IsFirstKind h k (Some first) = Clashes h k first
+    × ((kind : ClashKind) → Clashes h k kind → IsTrue (is_le (slice_cmp nat_cmp (kind_key k first) (kind_key k kind))))
+
 -- clashes of one kind are ordered by the positive state and then the negative one
 abbrev pub clash_key : Automaton → Clash → List (List ℕ)
 clash_key a c = kind_key (head_at a c.negative.0) c.kind ∷ (c.positive.0 ∷ c.negative.0 ∷ []) ∷ []

@@ -4,11 +4,11 @@ ghost use Rattle.std.specs.Prelude.{OnOk, IfErr};
 ghost use Rattle.std.specs.Ordering.{nat_cmp};
 ghost use Rattle.std.specs.Cmp.Lexicographic.{slice_cmp};
 ghost use Rattle.mls_automaton.specs.Models.{HasRisingLabels, IsClosed};
-ghost use Rattle.mls_solver.specs.Clashes.{HasNoClash, IsFirstClash, LacksField, clash_key, key_cmp, kind_key};
+ghost use Rattle.mls_solver.specs.Clashes.{HasNoClash, IsFirstClash, IsFirstKind, LacksField, clash_key, key_cmp, kind_key};
 ghost use Rattle.mls_solver.specs.Clashes.{label_of, rank};
 ghost use Rattle.mls_solver.specs.Rooms.{Holds};
 ghost use Rattle.mls_solver.specs.steps.Kinds.{first_kind, other_kind, is_unlike, unlike_kind, lacks};
-ghost use Rattle.mls_solver.specs.steps.FirstClashes.{IsFirstKind, IsFirstOf, IsEarlier, IsPairAt};
+ghost use Rattle.mls_solver.specs.steps.FirstClashes.{IsFirstOf, IsEarlier, IsPairAt};
 
 use crate::goal::{Clash, ClashKind, HeadKind};
 use crate::room::Room;
@@ -80,7 +80,7 @@ fn compare(a: &Automaton, left: &Clash, right: &Clash) -> Ordering
     compare_heads(a.head(left.negative), left, a.head(right.negative), right)
 }
 
-// Which of two clashes comes first, where the negative states have these heads.
+/// Which of two clashes comes first, where the negative states have these heads.
 pub fn compare_heads(lower: &Head, left: &Clash, other: &Head, right: &Clash) -> Ordering
     ensures { result ≡ key_cmp (kind_key lower.now left.now.kind ∷
         (left.now.positive.0 ∷ left.now.negative.0 ∷ []) ∷ [])
@@ -138,7 +138,7 @@ fn label_of(head: &Head, i: usize) -> &[u8]
     }
 }
 
-// The first kind in which the heads of a positive and a negative state clash.
+/// The first kind in which the heads of a positive and a negative state clash.
 pub fn clash_of(upper: &Head, lower: &Head) -> Option<ClashKind>
     requires { HasRisingLabels lower.now.fields }
     ensures { IsFirstKind upper.now lower.now result }

@@ -184,6 +184,7 @@ pub(crate) fn combined_head(
     combine_heads(alloc, polarity, &first, &second)
 }
 
+/// A copy of a head.
 pub fn copied_head(head: &Head) -> Result<Head, Memory>
     ensures { IfOk result (λ copy. copy ≡ head.now) }
 {

@@ -1,19 +1,9 @@
 -- The first clash among some pairs of a room.
-use Rattle.std.specs.Prelude.{◌≡◌, ◌⊎◌, ℕ, ◌<◌, get_or, IsTrue, Option, Some, None}
-use Rattle.std.specs.Ordering.{nat_cmp, is_le}
-use Rattle.std.specs.Cmp.Lexicographic.{slice_cmp}
-use Rattle.mls_automaton.specs.declared.automaton.Head.{Head}
+use Rattle.std.specs.Prelude.{◌≡◌, ◌⊎◌, ℕ, ◌<◌, get_or, Option, Some, None}
 use Rattle.mls_automaton.specs.Automata.{Automaton}
 use Rattle.mls_solver.specs.declared.goal.Clash.{Clash}
-use Rattle.mls_solver.specs.declared.goal.ClashKind.{ClashKind}
-use Rattle.mls_solver.specs.Clashes.{Clashes, HasNoClash, IsFirstClash, IsAtMost, kind_key}
+use Rattle.mls_solver.specs.Clashes.{HasNoClash, IsFirstClash, IsAtMost}
 use Rattle.mls_solver.specs.Rooms.{Room}
-
--- the first kind in which two heads clash, if they clash
-abbrev pub IsFirstKind : Head → Head → Option ClashKind → Type 0
-IsFirstKind h k None = (kind : ClashKind) → Clashes h k kind → ⊥
-IsFirstKind h k (Some first) = Clashes h k first
-    × ((kind : ClashKind) → Clashes h k kind → IsTrue (is_le (slice_cmp nat_cmp (kind_key k first) (kind_key k kind))))
 
 -- the first clash of a relation, if there is one
 abbrev pub IsFirstOf : Automaton → (ℕ → ℕ → Type 0) → Option Clash → Type 0

@@ -2,7 +2,7 @@ use Rattle.std.proofs.Common.{Some, None, subst, sym}
 use Rattle.mls_automaton.specs.declared.automaton.Head.{Head}
 use Rattle.mls_automaton.specs.Automata.{head_at}
 use Rattle.mls_automaton.specs.Models.{HasRisingLabels}
-use Rattle.mls_solver.specs.steps.FirstClashes.{IsFirstKind}
+use Rattle.mls_solver.specs.Clashes.{IsFirstKind}
 use Rattle.mls_solver.proofs.FirstClashes.{pair_held, pair_none, pair_first}
 use Rattle.mls_biunify.proofs.clash.clash_found.Goals as goal
 

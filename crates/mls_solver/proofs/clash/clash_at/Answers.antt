@@ -1,7 +1,7 @@
 use Rattle.std.proofs.Common.{Some, None, subst, sym}
 use Rattle.mls_automaton.specs.declared.automaton.Head.{Head}
 use Rattle.mls_automaton.specs.Automata.{head_at}
-use Rattle.mls_solver.specs.steps.FirstClashes.{IsFirstKind}
+use Rattle.mls_solver.specs.Clashes.{IsFirstKind}
 use Rattle.mls_solver.proofs.FirstClashes.{pair_held, pair_none, pair_first}
 use Rattle.mls_solver.proofs.clash.clash_at.Goals as goal
 
