@@ -3,12 +3,13 @@
 --     posed_kept, binders_kept, made_kept
 --                             what was made of a first part stays so while more types become known
 --     first_needs             a type that was made needs no binders but those around its let
---     firsts_start, firsts_same, firsts_more
+--     firsts_start, firsts_same, firsts_more, firsts_added
 --                             the types of first parts, one root after another
 --     have_first_types        so all lets have such types
 use Rattle.std.proofs.Common.{◌≡◌, ◌⊎◌, inl, inr, ℕ, ◌+◌, ◌<◌, Bool, true, false, cond, arith, List, [], ◌∷◌, ◌++◌, length, refl, sym, ap, ◌∙◌, subst, Contains, Option, Some, None}
 use Rattle.std.specs.Prelude.{◌↔◌, IsSome, is_some}
-use Rattle.std.specs.BTreeMap.{BTreeMap, get, Updates}
+use Rattle.std.specs.BTreeMap.{BTreeMap, get, is_at, Updates}
+use Rattle.std.specs.Map.{lookup}
 use Rattle.std.specs.Ordering.{nat_cmp, is_eq}
 use Rattle.std.proofs.lemmas.List.Elements.{Contains-push_cases}
 use Rattle.mls_book.proofs.LongerBooks.{below_or_more}
@@ -27,6 +28,7 @@ use Rattle.mls_deriv.specs.Steps.{form_at}
 use Rattle.mls_layout.specs.PosedNodes.{IsNodePosed}
 use Rattle.mls_layout.proofs.KeySets.{number_same, number_self}
 use Rattle.mls_parts.specs.declared.binders.PartBinders.{PartBinders}
+use Rattle.mls_parts.specs.declared.pose.KnownTypes.{KnownTypes}
 use Rattle.mls_parts.specs.declared.pose.Posing.{Posing}
 use Rattle.mls_parts.specs.MetCopies.{IsUseMet}
 use Rattle.mls_parts.specs.NodeTypes.{at_top}
@@ -41,9 +43,9 @@ use Rattle.mls_parts.specs.TermParts.{IsTermPart}
 use Rattle.mls_parts.specs.TreeNodes.{AreTreeNodes}
 use Rattle.mls_parts.proofs.TreeNodes.{form_low, one_form, tree_nodes}
 use Rattle.mls_emit.specs.LetScopes.{HasScopes, HaveScopes}
-use Rattle.mls_allowed.specs.FirstTypes.{AreFieldLetsIn, AreFirstsMade, AreLetsIn, HaveBooks, HaveFirstTypes, HaveOwnLets, IsFirstMade}
+use Rattle.mls_emit.specs.MadeFirsts.{around_states, same, start, more, AddsFirst, AreAdded, IsFirstMade}
+use Rattle.mls_allowed.specs.FirstTypes.{AreFieldLetsIn, AreFirstsMade, AreLetsIn, HaveBooks, HaveFirstTypes, HaveOwnLets}
 use Rattle.mls_allowed.specs.PartTypes.{AreAround}
-use Rattle.mls_allowed.specs.ReadyParts.{around_states}
 use Rattle.mls_allowed.proofs.AroundParts.{part_around}
 use Rattle.mls_allowed.proofs.FirstScopes.{IsFirstAround, first_around}
 use Rattle.mls_allowed.proofs.FirstTypes.{made_first_type}
@@ -289,6 +291,15 @@ module _ (nodes : List TermNode) (globals : BTreeMap ℕ Scheme) (let_scope : �
         | inr other ↦ it.needs q x (subst (λ o. NeedsBinder o x) other.1 need)
       ];
     }
+
+  -- what became known one root after another
+  pub firsts_added : HaveOwnLets nodes → (r : ℕ) (known : KnownTypes) → known.globals ≡ globals → AreAdded nodes r known → AreFirstsMade nodes globals known.lets let_scope r
+  firsts_added own_lets r known is (start {known = known} empty) = firsts_start known.lets (λ k. ap (lookup (is_at (nat_cmp k))) empty)
+  firsts_added own_lets r known is (same {r = r} {known = known} before none) = firsts_same known.lets r none (firsts_added own_lets r known is before)
+  firsts_added own_lets r known is (more {r = r} {old = old} {new = new} before adds) =
+      let globals_are : old.globals ≡ globals = sym adds.globals ∙ is in
+      firsts_more own_lets old.lets new.lets r adds.node adds.number adds.second adds.is adds.scheme adds.updates (firsts_added own_lets r old globals_are before)
+      (subst (λ (gs : BTreeMap ℕ Scheme). IsFirstMade nodes gs old.lets r adds.scheme) globals_are adds.made)
 
   -- all lets have types of their first parts
   pub have_first_types : (types : BTreeMap ℕ Scheme) → AreFirstsMade nodes globals types let_scope (length nodes) → (known : Known) → HaveBooks known types → HaveFirstTypes nodes known globals types let_scope

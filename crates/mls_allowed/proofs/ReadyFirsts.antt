@@ -42,9 +42,10 @@ use Rattle.mls_parts.specs.TermParts.{IsTermPart}
 use Rattle.mls_parts.proofs.NumberedNodes.{numbered_whole}
 use Rattle.mls_parts.proofs.TreeNodes.{kids, form_low, node_with, one_form, tree_nodes}
 use Rattle.mls_emit.specs.LetScopes.{HasScopes}
-use Rattle.mls_allowed.specs.FirstTypes.{AreFirstsMade, AreFieldLetsIn, AreLetsIn, HaveFirstTypes, IsFirstMade}
+use Rattle.mls_emit.specs.MadeFirsts.{around_states, IsFirstMade}
+use Rattle.mls_allowed.specs.FirstTypes.{AreFirstsMade, AreFieldLetsIn, AreLetsIn, HaveFirstTypes}
 use Rattle.mls_allowed.specs.PartTypes.{AreAround}
-use Rattle.mls_allowed.specs.ReadyParts.{around_states, IsPartReady}
+use Rattle.mls_allowed.specs.ReadyParts.{IsPartReady}
 use Rattle.mls_allowed.proofs.FirstScopes.{IsFirstAround, first_around}
 use Rattle.mls_allowed.proofs.FirstTypes.{firsts_allow}
 use Rattle.mls_allowed.proofs.KnownHere.{known_let, known_more}

@@ -53,7 +53,8 @@ use Rattle.mls_parts.specs.TermParts.{IsTermPart}
 use Rattle.mls_parts.specs.TreeNodes.{AreTreeNodes}
 use Rattle.mls_parts.proofs.Owners.{node_low}
 use Rattle.mls_parts.proofs.SplitParts.{own_parts_in}
-use Rattle.mls_allowed.specs.ReadyParts.{around_states, constraint_of, goal_pair, needed_by, IsPartReady, IsUseAround}
+use Rattle.mls_emit.specs.MadeFirsts.{around_states}
+use Rattle.mls_allowed.specs.ReadyParts.{constraint_of, goal_pair, needed_by, IsPartReady, IsUseAround}
 use Rattle.mls_emit.specs.Writings as writings
 use Rattle.mls_allowed.proofs.AroundParts.{closed_part, rises_around}
 use Rattle.mls_allowed.proofs.FirstScopes.{IsAround}

@@ -43,7 +43,8 @@ use Rattle.mls_parts.proofs.TreeNodes.{tree_nodes}
 use Rattle.mls_emit.specs.LetScopes.{HasScopes}
 use Rattle.mls_allowed.specs.FirstTypes.{AreFirstsMade, HaveBooks}
 use Rattle.mls_allowed.specs.PartTypes.{AreAround}
-use Rattle.mls_allowed.specs.ReadyParts.{around_states, IsPartReady}
+use Rattle.mls_emit.specs.MadeFirsts.{around_states}
+use Rattle.mls_allowed.specs.ReadyParts.{IsPartReady}
 use Rattle.mls_allowed.proofs.AroundParts.{part_around}
 use Rattle.mls_allowed.proofs.FirstScopes.{IsAround, whole_around, whole_scope}
 use Rattle.mls_allowed.proofs.FirstTypes.{allowed_subsumes, firsts_allow}

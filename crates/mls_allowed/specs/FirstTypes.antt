@@ -32,7 +32,7 @@ use Rattle.mls_parts.specs.PosedParts.{IsPartPosed}
 use Rattle.mls_parts.specs.Posings.{known_in, root_in}
 use Rattle.mls_parts.specs.SolvedTypes.{HasBindersOf, solved_scheme}
 use Rattle.mls_parts.specs.TermParts.{IsTermPart}
-use Rattle.mls_allowed.specs.ReadyParts.{around_states}
+use Rattle.mls_emit.specs.MadeFirsts.{IsFirstMade}
 
 -- The part of this tree, whose first node has the number n, has its constraint, which is solved; the type subsumes what
 -- it gives the part, and needs no binders but those around.
@@ -82,29 +82,6 @@ abbrev pub HaveFirstTypes : List TermNode → Known → (globals lets : BTreeMap
 HaveFirstTypes nodes known globals lets let_scope =
     (scope : List ℕ) (n at k : ℕ) (e f : TermTree) → IsPlaced nodes scope n (local at k e f) → IsNamed let_scope scope k
     → (type : book.Scheme) × (env.get known.lets k ≡ Some type) × HasFirstType nodes globals lets scope n e type
-
--- The type that is known of a let was made of its first part, which has this root: the part has its constraint over the
--- binders that it names, which is solved; and the type is deterministic, has the binders around the part that it names
--- and no others, and subsumes what the solved constraint gives the part and these, as that subsumes it.
-pub record IsFirstMade (nodes : List TermNode) (globals lets : BTreeMap ℕ Scheme) (r : ℕ) (own : Scheme) :
-    Type 0 where
-  pub part : TermPart
-  pub is_part : IsTermPart nodes r part
-  pub know : KnowTypes globals lets nodes part.nodes
-  pub binders : PartBinders
-  pub are_binders : ArePartBinders nodes lets part.nodes binders
-  pub posing : Posing
-  pub posed : IsPartPosed nodes globals lets binders.all part.nodes posing
-  pub solved : Automaton
-  pub is_solved : IsSolved posing.automaton (IsRelated posing.automaton (IsGoal posing.goals)) solved
-  pub closed : IsClosed solved
-  pub is : IsScheme own
-  pub rise : BindersRise own.env
-  pub single : IsDeterministic own.automaton
-  pub all : HasBindersOf (solved_scheme solved (root_in posing r) (around_states posing binders.around)) own
-  pub same : HasBindersOf own (solved_scheme solved (root_in posing r) (around_states posing binders.around))
-  pub subsumes : DoesSubsume own (solved_scheme solved (root_in posing r) (around_states posing binders.around))
-  pub subsumed : DoesSubsume (solved_scheme solved (root_in posing r) (around_states posing binders.around)) own
 
 -- The types of the first parts before node r are known, and were made so; no other let has one. They need no binders
 -- but those around their lets.

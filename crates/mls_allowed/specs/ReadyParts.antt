@@ -45,10 +45,6 @@ goal_pair g = (g.positive.0, g.negative.0)
 abbrev pub constraint_of : Posing → Constraint
 constraint_of p = record { automaton = p.automaton; goals = map goal_pair p.goals }
 
--- binders with their states
-abbrev pub around_states : Posing → List ℕ → List (ℕ × ℕ)
-around_states p xs = map (λ x. (x, binder_in p x)) xs
-
 -- the binders that the types of lets need
 abbrev pub needed_binders : Option Scheme → List ℕ
 needed_binders None = []

@@ -2,15 +2,18 @@
 --     term_nodes            the nodes of a term, and of each term of a module
 --     read_type             a type that was read has no binders, so it may be copied everywhere
 --     no_name, one_name, same_name      what is known of no name, of one name more, and of one that is known
+--     all_before            binders before one of rising binders are below it
 --     globals_none, globals_more      what is known of the names of the environment, one node after another
 --     firsts_none           no first part stands before the first node
 --     firsts_same           where the root is that of no first part
 --     firsts_more           where the type of the first part with the root is known
 --     before_same, before_more      so with all that is known
+--     first_made            the type of a first part was made of the part
 --     no_first              a root that is none of a part is that of no first part
 --     know_types            what a part needs to be known
-use Rattle.std.proofs.Common.{◌≡◌, ◌⊎◌, inl, inr, ℕ, zero, suc, ◌+◌, Bool, true, false, List, [], ◌∷◌, length, refl, sym, ap, ◌∙◌, subst, arith, Contains, slice_get, Option, Some, None}
-use Rattle.std.specs.Prelude.{IsSome, is_some, cond}
+use Rattle.std.proofs.Common.{◌≡◌, ◌⊎◌, inl, inr, ℕ, zero, suc, ◌+◌, ◌<◌, Bool, true, false, List, [], ◌∷◌, length, refl, sym, ap, ◌∙◌, subst, arith, Contains, slice_get, get_or, take, Option, Some, None}
+use Rattle.std.specs.Prelude.{All, IsSome, is_some, cond}
+use Rattle.std.proofs.lemmas.List.{length-map, length-take-le, get_or-map, get_or-take}
 use Rattle.std.specs.BTreeMap.{BTreeMap, IsEmpty, Updates, get, is_at}
 use Rattle.std.specs.Map.{lookup}
 use Rattle.std.specs.Ordering.{nat_cmp, is_eq}
@@ -18,8 +21,13 @@ use Rattle.mls_book.proofs.LongerBooks.{below_or_more}
 use Rattle.mls_automaton.specs.declared.scheme.EnvEntry.{EnvEntry}
 use Rattle.mls_automaton.specs.declared.scheme.Scheme.{Scheme}
 use Rattle.mls_automaton.specs.Automata.{head_at, polarity_at, IsState}
+use Rattle.mls_automaton.specs.Environments.{BindersRise}
 use Rattle.mls_automaton.specs.Schemes.{IsScheme}
+use Rattle.mls_automaton.specs.Sets.{Rises}
 use Rattle.mls_automaton.proofs.Passing.{states_more}
+use Rattle.mls_solver.specs.Relations.{IsGoal, IsRelated}
+use Rattle.mls_solver.specs.Rooms.{Holds}
+use Rattle.mls_solver.proofs.SolvedRooms.{solved-same}
 use Rattle.mls_term.specs.declared.term.ResolvedBinding.{ResolvedBinding}
 use Rattle.mls_term.specs.declared.term.TermForm.{TermForm}
 use Rattle.mls_term.specs.declared.term.TermForm.TheVariants as form
@@ -31,15 +39,19 @@ use Rattle.mls_deriv.specs.Steps.{form_at}
 use Rattle.mls_layout.proofs.KeySets.{number_self}
 use Rattle.mls_layout.proofs.WorkedParts.{nothing}
 use Rattle.mls_parts.specs.declared.pose.KnownTypes.{KnownTypes}
+use Rattle.mls_parts.specs.declared.pose.Posing.{Posing}
 use Rattle.mls_parts.specs.declared.split.TermPart.{TermPart}
 use Rattle.mls_parts.specs.MetCopies.{IsOfNoBinder}
 use Rattle.mls_parts.specs.PartUses.{HasOwnType, IsBehindFirst, KnowTypes, KnowsType}
 use Rattle.mls_parts.specs.PosedParts.{HasKnownType, IsKnownType}
-use Rattle.mls_parts.specs.Posings.{known_in}
+use Rattle.mls_parts.specs.Posings.{binder_in, known_in, root_in}
+use Rattle.mls_parts.specs.SolvedTypes.{entries_of, entry_of}
 use Rattle.mls_parts.specs.TermParts.{AreTermParts, IsTermPart}
 use Rattle.mls_parts.specs.TreeNodes.{AreTreeNodes}
 use Rattle.mls_parts.proofs.SplitParts.{own_labels, behind_firsts, first_before_let, first_before_use}
 use Rattle.mls_parts.proofs.TreeNodes.{tree_nodes}
+use Rattle.mls_emit.specs.declared.derive.section.SolvedPart.{SolvedPart}
+use Rattle.mls_emit.specs.MadeFirsts.{around_states, same, more, IsFirstMade, IsFirstType, IsNoFirst, IsPartSolved}
 use Rattle.mls_emit.specs.Drafts.{AreTermNodes, HaveNoBinders, KnowGlobals, KnowFirsts, KnowsBefore, KnowsForm, KnowsFirst}
 
 -- the nodes of a term, and of each term of a module
@@ -74,6 +86,20 @@ read_type s is free = record {
   where
     none : (entry : EnvEntry) → Contains s.env entry → ⊥
     none entry there = nothing entry (subst (λ (env : List EnvEntry). Contains env entry) free there)
+
+-- the binders before one of rising binders, with their states, are below it
+pub all_before : (p : Posing) (binders : List ℕ) → Rises binders → (i : ℕ) → i < length binders
+    → All (λ (other : EnvEntry). other.binder < get_or binders i 0) (entries_of (around_states p (take i binders)))
+all_before p binders rises i low k d less =
+    let count : length (entries_of (around_states p (take i binders))) ≡ length (take i binders) = length-map (around_states p (take i binders)) entry_of ∙ length-map (take i binders) (λ x. (x, binder_in p x)) in
+    let short : length (take i binders) ≡ i = length-take-le i binders (omega (arith, low)) in
+    let under : k < i = subst (λ n. k < n) (count ∙ short) less in
+    let states : List (ℕ × ℕ) = around_states p (take i binders) in
+    let first : get_or (entries_of states) k d ≡ entry_of (get_or states k (0, 0)) = get_or-map entry_of states k (0, 0) d (subst (λ n. k < n) (sym (length-map (take i binders) (λ x. (x, binder_in p x)) ∙ short)) under) in
+    let second : get_or states k (0, 0) ≡ (get_or (take i binders) k 0, binder_in p (get_or (take i binders) k 0)) = get_or-map (λ x. (x, binder_in p x)) (take i binders) k 0 (0, 0) (subst (λ n. k < n) (sym short) under) in
+    let third : get_or (take i binders) k 0 ≡ get_or binders k 0 = get_or-take i binders k 0 under in
+    let at : (get_or (entries_of states) k d).binder ≡ get_or binders k 0 = ap (λ (e : EnvEntry). e.binder) first ∙ ap (λ (q : ℕ × ℕ). q.0) second ∙ third in
+    subst (λ x. x < get_or binders i 0) (sym at) (rises k i under low)
 
 -- what a map knows after a name was added
 at_key : (old new : BTreeMap ℕ Scheme) (k : ℕ) (s : Scheme) → Updates nat_cmp old new k (Some s) → (q : ℕ) → (known_in new q ≡ Some s) ⊎ ((k ≡ q → ⊥) × (known_in new q ≡ known_in old q))
@@ -138,19 +164,15 @@ pub firsts_none : (nodes : List TermNode) (lets : BTreeMap ℕ Scheme) → KnowF
 firsts_none nodes lets i k j l e low = absurd (omega (arith, low))
 
 module _ (nodes : List TermNode) (r : ℕ) where
-  -- node r is the first part of no let
-  abbrev pub IsNoFirst : Type 0
-  IsNoFirst = (i k l : ℕ) → form_at nodes i ≡ Some (form.Let k r l) → ⊥
-
-  pub firsts_same : (lets : BTreeMap ℕ Scheme) → KnowFirsts nodes lets r → IsNoFirst → KnowFirsts nodes lets (r + 1)
+  pub firsts_same : (lets : BTreeMap ℕ Scheme) → KnowFirsts nodes lets r → IsNoFirst nodes r → KnowFirsts nodes lets (r + 1)
   firsts_same lets know none i k j l e low = elim (below_or_more j r) [
     | inl before ↦ know i k j l e before
     | inr it ↦ absurd (let same : j ≡ r = (let is : j ≡ r + it.0 = it.1 in omega (arith, low, is)) in none i k l (subst (λ q. form_at nodes i ≡ Some (form.Let k q l)) same e))
   ]
 
-  pub firsts_more : AreTreeNodes nodes → (old new : BTreeMap ℕ Scheme) (i k l : ℕ) → KnowFirsts nodes old r → form_at nodes i ≡ Some (form.Let k r l) → KnowsFirst old new k
+  pub firsts_more : AreTreeNodes nodes → (old new : BTreeMap ℕ Scheme) (i k l : ℕ) → KnowFirsts nodes old r → form_at nodes i ≡ Some (form.Let k r l) → (s : Scheme) → KnowsFirst old new k s
       → KnowFirsts nodes new (r + 1)
-  firsts_more tree old new i k l know is first j h f m e low = elim (at_key old new k first.scheme first.updates h) [
+  firsts_more tree old new i k l know is s first j h f m e low = elim (at_key old new k s first.updates h) [
     | inl at ↦ subst HasOwnType (sym at) first.own
     | inr other ↦ subst HasOwnType (sym other.1) (elim (below_or_more f r) [
       | inl before ↦ know j h f m e before
@@ -167,23 +189,24 @@ module _ (nodes : List TermNode) (r : ℕ) where
           let both : Some (form.Let k r l) ≡ Some (form.Let h r m) = sym there ∙ here in
           cc
 
-  pub no_first : (parts : BTreeMap ℕ TermPart) → AreTermParts nodes parts → get nat_cmp parts r ≡ None → IsNoFirst
+  pub no_first : (parts : BTreeMap ℕ TermPart) → AreTermParts nodes parts → get nat_cmp parts r ≡ None → IsNoFirst nodes r
   no_first parts are none i k l e =
       let some : IsSome (get nat_cmp parts r) = are.there r (inr (i, form.Let k r l, e, refl)) in
       absurd (let wrong : is_some (get nat_cmp parts r) ≡ false = ap is_some none in cc)
 
 -- what is known before the next root
 pub before_same : (nodes : List TermNode) (r : ℕ) (old new : KnownTypes) → new ≡ old → KnowsBefore nodes old r → IsNoFirst nodes r → KnowsBefore nodes new (r + 1)
-before_same nodes r old new same before none =
-    subst (λ (known : KnownTypes). KnowsBefore nodes known (r + 1)) (sym same)
-    (record { free = before.free; globals = before.globals; firsts = firsts_same nodes r old.lets before.firsts none })
+before_same nodes r old new is before none =
+    subst (λ (known : KnownTypes). KnowsBefore nodes known (r + 1)) (sym is)
+    (record { free = before.free; globals = before.globals; firsts = firsts_same nodes r old.lets before.firsts none; added = same before.added none })
 
-pub before_more : (nodes : List TermNode) (r : ℕ) → AreTreeNodes nodes → (old new : KnownTypes) (k : ℕ) → KnowsBefore nodes old r → new.globals ≡ old.globals → (i l : ℕ) → form_at nodes i ≡ Some (form.Let k r l) → KnowsFirst old.lets new.lets k
-    → KnowsBefore nodes new (r + 1)
-before_more nodes r tree old new k before same i l is first = record {
-  free = subst HaveNoBinders (sym same) before.free;
-  globals = subst (λ (globals : BTreeMap ℕ Scheme). KnowGlobals nodes globals (length nodes)) (sym same) before.globals;
-  firsts = firsts_more nodes r tree old.lets new.lets i k l before.firsts is first;
+pub before_more : (nodes : List TermNode) (r : ℕ) → AreTreeNodes nodes → (old new : KnownTypes) (k : ℕ) → KnowsBefore nodes old r → new.globals ≡ old.globals → (i l : ℕ) → form_at nodes i ≡ Some (form.Let k r l) → (s : Scheme) → KnowsFirst old.lets new.lets k s
+    → IsFirstMade nodes old.globals old.lets r s → KnowsBefore nodes new (r + 1)
+before_more nodes r tree old new k before globals i l is s first made = record {
+  free = subst HaveNoBinders (sym globals) before.free;
+  globals = subst (λ (names : BTreeMap ℕ Scheme). KnowGlobals nodes names (length nodes)) (sym globals) before.globals;
+  firsts = firsts_more nodes r tree old.lets new.lets i k l before.firsts is s first;
+  added = more before.added (record { node = i; number = k; second = l; is = is; scheme = s; made = made; updates = first.updates; globals = globals });
 }
 
 -- what a part needs to be known
@@ -209,3 +232,29 @@ know_types nodes term known r before part it i f there e = by_form f e
     by_form (form.If j k l) e = tt
     by_form (form.Let k j l) e = before.firsts i k j l e (first_before_let nodes term.tree r i k j l it.root (it.only i there).1 e)
     by_form (form.Rec x j) e = tt
+
+-- the type of a first part was made of the part
+pub first_made : (nodes : List TermNode) → AreTermNodes nodes → (known : KnownTypes) (r : ℕ) → KnowsBefore nodes known r → (part : TermPart) → IsTermPart nodes r part → (solved : SolvedPart) → IsPartSolved nodes known part.nodes solved → (own : Scheme)
+    → IsFirstType solved.solution.automaton (root_in solved.posing r) (around_states solved.posing solved.around) own → BindersRise own.env → IsFirstMade nodes known.globals known.lets r own
+first_made nodes term known r before part is_part solved it own type rise = record {
+  part = part;
+  is_part = is_part;
+  know = know_types nodes term known r before part is_part;
+  binders = it.binders;
+  are_binders = it.are_binders;
+  posing = solved.posing;
+  posed = it.posed;
+  solved = solved.solution.automaton;
+  is_solved = solved-same solved.posing.automaton (Holds solved.solution.found) (IsRelated solved.posing.automaton (IsGoal solved.posing.goals)) it.related solved.solution.automaton it.solved;
+  closed = it.closed;
+  is = own_type.is;
+  rise = rise;
+  single = own_type.single;
+  all = own_type.all;
+  same = own_type.same;
+  subsumes = own_type.subsumes;
+  subsumed = own_type.subsumed;
+}
+  where
+    own_type : IsFirstType solved.solution.automaton (root_in solved.posing r) (around_states solved.posing it.binders.around) own
+    own_type = subst (λ (xs : List ℕ). IsFirstType solved.solution.automaton (root_in solved.posing r) (around_states solved.posing xs) own) it.around type

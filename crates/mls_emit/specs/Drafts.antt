@@ -3,6 +3,7 @@ use Rattle.std.specs.Prelude.{◌≡◌, ℕ, ◌<◌, List, [], length, IsSome,
 use Rattle.std.specs.BTreeMap.{BTreeMap, Updates}
 use Rattle.std.specs.Ordering.{nat_cmp}
 use Rattle.mls_automaton.specs.declared.scheme.Scheme.{Scheme}
+use Rattle.mls_automaton.specs.Environments.{BindersRise}
 use Rattle.mls_term.specs.declared.term.TermForm.{TermForm}
 use Rattle.mls_term.specs.declared.term.TermForm.TheVariants as form
 use Rattle.mls_term.specs.declared.term.TermNode.{TermNode}
@@ -12,6 +13,7 @@ use Rattle.mls_parts.specs.PartUses.{AreBehindFirsts, HasOwnType, HaveOwnLabels}
 use Rattle.mls_parts.specs.PosedParts.{IsKnownType}
 use Rattle.mls_parts.specs.Posings.{known_in}
 use Rattle.mls_parts.specs.TreeNodes.{AreTreeNodes}
+use Rattle.mls_emit.specs.MadeFirsts.{AreAdded}
 
 -- Nodes of one tree, in which no record has a label twice, and each use of a let's name stands behind the let's first
 -- part.
@@ -35,11 +37,12 @@ KnowFirsts nodes lets r =
     (i k j l : ℕ) → form_at nodes i ≡ Some (form.Let k j l) → j < r → HasOwnType (known_in lets k)
 
 -- What is known before the part with root r is written: the types of all names of the environment, and those of the
--- first parts before it.
+-- first parts before it, each of which was made of its part.
 pub record KnowsBefore (nodes : List TermNode) (known : KnownTypes) (r : ℕ) : Type 0 where
   pub free : HaveNoBinders known.globals
   pub globals : KnowGlobals nodes known.globals (length nodes)
   pub firsts : KnowFirsts nodes known.lets r
+  pub added : AreAdded nodes r known
 
 -- The second map knows all names that the first one does, and that of a node of this form, if it is one of the
 -- environment.
@@ -48,8 +51,8 @@ pub record KnowsForm (old new : BTreeMap ℕ Scheme) (f : TermForm) : Type 0 whe
   pub there : (g : ℕ) → f ≡ form.Global g → IsSome (known_in new g)
   pub kept : (h : ℕ) → IsSome (known_in old h) → IsSome (known_in new h)
 
--- The second map knows the type of the first part of let k besides.
-pub record KnowsFirst (old new : BTreeMap ℕ Scheme) (k : ℕ) : Type 0 where
-  pub scheme : Scheme
+-- The second map knows this type of the first part of let k besides.
+pub record KnowsFirst (old new : BTreeMap ℕ Scheme) (k : ℕ) (scheme : Scheme) : Type 0 where
   pub updates : Updates nat_cmp old new k (Some scheme)
   pub own : HasOwnType (Some scheme)
+  pub rise : BindersRise scheme.env

@@ -5,6 +5,7 @@ pub mod Writings
 pub mod OneEach
 pub mod Derived
 pub mod ReadPlaces
+pub mod MadeFirsts
 pub mod Drafts
 pub mod LetScopes
 pub mod steps

@@ -1,8 +1,10 @@
 //! The section of a binding, part by part.
+ghost use Rattle.std.specs.BTreeMap.{IsEmpty};
 ghost use Rattle.std.specs.Prelude.{◌≡◌, ℕ, ◌<◌, ◌+◌, [], length, All, IfOk, IfSome, OnOk, Some};
 ghost use Rattle.mls_automaton.specs.Environments.{BindersRise};
 ghost use Rattle.mls_automaton.specs.Models.{IsClosed};
 ghost use Rattle.mls_automaton.specs.Schemes.{IsScheme};
+ghost use Rattle.mls_automaton.specs.Sets.{Rises};
 ghost use Rattle.mls_solver.specs.Rooms.{HoldsStates};
 ghost use Rattle.mls_term.specs.declared.term.TermForm.TheVariants as form;
 ghost use Rattle.mls_scheme.specs.ReadTypes.{IsReadFromBook};
@@ -12,8 +14,10 @@ ghost use Rattle.mls_deriv.specs.Steps.{HasFrom};
 ghost use Rattle.mls_parts.specs.MetCopies.{AreSeparate};
 ghost use Rattle.mls_parts.specs.PartUses.{HaveOwnLabels, KnowTypes};
 ghost use Rattle.mls_parts.specs.PosedParts.{IsPartList};
+ghost use Rattle.mls_parts.specs.SolvedTypes.{entries_of};
 ghost use Rattle.mls_parts.specs.TermParts.{AreTermParts, IsTermPart};
 ghost use Rattle.mls_emit.specs.Drafts.{AreTermNodes, HaveNoBinders, KnowGlobals, KnowsBefore, KnowsFirst, KnowsForm};
+ghost use Rattle.mls_emit.specs.MadeFirsts.{around_states, IsFirstType, IsPartLaidOut, IsPartSolved};
 ghost use Rattle.mls_emit.specs.OneEach.{HasOneEach};
 ghost use Rattle.mls_emit.specs.ReadPlaces.{IsReadLaid};
 
@@ -102,12 +106,12 @@ struct SolvedPart {
 }
 
 // Binders with their states, as the environment of a scheme.
-fn env_of(alloc: Global, posing: &Posing, binders: &[usize]) -> Result<Env, Memory> {
+fn env_of(alloc: Global, posing: &Posing, binders: &[usize]) -> Result<Env, Memory>
+    requires { Rises binders.now }
+    ensures { IfOk result (λ env. env ≡ entries_of (around_states posing.now binders.now)) }
+{
     let mut env = Env::new(alloc);
     for binder in binders {
-        if !env.as_slice().iter().all(|other| other.binder < *binder) {
-            return Err(Memory);
-        }
         env.push(EnvEntry {
             binder: *binder,
             state: StateId(posing.binder(*binder)),
@@ -121,7 +125,9 @@ fn states_of(
     alloc: Global,
     posing: &Posing,
     binders: &[usize],
-) -> Result<Vec<(usize, usize)>, Memory> {
+) -> Result<Vec<(usize, usize)>, Memory>
+    ensures { IfOk result (λ states. states.items ≡ around_states posing.now binders.now) }
+{
     let mut states = Vec::new(alloc);
     for binder in binders {
         states.push((*binder, posing.binder(*binder)))?;
@@ -146,7 +152,8 @@ fn type_env(alloc: Global, at: &TypeAt) -> Result<BinderNodes, Memory>
 impl Draft {
     // A section that begins with the nodes of a type, where the types of these names were read before.
     fn new(alloc: Global, way: Way, read: &ReadScheme, schemes: Schemes) -> Result<Draft, Memory>
-        ensures { IfOk result (λ draft. draft.known.globals ≡ schemes) }
+        ensures globals { IfOk result (λ draft. draft.known.globals ≡ schemes) }
+        ensures lets { IfOk result (λ draft. IsEmpty draft.known.lets) }
     {
         let mut book = Book::new(alloc);
         push_book(alloc, &mut book, &read.book)?;
@@ -189,7 +196,8 @@ impl Draft {
         requires declared { All IsRead declared.now }
         requires entries { All IsEntry entries.now }
         requires free { HaveNoBinders self.old.known.globals }
-        ensures { OnOk result (KnowsForm self.old.known.globals self.new.known.globals (form.Global g)) }
+        ensures form { OnOk result (KnowsForm self.old.known.globals self.new.known.globals (form.Global g)) }
+        ensures lets { self.new.known.lets ≡ self.old.known.lets }
     {
         let read = read_at(declared, entries, g).ok_or(Memory)?;
         know_type(alloc, &mut self.known.globals, read, g)?;
@@ -211,7 +219,8 @@ impl Draft {
         requires declared { All IsRead declared.now }
         requires entries { All IsEntry entries.now }
         requires free { HaveNoBinders self.old.known.globals }
-        ensures { OnOk result (KnowsForm self.old.known.globals self.new.known.globals named.now) }
+        ensures form { OnOk result (KnowsForm self.old.known.globals self.new.known.globals named.now) }
+        ensures lets { self.new.known.lets ≡ self.old.known.lets }
     {
         match named {
             TermForm::Global(g) => self.add_global(alloc, declared, entries, *g),
@@ -232,6 +241,7 @@ impl Draft {
         requires free { HaveNoBinders self.old.known.globals }
         ensures free { OnOk result (HaveNoBinders self.new.known.globals) }
         ensures known { OnOk result (KnowGlobals nodes.now self.new.known.globals (length nodes.now)) }
+        ensures lets { self.new.known.lets ≡ self.old.known.lets }
     {
         for node in nodes {
             self.add_named(alloc, declared, entries, &node.form)?;
@@ -248,7 +258,8 @@ impl Draft {
         root: usize,
         around: &[usize],
     ) -> Result<TypeAt, Memory>
-        ensures scheme { IfOk result (λ at. IsScheme at.scheme) }
+        ensures first { IfOk result (λ at. IsFirstType solution.now.automaton root
+            (around_states posing.now around.now) at.scheme) }
         ensures separate { IfOk result (λ at. AreSeparate at.scheme) }
         ensures known { self.new.known ≡ self.old.known }
     {
@@ -297,7 +308,9 @@ impl Draft {
     ) -> Result<LaidOut, Memory>
         requires closed { IsClosed posing.now.automaton }
         requires related { HoldsStates posing.now.automaton solution.found }
-        ensures { self.new.known ≡ self.old.known }
+        requires rises { Rises around.now }
+        ensures laid { IfOk result (IsPartLaidOut self.old.book posing.now solution root around.now at.now) }
+        ensures known { self.new.known ≡ self.old.known }
     {
         let general = Scheme {
             automaton: solution.automaton,
@@ -395,7 +408,7 @@ impl Draft {
         requires scheme { IsScheme at.scheme }
         requires separate { AreSeparate at.scheme }
         ensures globals { self.new.known.globals ≡ self.old.known.globals }
-        ensures first { OnOk result (KnowsFirst self.old.known.lets self.new.known.lets k) }
+        ensures first { OnOk result (KnowsFirst self.old.known.lets self.new.known.lets k at.scheme) }
     {
         self.steps.name(k, step)?;
         let first = FirstPart {
@@ -419,8 +432,7 @@ impl Draft {
         requires list { IsPartList nodes.now list.now }
         requires labels { HaveOwnLabels nodes.now }
         requires known { KnowTypes self.now.known.globals self.now.known.lets nodes.now list.now }
-        ensures closed { IfOk result (λ s. IsClosed s.posing.automaton) }
-        ensures related { IfOk result (λ s. HoldsStates s.posing.automaton s.solution.found) }
+        ensures { IfOk result (IsPartSolved nodes.now self.now.known list.now) }
     {
         let binders = binders_of(alloc, nodes, list, &self.known.lets)?;
         let posing = pose_part(alloc, nodes, list, binders.all.as_slice(), &self.known)?;
@@ -442,6 +454,8 @@ impl Draft {
         read: &ReadScheme,
     ) -> Result<TypeAt, Memory>
         requires { IsRead read.now }
+        ensures first { (k : ℕ) → of_let ≡ Some k → IfOk result (λ at. IsFirstType solved.now.solution.automaton root
+            (around_states solved.now.posing solved.now.around) at.scheme) }
         ensures scheme { IfOk result (λ at. IsScheme at.scheme) }
         ensures separate { IfOk result (λ at. AreSeparate at.scheme) }
         ensures known { self.new.known ≡ self.old.known }
@@ -470,6 +484,7 @@ impl Draft {
     ) -> Result<usize, Memory>
         requires closed { IsClosed solved.posing.automaton }
         requires related { HoldsStates solved.posing.automaton solved.solution.found }
+        requires rises { Rises solved.around }
         ensures { self.new.known ≡ self.old.known }
     {
         let posing = solved.posing;
