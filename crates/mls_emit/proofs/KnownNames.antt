@@ -1,7 +1,8 @@
 -- The types of the names of a part are known before it is written.
 --     term_nodes            the nodes of a term, and of each term of a module
 --     read_type             a type that was read has no binders, so it may be copied everywhere
---     no_name, one_name, same_name      what is known of no name, of one name more, and of one that is known
+--     no_name, one_name, same_name, name_form, no_form
+--                           what is known of no name, of one name more, of one that is known, and of a node
 --     all_before            binders before one of rising binders are below it
 --     globals_none, globals_more      what is known of the names of the environment, one node after another
 --     firsts_none           no first part stands before the first node
@@ -11,8 +12,9 @@
 --     first_made            the type of a first part was made of the part
 --     no_first              a root that is none of a part is that of no first part
 --     know_types            what a part needs to be known
-use Rattle.std.proofs.Common.{◌≡◌, ◌⊎◌, inl, inr, ℕ, zero, suc, ◌+◌, ◌<◌, Bool, true, false, List, [], ◌∷◌, length, refl, sym, ap, ◌∙◌, subst, arith, Contains, slice_get, get_or, take, Option, Some, None}
+use Rattle.std.proofs.Common.{◌≡◌, ◌≢◌, ◌⊎◌, inl, inr, ℕ, zero, suc, ◌+◌, ◌<◌, Bool, true, false, List, [], ◌∷◌, length, refl, sym, ap, ◌∙◌, subst, arith, Contains, slice_get, get_or, take, Option, Some, None}
 use Rattle.std.specs.Prelude.{All, IsSome, is_some, cond}
+use Rattle.std.proofs.lemmas.Bool.{cases_eq}
 use Rattle.std.proofs.lemmas.List.{length-map, length-take-le, get_or-map, get_or-take}
 use Rattle.std.specs.BTreeMap.{BTreeMap, IsEmpty, Updates, get, is_at}
 use Rattle.std.specs.Map.{lookup}
@@ -28,6 +30,8 @@ use Rattle.mls_automaton.proofs.Passing.{states_more}
 use Rattle.mls_solver.specs.Relations.{IsGoal, IsRelated}
 use Rattle.mls_solver.specs.Rooms.{Holds}
 use Rattle.mls_solver.proofs.SolvedRooms.{solved-same}
+use Rattle.mls_typetext.specs.declared.scheme.ReadScheme.{ReadScheme}
+use Rattle.mls_scheme.specs.ReadTypes.{IsReadFromBook}
 use Rattle.mls_term.specs.declared.term.ResolvedBinding.{ResolvedBinding}
 use Rattle.mls_term.specs.declared.term.TermForm.{TermForm}
 use Rattle.mls_term.specs.declared.term.TermForm.TheVariants as form
@@ -36,7 +40,7 @@ use Rattle.mls_term.specs.WellFormed.{IsTerm}
 use Rattle.mls_typing.proofs.Lists.{Contains-here}
 use Rattle.mls_deriv.specs.Laws.{AreTerms}
 use Rattle.mls_deriv.specs.Steps.{form_at}
-use Rattle.mls_layout.proofs.KeySets.{number_self}
+use Rattle.mls_layout.proofs.KeySets.{number_same, number_self}
 use Rattle.mls_layout.proofs.WorkedParts.{nothing}
 use Rattle.mls_parts.specs.declared.pose.KnownTypes.{KnownTypes}
 use Rattle.mls_parts.specs.declared.pose.Posing.{Posing}
@@ -52,7 +56,7 @@ use Rattle.mls_parts.proofs.SplitParts.{own_labels, behind_firsts, first_before_
 use Rattle.mls_parts.proofs.TreeNodes.{tree_nodes}
 use Rattle.mls_emit.specs.declared.derive.section.SolvedPart.{SolvedPart}
 use Rattle.mls_emit.specs.MadeFirsts.{around_states, same, more, IsFirstMade, IsFirstType, IsNoFirst, IsPartSolved}
-use Rattle.mls_emit.specs.Drafts.{AreTermNodes, HaveNoBinders, KnowGlobals, KnowFirsts, KnowsBefore, KnowsForm, KnowsFirst}
+use Rattle.mls_emit.specs.Drafts.{AreNameTypes, AreTermNodes, HaveNoBinders, KnowGlobals, KnowFirsts, KnowsBefore, KnowsForm, KnowsFirst, KnowsName}
 
 -- the nodes of a term, and of each term of a module
 of_term : (globals : ℕ) (nodes : List TermNode) (binders lets : ℕ) → IsTerm globals nodes binders lets → AreTermNodes nodes
@@ -117,28 +121,59 @@ at_own old new k s updates =
     let e : is_eq (nat_cmp k k) ≡ true = number_self k in
     updates.0 k ∙ (λ i. cond (e i) (Some s) (get nat_cmp old k))
 
-pub no_name : (globals : BTreeMap ℕ Scheme) → IsEmpty globals → HaveNoBinders globals
-no_name globals none g s is =
+-- the other names are known as before
+at_other : (old new : BTreeMap ℕ Scheme) (k : ℕ) (s : Scheme) → Updates nat_cmp old new k (Some s) → (q : ℕ) → (q ≢ k) → known_in new q ≡ known_in old q
+at_other old new k s updates q apart = go (is_eq (nat_cmp k q)) refl
+  where
+    go : (b : Bool) → is_eq (nat_cmp k q) ≡ b → known_in new q ≡ known_in old q
+    go true e = absurd (apart (sym (number_same k q e)))
+    go false e = updates.0 q ∙ (λ i. cond (e i) (Some s) (get nat_cmp old q))
+
+pub no_name : (reads : List ReadScheme) (globals : BTreeMap ℕ Scheme) → IsEmpty globals → AreNameTypes reads globals
+no_name reads globals none g s is =
     let empty : known_in globals g ≡ None = ap (lookup (is_at (nat_cmp g))) none in
     absurd (let wrong : None ≡ Some s = sym empty ∙ is in cc)
 
-pub one_name : (old new : BTreeMap ℕ Scheme) (g : ℕ) (s : Scheme) → HaveNoBinders old → Updates nat_cmp old new g (Some s) → IsKnownType [] s → KnowsForm old new (form.Global g)
-one_name old new g s free updates is = record {
-  free = λ h t has. elim (at_key old new g s updates h) [
-    | inl at ↦ (let alike : s ≡ t = (let both : Some s ≡ Some t = sym at ∙ has in cc) in subst (IsKnownType []) alike is)
-    | inr other ↦ free h t (sym other.1 ∙ has)
-  ];
-  there = λ h same. (let alike : g ≡ h = cc in subst (λ j. IsSome (known_in new j)) alike (ap is_some (at_own old new g s updates)));
+pub one_name : (old new : BTreeMap ℕ Scheme) (g : ℕ) (read : ReadScheme) (s : Scheme) → Updates nat_cmp old new g (Some s) → IsKnownType [] s → IsReadFromBook read s → KnowsName old new g read
+one_name old new g read s updates is from = record {
+  there = ap is_some (at_own old new g s updates);
   kept = λ h has. elim (at_key old new g s updates h) [
     | inl at ↦ ap is_some at
     | inr other ↦ ap is_some other.1 ∙ has
   ];
+  back = λ h t has. go h t has (cases_eq h g);
+}
+  where
+    go : (h : ℕ) (t : Scheme) → known_in new h ≡ Some t → (h ≡ g) ⊎ (h ≢ g) → (known_in old h ≡ Some t) ⊎ ((h ≡ g) × IsKnownType [] t × IsReadFromBook read t)
+    go h t has (inl here) =
+        let at : known_in new h ≡ Some s = subst (λ k. known_in new k ≡ Some s) (sym here) (at_own old new g s updates) in
+        let alike : s ≡ t = (let both : Some s ≡ Some t = sym at ∙ has in cc) in
+        inr (here, subst (IsKnownType []) alike is, subst (IsReadFromBook read) alike from)
+    go h t has (inr apart) = inl (sym (at_other old new g s updates h apart) ∙ has)
+
+pub same_name : (old : BTreeMap ℕ Scheme) (g : ℕ) (read : ReadScheme) → IsSome (known_in old g) → KnowsName old old g read
+same_name old g read there = record {
+  there = there;
+  kept = λ h has. has;
+  back = λ h s has. inl has;
 }
 
-pub same_name : (old : BTreeMap ℕ Scheme) (g : ℕ) → HaveNoBinders old → IsSome (known_in old g) → KnowsForm old old (form.Global g)
-same_name old g free there = record {
-  free = free;
-  there = λ h same. (let alike : g ≡ h = cc in subst (λ j. IsSome (known_in old j)) alike there);
+-- so the name of a node is known
+pub name_form : (reads : List ReadScheme) (old new : BTreeMap ℕ Scheme) (g : ℕ) (read : ReadScheme) → AreNameTypes reads old → slice_get reads g ≡ Some read → KnowsName old new g read → KnowsForm reads old new (form.Global g)
+name_form reads old new g read types is name = record {
+  types = λ h s has. elim (name.back h s has) [
+    | inl before ↦ types h s before
+    | inr it ↦ record { known = it.1; read = read; is = subst (λ k. slice_get reads k ≡ Some read) (sym it.0) is; from = it.2 }
+  ];
+  there = λ h same. (let alike : g ≡ h = cc in subst (λ j. IsSome (known_in new j)) alike name.there);
+  kept = name.kept;
+}
+
+-- any other node has no name of the environment
+pub no_form : (reads : List ReadScheme) (globals : BTreeMap ℕ Scheme) (f : TermForm) → AreNameTypes reads globals → ((g : ℕ) → f ≡ form.Global g → ⊥) → KnowsForm reads globals globals f
+no_form reads globals f types none = record {
+  types = types;
+  there = λ g is. absurd (none g is);
   kept = λ h has. has;
 }
 
@@ -146,8 +181,8 @@ same_name old g free there = record {
 pub globals_none : (nodes : List TermNode) (globals : BTreeMap ℕ Scheme) → KnowGlobals nodes globals 0
 globals_none nodes globals i g low e = absurd (omega (arith, low))
 
-pub globals_more : (nodes : List TermNode) (old new : BTreeMap ℕ Scheme) (n : ℕ) (f : TermForm) → KnowGlobals nodes old n → form_at nodes n ≡ Some f → KnowsForm old new f → KnowGlobals nodes new (n + 1)
-globals_more nodes old new n f know is name i h low e = elim (below_or_more i n) [
+pub globals_more : (reads : List ReadScheme) (nodes : List TermNode) (old new : BTreeMap ℕ Scheme) (n : ℕ) (f : TermForm) → KnowGlobals nodes old n → form_at nodes n ≡ Some f → KnowsForm reads old new f → KnowGlobals nodes new (n + 1)
+globals_more reads nodes old new n f know is name i h low e = elim (below_or_more i n) [
   | inl before ↦ name.kept h (know i h before e)
   | inr it ↦ name.there h (alike it.0 it.1)
 ]

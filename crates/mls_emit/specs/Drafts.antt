@@ -1,9 +1,12 @@
 -- What is known of the names of a term while its section is written, part by part.
-use Rattle.std.specs.Prelude.{◌≡◌, ℕ, ◌<◌, List, [], length, IsSome, Some}
+use Rattle.std.specs.Prelude.{◌≡◌, ◌⊎◌, ℕ, ◌<◌, List, [], ◌++◌, length, map, slice_get, IsSome, Some}
 use Rattle.std.specs.BTreeMap.{BTreeMap, Updates}
 use Rattle.std.specs.Ordering.{nat_cmp}
 use Rattle.mls_automaton.specs.declared.scheme.Scheme.{Scheme}
 use Rattle.mls_automaton.specs.Environments.{BindersRise}
+use Rattle.mls_typetext.specs.declared.scheme.ReadScheme.{ReadScheme}
+use Rattle.mls_scheme.specs.ReadTypes.{IsReadFromBook}
+use Rattle.mls_iface.specs.declared.signature.SigEntry.{SigEntry}
 use Rattle.mls_term.specs.declared.term.TermForm.{TermForm}
 use Rattle.mls_term.specs.declared.term.TermForm.TheVariants as form
 use Rattle.mls_term.specs.declared.term.TermNode.{TermNode}
@@ -26,6 +29,27 @@ pub record AreTermNodes (nodes : List TermNode) : Type 0 where
 abbrev pub HaveNoBinders : BTreeMap ℕ Scheme → Type 0
 HaveNoBinders globals = (g : ℕ) (s : Scheme) → known_in globals g ≡ Some s → IsKnownType [] s
 
+-- what the names of the environment mean, by their numbers: what is declared, and behind it what the entries say
+abbrev pub names_read : List ReadScheme → List SigEntry → List ReadScheme
+names_read declared entries = declared ++ map (λ (entry : SigEntry). entry.scheme) entries
+
+-- a type without binders, read from the book of what the name means
+pub record IsNameType (reads : List ReadScheme) (g : ℕ) (s : Scheme) : Type 0 where
+  pub known : IsKnownType [] s
+  pub read : ReadScheme
+  pub is : slice_get reads g ≡ Some read
+  pub from : IsReadFromBook read s
+
+abbrev pub AreNameTypes : List ReadScheme → BTreeMap ℕ Scheme → Type 0
+AreNameTypes reads globals = (g : ℕ) (s : Scheme) → known_in globals g ≡ Some s → IsNameType reads g s
+
+-- the second map knows the type of this name besides, read from its book, if the first one does not
+pub record KnowsName (old new : BTreeMap ℕ Scheme) (g : ℕ) (read : ReadScheme) : Type 0 where
+  pub there : IsSome (known_in new g)
+  pub kept : (h : ℕ) → IsSome (known_in old h) → IsSome (known_in new h)
+  pub back : (h : ℕ) (s : Scheme) → known_in new h ≡ Some s
+      → (known_in old h ≡ Some s) ⊎ ((h ≡ g) × IsKnownType [] s × IsReadFromBook read s)
+
 -- the types are known of the names of the environment that stand among the first n nodes
 abbrev pub KnowGlobals : List TermNode → BTreeMap ℕ Scheme → ℕ → Type 0
 KnowGlobals nodes globals n =
@@ -46,8 +70,8 @@ pub record KnowsBefore (nodes : List TermNode) (known : KnownTypes) (r : ℕ) : 
 
 -- The second map knows all names that the first one does, and that of a node of this form, if it is one of the
 -- environment.
-pub record KnowsForm (old new : BTreeMap ℕ Scheme) (f : TermForm) : Type 0 where
-  pub free : HaveNoBinders new
+pub record KnowsForm (reads : List ReadScheme) (old new : BTreeMap ℕ Scheme) (f : TermForm) : Type 0 where
+  pub types : AreNameTypes reads new
   pub there : (g : ℕ) → f ≡ form.Global g → IsSome (known_in new g)
   pub kept : (h : ℕ) → IsSome (known_in old h) → IsSome (known_in new h)
 

@@ -7,7 +7,7 @@ ghost use Rattle.mls_infer.specs.Inference.{AreNames};
 ghost use Rattle.mls_iface.specs.Matches.{IsRead};
 ghost use Rattle.mls_iface.specs.Signatures.{IsEntry};
 ghost use Rattle.mls_emit.specs.Derived.{AreDerivations, entry_names, entry_texts, section_names, section_texts};
-ghost use Rattle.mls_emit.specs.Drafts.{AreTermNodes, HaveNoBinders};
+ghost use Rattle.mls_emit.specs.Drafts.{AreNameTypes, AreTermNodes, names_read};
 
 mod copies;
 mod envs;
@@ -73,9 +73,9 @@ fn section_of(
     requires declared { All IsRead declared.now }
     requires entries { All IsEntry entries.now }
     requires entry { IsEntry entry.now }
-    requires free { HaveNoBinders schemes.old }
+    requires types { AreNameTypes (names_read declared.now entries.now) schemes.old }
     requires term { AreTermNodes binding.now.term.nodes }
-    ensures free { HaveNoBinders schemes.new }
+    ensures types { AreNameTypes (names_read declared.now entries.now) schemes.new }
     ensures name { IfOk result (λ s. s.name ≡ entry.now.name) }
     ensures text { IfOk result (λ s. s.text ≡ entry.now.text) }
 {

@@ -2,9 +2,8 @@
 ghost use Rattle.std.specs.Prelude.{◌≡◌, IfOk, OnOk, Some};
 ghost use Rattle.std.specs.BTreeMap.{get};
 ghost use Rattle.std.specs.Ordering.{nat_cmp};
-ghost use Rattle.mls_term.specs.declared.term.TermForm.TheVariants as form;
 ghost use Rattle.mls_iface.specs.Matches.{IsRead};
-ghost use Rattle.mls_emit.specs.Drafts.{HaveNoBinders, KnowsForm};
+ghost use Rattle.mls_emit.specs.Drafts.{KnowsName};
 
 use crate::derive::copies::{Showing, add_showing, push_book, shown_variables, tops_of};
 use mls_automaton::automaton::Polarity;
@@ -86,9 +85,8 @@ pub(crate) fn know_type(
     read: &ReadScheme,
     g: usize,
 ) -> Result<(), Memory>
-    requires read { IsRead read.now }
-    requires free { HaveNoBinders schemes.old }
-    ensures { OnOk result (KnowsForm schemes.old schemes.new (form.Global g)) }
+    requires { IsRead read.now }
+    ensures { OnOk result (KnowsName schemes.old schemes.new g read.now) }
 {
     if schemes.contains_key(&g) {
         return Ok(());

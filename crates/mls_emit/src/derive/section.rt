@@ -1,6 +1,6 @@
 //! The section of a binding, part by part.
 ghost use Rattle.std.specs.BTreeMap.{IsEmpty};
-ghost use Rattle.std.specs.Prelude.{◌≡◌, ℕ, ◌<◌, ◌+◌, [], length, All, IfOk, IfSome, OnOk, Some};
+ghost use Rattle.std.specs.Prelude.{◌≡◌, ℕ, ◌<◌, ◌+◌, [], length, slice_get, All, IfOk, IfSome, OnOk, Some};
 ghost use Rattle.mls_automaton.specs.Environments.{BindersRise};
 ghost use Rattle.mls_automaton.specs.Models.{IsClosed};
 ghost use Rattle.mls_automaton.specs.Schemes.{IsScheme};
@@ -16,7 +16,8 @@ ghost use Rattle.mls_parts.specs.PartUses.{HaveOwnLabels, KnowTypes};
 ghost use Rattle.mls_parts.specs.PosedParts.{IsPartList};
 ghost use Rattle.mls_parts.specs.SolvedTypes.{entries_of};
 ghost use Rattle.mls_parts.specs.TermParts.{AreTermParts, IsTermPart};
-ghost use Rattle.mls_emit.specs.Drafts.{AreTermNodes, HaveNoBinders, KnowGlobals, KnowsBefore, KnowsFirst, KnowsForm};
+ghost use Rattle.mls_emit.specs.Drafts.{AreNameTypes, AreTermNodes, KnowGlobals, KnowsBefore, KnowsFirst, KnowsForm};
+ghost use Rattle.mls_emit.specs.Drafts.{names_read};
 ghost use Rattle.mls_emit.specs.MadeFirsts.{around_states, IsFirstType, IsPartLaidOut, IsPartSolved};
 ghost use Rattle.mls_emit.specs.OneEach.{HasOneEach};
 ghost use Rattle.mls_emit.specs.ReadPlaces.{IsReadLaid};
@@ -77,7 +78,8 @@ fn read_at<'a>(
 ) -> Option<&'a ReadScheme>
     requires declared { All IsRead declared.now }
     requires entries { All IsEntry entries.now }
-    ensures { IfSome result (λ read. IsRead read.now) }
+    ensures read { IfSome result (λ read. IsRead read.now) }
+    ensures is { IfSome result (λ read. slice_get (names_read declared.now entries.now) g ≡ Some read.now) }
 {
     if g < declared.len() {
         return Some(&declared[g]);
@@ -92,7 +94,8 @@ fn read_at<'a>(
 /// What the text of an entry is read as.
 pub(crate) fn scheme_of(entry: &SigEntry) -> &ReadScheme
     requires { IsEntry entry.now }
-    ensures { IsRead result.now }
+    ensures read { IsRead result.now }
+    ensures is { result.now ≡ entry.now.scheme }
 {
     &entry.scheme
 }
@@ -195,8 +198,9 @@ impl Draft {
     ) -> Result<(), Memory>
         requires declared { All IsRead declared.now }
         requires entries { All IsEntry entries.now }
-        requires free { HaveNoBinders self.old.known.globals }
-        ensures form { OnOk result (KnowsForm self.old.known.globals self.new.known.globals (form.Global g)) }
+        requires types { AreNameTypes (names_read declared.now entries.now) self.old.known.globals }
+        ensures form { OnOk result (KnowsForm (names_read declared.now entries.now) self.old.known.globals
+            self.new.known.globals (form.Global g)) }
         ensures lets { self.new.known.lets ≡ self.old.known.lets }
     {
         let read = read_at(declared, entries, g).ok_or(Memory)?;
@@ -218,8 +222,9 @@ impl Draft {
     ) -> Result<(), Memory>
         requires declared { All IsRead declared.now }
         requires entries { All IsEntry entries.now }
-        requires free { HaveNoBinders self.old.known.globals }
-        ensures form { OnOk result (KnowsForm self.old.known.globals self.new.known.globals named.now) }
+        requires types { AreNameTypes (names_read declared.now entries.now) self.old.known.globals }
+        ensures form { OnOk result (KnowsForm (names_read declared.now entries.now) self.old.known.globals
+            self.new.known.globals named.now) }
         ensures lets { self.new.known.lets ≡ self.old.known.lets }
     {
         match named {
@@ -238,8 +243,8 @@ impl Draft {
     ) -> Result<(), Memory>
         requires declared { All IsRead declared.now }
         requires entries { All IsEntry entries.now }
-        requires free { HaveNoBinders self.old.known.globals }
-        ensures free { OnOk result (HaveNoBinders self.new.known.globals) }
+        requires types { AreNameTypes (names_read declared.now entries.now) self.old.known.globals }
+        ensures types { OnOk result (AreNameTypes (names_read declared.now entries.now) self.new.known.globals) }
         ensures known { OnOk result (KnowGlobals nodes.now self.new.known.globals (length nodes.now)) }
         ensures lets { self.new.known.lets ≡ self.old.known.lets }
     {
@@ -507,7 +512,8 @@ impl Draft {
         requires part { IsTermPart nodes.now root part.now }
         requires known { KnowsBefore nodes.now self.old.known root }
         requires read { IsRead read.now }
-        ensures { OnOk result (KnowsBefore nodes.now self.new.known (root + 1)) }
+        ensures known { OnOk result (KnowsBefore nodes.now self.new.known (root + 1)) }
+        ensures globals { self.new.known.globals ≡ self.old.known.globals }
     {
         let list = part.nodes.as_slice();
         let solved = self.solved(alloc, nodes, list)?;
@@ -534,7 +540,8 @@ impl Draft {
         requires parts { AreTermParts nodes.now parts.now }
         requires known { KnowsBefore nodes.now self.old.known root }
         requires read { IsRead read.now }
-        ensures { OnOk result (KnowsBefore nodes.now self.new.known (root + 1)) }
+        ensures known { OnOk result (KnowsBefore nodes.now self.new.known (root + 1)) }
+        ensures globals { self.new.known.globals ≡ self.old.known.globals }
     {
         match parts.get(&root) {
             Some(part) => self.add_part(alloc, nodes, root, part, read),
@@ -553,7 +560,7 @@ fn replace_book(book: &mut Book, alloc: Global) -> Book
 // Takes the types of names out.
 fn replace_schemes(schemes: &mut Schemes, alloc: Global) -> Schemes
     ensures result { result ≡ schemes.old }
-    ensures none { HaveNoBinders schemes.new }
+    ensures none { IsEmpty schemes.new }
 {
     std::mem::replace(schemes, Schemes::new(alloc))
 }
@@ -581,10 +588,10 @@ pub(crate) fn write_section(
 ) -> Result<Written, Memory>
     requires declared { All IsRead declared.now }
     requires entries { All IsEntry entries.now }
-    requires free { HaveNoBinders schemes.old }
+    requires types { AreNameTypes (names_read declared.now entries.now) schemes.old }
     requires term { AreTermNodes nodes.now }
     requires read { IsRead read.now }
-    ensures { HaveNoBinders schemes.new }
+    ensures { AreNameTypes (names_read declared.now entries.now) schemes.new }
 {
     let parts = parts_of(alloc, nodes)?;
     let mut draft = Draft::new(alloc, way, read, replace_schemes(schemes, alloc))?;

@@ -4,5 +4,5 @@ use Rattle.mls_emit.proofs.derive.known.know_type.Goals as goal
 -- what was read has no binders
 pub returns : goal.returns
 returns c =
-    one_name c.args.schemes.now c.insert.new.self c.args.g c.in_ok-scheme.scheme c.requires.free c.in_ok-insert.ensures.updates
-    (read_type c.in_ok-scheme.scheme c.in_ok-scheme.ensures.scheme c.in_ok-scheme.ensures.env)
+    one_name c.args.schemes.now c.insert.new.self c.args.g c.args.read.now c.in_ok-scheme.scheme c.in_ok-insert.ensures.updates
+    (read_type c.in_ok-scheme.scheme c.in_ok-scheme.ensures.scheme c.in_ok-scheme.ensures.env) c.in_ok-scheme.ensures.book

@@ -32,8 +32,8 @@ pub add_lines-requires-clause-rises : goal.add_lines-requires-clause-rises
 add_lines-requires-clause-rises c = subst Rises (sym c.in_ok-solved.ensures.around) c.in_ok-solved.ensures.are_binders.around_rise
 
 -- the type of a first part is known now
-pub returns-in-Some : goal.returns-in-Some
-returns-in-Some c =
+pub returns-in-Some-clause-known : goal.returns-in-Some-clause-known
+returns-in-Some-clause-known c =
     let path : c.add_lines.new.self.known ≡ c.args.self.now.known = c.add_lines.ensures ∙ c.type_of.ensures.known in
     let before : KnowsBefore c.args.nodes.now c.add_lines.new.self.known c.args.root = subst (λ (known : KnownTypes). KnowsBefore c.args.nodes.now known c.args.root) (sym path) c.requires.known in
     let first = c.requires.part.of_let c.in-Some.k c.in-Some.is in
@@ -49,6 +49,6 @@ returns-in-Some c =
     (first_made c.args.nodes.now c.requires.term c.add_lines.new.self.known c.args.root before c.args.part.now c.requires.part c.in_ok-solved.solved solved c.in_ok-at.at.scheme type is.rise))
     c.add_first.ensures.first
 
-pub returns-in-None : goal.returns-in-None
-returns-in-None c =
+pub returns-in-None-clause-known : goal.returns-in-None-clause-known
+returns-in-None-clause-known c =
     before_same c.args.nodes.now c.args.root c.args.self.now.known c.add_lines.new.self.known (c.add_lines.ensures ∙ c.type_of.ensures.known) c.requires.known (c.requires.part.of_none c.in-None.is)

@@ -6,7 +6,7 @@ pub add_part-requires-clause-part : goal.add_part-requires-clause-part
 add_part-requires-clause-part c = c.requires.parts.part c.args.root c.in-Some.part.now (sym c.in-Some.ensures.value)
 
 -- a node that is the root of no part is the first part of no let
-pub returns-in-None : goal.returns-in-None
-returns-in-None c =
+pub returns-in-None-clause-known : goal.returns-in-None-clause-known
+returns-in-None-clause-known c =
     before_same c.args.nodes.now c.args.root c.args.self.now.known c.args.self.now.known refl c.requires.known
     (no_first c.args.nodes.now c.args.root c.args.parts.now c.requires.parts (sym c.in-None.ensures.value))

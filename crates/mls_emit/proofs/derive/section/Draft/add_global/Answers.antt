@@ -1,0 +1,24 @@
+use Rattle.std.proofs.Common.{◌≡◌, List, Some, slice_get, subst, sym, rules}
+use Rattle.std.specs.BTreeMap.{BTreeMap}
+use Rattle.std.specs.Prelude.{ℕ}
+use Rattle.mls_automaton.specs.declared.scheme.Scheme.{Scheme}
+use Rattle.mls_typetext.specs.declared.scheme.ReadScheme.{ReadScheme}
+use Rattle.mls_term.specs.declared.term.TermForm.TheVariants as form
+use Rattle.mls_emit.specs.Drafts.{KnowsForm, names_read}
+use Rattle.mls_emit.proofs.KnownNames.{name_form}
+use Rattle.mls_emit.proofs.derive.section.Draft.add_global.Goals as goal
+
+-- the type of the name is read from what it means
+pub returns-then-contains_key-clause-form : goal.returns-then-contains_key-clause-form
+returns-then-contains_key-clause-form c =
+    let reads : List ReadScheme = names_read c.args.declared.now c.args.entries.now in
+    let is : slice_get reads c.args.g ≡ Some c.in_ok-read.read.now = search rules in
+    name_form reads c.args.self.now.known.globals c.know_type.new.schemes c.args.g c.in_ok-read.read.now c.requires.types is c.in_ok-know_type.ensures
+
+pub returns-clause-form : goal.returns-clause-form
+returns-clause-form c =
+    let reads : List ReadScheme = names_read c.args.declared.now c.args.entries.now in
+    let is : slice_get reads c.args.g ≡ Some c.in_ok-read.read.now = search rules in
+    let same : c.place_global.new.self.known.globals ≡ c.know_type.new.schemes = search rules in
+    subst (λ (globals : BTreeMap ℕ Scheme). KnowsForm reads c.args.self.now.known.globals globals (form.Global c.args.g)) (sym same)
+    (name_form reads c.args.self.now.known.globals c.know_type.new.schemes c.args.g c.in_ok-read.read.now c.requires.types is c.in_ok-know_type.ensures)
