@@ -43,7 +43,8 @@ use Rattle.mls_parts.specs.TermParts.{IsTermPart}
 use Rattle.mls_parts.specs.TreeNodes.{AreTreeNodes}
 use Rattle.mls_parts.proofs.TreeNodes.{form_low, one_form, tree_nodes}
 use Rattle.mls_emit.specs.LetScopes.{HasScopes, HaveScopes}
-use Rattle.mls_emit.specs.MadeFirsts.{around_states, same, start, more, AddsFirst, AreAdded, IsFirstMade}
+use Rattle.mls_emit.specs.MadeFirsts as added
+use Rattle.mls_emit.specs.MadeFirsts.{around_states, AreAdded, IsFirstMade}
 use Rattle.mls_allowed.specs.FirstTypes.{AreFieldLetsIn, AreFirstsMade, AreLetsIn, HaveBooks, HaveFirstTypes, HaveOwnLets}
 use Rattle.mls_allowed.specs.PartTypes.{AreAround}
 use Rattle.mls_allowed.proofs.AroundParts.{part_around}
@@ -293,13 +294,13 @@ module _ (nodes : List TermNode) (globals : BTreeMap ℕ Scheme) (let_scope : �
     }
 
   -- what became known one root after another
-  pub firsts_added : HaveOwnLets nodes → (r : ℕ) (known : KnownTypes) → known.globals ≡ globals → AreAdded nodes r known → AreFirstsMade nodes globals known.lets let_scope r
-  firsts_added own_lets r known is (start {known = known} empty) = firsts_start known.lets (λ k. ap (lookup (is_at (nat_cmp k))) empty)
-  firsts_added own_lets r known is (same {r = r} {known = known} before none) = firsts_same known.lets r none (firsts_added own_lets r known is before)
-  firsts_added own_lets r known is (more {r = r} {old = old} {new = new} before adds) =
+  pub firsts_added : HaveOwnLets nodes → {r : ℕ} {known : KnownTypes} → known.globals ≡ globals → AreAdded nodes r known → AreFirstsMade nodes globals known.lets let_scope r
+  firsts_added own_lets is (added.start {known = first} empty) = firsts_start first.lets (λ k. ap (lookup (is_at (nat_cmp k))) empty)
+  firsts_added own_lets is (added.same {r = n} {known = first} before none) = firsts_same first.lets n none (firsts_added own_lets is before)
+  firsts_added own_lets is (added.more {r = n} {old = old} {new = new} before adds) =
       let globals_are : old.globals ≡ globals = sym adds.globals ∙ is in
-      firsts_more own_lets old.lets new.lets r adds.node adds.number adds.second adds.is adds.scheme adds.updates (firsts_added own_lets r old globals_are before)
-      (subst (λ (gs : BTreeMap ℕ Scheme). IsFirstMade nodes gs old.lets r adds.scheme) globals_are adds.made)
+      firsts_more own_lets old.lets new.lets n adds.node adds.number adds.second adds.is adds.scheme adds.updates (firsts_added own_lets globals_are before)
+      (subst (λ (names : BTreeMap ℕ Scheme). IsFirstMade nodes names old.lets n adds.scheme) globals_are adds.made)
 
   -- all lets have types of their first parts
   pub have_first_types : (types : BTreeMap ℕ Scheme) → AreFirstsMade nodes globals types let_scope (length nodes) → (known : Known) → HaveBooks known types → HaveFirstTypes nodes known globals types let_scope
