@@ -1,11 +1,11 @@
 ghost use Rattle.std.specs.Prelude.{IsSome};
 
 use crate::samples::{goals_of, sample as automaton};
-use crate::tests_of_live::{insert, sample};
+use crate::tests_of_live::{insert, sample, settle};
 use mls_automaton::automaton::Polarity;
 use mls_automaton::state_set::{StateId, StateSet};
 use mls_base::memory::Memory;
-use mls_biunify::goal::{Goal, Refusal};
+use mls_biunify::goal::{Clash, Goal, Refusal};
 use mls_biunify::live::Live;
 use std::alloc::Global;
 use std::process::Abort;
@@ -51,23 +51,47 @@ fn shown_pairs(alloc: Global, live: &Live, numbers: &StateSet) -> Result<String,
     Ok(line)
 }
 
-// Adds a copy of an automaton to a table with other states, and relates its goals.
-fn copied(rt: &impl Abort, alloc: Global, text: &str, goals: &str) -> Result<String, Memory> {
+// Adds a copy of an automaton to a table, and answers its numbers there and the goals under these.
+fn absorbed(
+    rt: &impl Abort,
+    alloc: Global,
+    live: &mut Live,
+    text: &str,
+    goals: &str,
+) -> Result<(StateSet, Vec<Goal>), Memory> {
     let a = automaton(rt, alloc, text)?;
-    let mut live = sample(rt, alloc)?;
     let numbers = live.absorb(&a)?;
     let goals = goals_of(alloc, goals)?;
-    let goals = copied_goals(rt, alloc, goals.as_slice(), &numbers)?;
+    let copied = copied_goals(rt, alloc, goals.as_slice(), &numbers)?;
+    Ok((numbers, copied))
+}
+
+fn shown_clash(alloc: Global, clash: &Clash) -> Result<String, Memory> {
+    Ok(format!(in alloc; "{} {:?}", clash.positive.0, clash.kind)?)
+}
+
+// The related pairs of a copy where these goals are solved, or the first clash.
+fn related(
+    rt: &impl Abort,
+    alloc: Global,
+    live: &mut Live,
+    numbers: &StateSet,
+    goals: &[Goal],
+) -> Result<String, Memory> {
     live.reserve()?;
-    assert!(rt; live.are_goals(goals.as_slice()));
-    match live.solve(goals.as_slice()) {
-        Ok(()) => shown_pairs(alloc, &live, &numbers),
-        Err(Refusal::Clashing(clash)) => {
-            let first = clash.positive.0;
-            Ok(format!(in alloc; "{first} {:?}", clash.kind)?)
-        }
+    assert!(rt; live.are_goals(goals));
+    match live.solve(goals) {
+        Ok(()) => shown_pairs(alloc, live, numbers),
+        Err(Refusal::Clashing(clash)) => shown_clash(alloc, &clash),
         Err(Refusal::NoMemory) => Err(Memory),
     }
+}
+
+// Adds a copy of an automaton to a table with other states, and relates its goals.
+fn copied(rt: &impl Abort, alloc: Global, text: &str, goals: &str) -> Result<String, Memory> {
+    let mut live = sample(rt, alloc)?;
+    let (numbers, goals) = absorbed(rt, alloc, &mut live, text, goals)?;
+    related(rt, alloc, &mut live, &numbers, goals.as_slice())
 }
 
 #[test]
@@ -90,14 +114,8 @@ fn relates_a_copy(rt: HostRuntime) -> Result<(), Fail> {
 
 // Adds a copy, relates its goals, and solves it.
 fn settled(rt: &impl Abort, live: &mut Live, alloc: Global) -> Result<StateSet, Memory> {
-    let a = automaton(rt, alloc, "+f2>1 + - - 2~1")?;
-    let numbers = live.absorb(&a)?;
-    let goals = goals_of(alloc, "1<3")?;
-    let goals = copied_goals(rt, alloc, goals.as_slice(), &numbers)?;
-    live.reserve()?;
-    assert!(rt; live.are_goals(goals.as_slice()));
-    assert!(rt; live.solve(goals.as_slice()).is_ok());
-    live.settle()?;
+    let (numbers, goals) = absorbed(rt, alloc, live, "+f2>1 + - - 2~1", "1<3")?;
+    settle(rt, live, goals.as_slice())?;
     Ok(numbers)
 }
 
@@ -107,6 +125,24 @@ fn keep_two(rt: &impl Abort, live: &mut Live, p: StateId, n: StateId) -> Result<
     live.keep(&[p, n])
 }
 
+fn has_states(rt: &impl Abort, live: &Live, numbers: &[usize]) -> Result<(), Memory> {
+    let states = live.states()?;
+    assert_eq!(rt; states.as_slice(), numbers);
+    Ok(())
+}
+
+// A new state has the first number that is free, and where there is no goal it is not related.
+fn relates_nothing(rt: &impl Abort, live: &mut Live, n: StateId) -> Result<(), Memory> {
+    let id = insert(live, Polarity::Positive, false, true)?;
+    assert_eq!(rt; id.0, 0);
+    live.reserve()?;
+    assert!(rt; live.ready());
+    assert!(rt; live.are_goals(&[]));
+    assert!(rt; live.solve(&[]).is_ok());
+    assert!(rt; !are_related(live, id, n));
+    Ok(())
+}
+
 #[test]
 fn keeps_what_is_reached(rt: HostRuntime) -> Result<(), Fail> {
     let mut live = sample(&rt, rt.alloc())?;
@@ -114,14 +150,7 @@ fn keeps_what_is_reached(rt: HostRuntime) -> Result<(), Fail> {
     assert!(rt; numbers.len() == 4);
     // The first state names the second and the third one.
     keep_two(&rt, &mut live, numbers.get(0), numbers.get(2))?;
-    let states = live.states()?;
-    assert_eq!(rt; states.as_slice(), [4, 5, 6].as_slice());
-    let id = insert(&mut live, Polarity::Positive, false, true)?;
-    assert_eq!(rt; id.0, 0);
-    live.reserve()?;
-    assert!(rt; live.ready());
-    assert!(rt; live.are_goals(&[]));
-    assert!(rt; live.solve(&[]).is_ok());
-    assert!(rt; !are_related(&live, id, numbers.get(2)));
+    has_states(&rt, &live, &[4, 5, 6])?;
+    relates_nothing(&rt, &mut live, numbers.get(2))?;
     Ok(())
 }

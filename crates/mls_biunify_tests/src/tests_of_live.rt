@@ -89,7 +89,7 @@ fn relates_along_an_edge(rt: HostRuntime) -> Result<(), Fail> {
 }
 
 // Solves and settles the table.
-fn settle(rt: &impl Abort, live: &mut Live, goals: &[Goal]) -> Result<(), Memory> {
+pub(crate) fn settle(rt: &impl Abort, live: &mut Live, goals: &[Goal]) -> Result<(), Memory> {
     live.reserve()?;
     assert!(rt; live.are_goals(goals));
     assert!(rt; live.solve(goals).is_ok());
