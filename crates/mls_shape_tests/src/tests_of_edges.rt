@@ -1,9 +1,31 @@
 //! Small schemes without their redundant edges, and simplified ones.
 use crate::tests_of_shapes::{sample, single};
 use mls_automaton::sample::show_scheme;
+use mls_base::memory::Memory;
 use mls_shape::drop::drop_redundant_flows;
 use mls_shape::simplify::simplify;
+use std::alloc::Global;
+use std::process::Abort;
 use std::test::Fail;
+
+// Without its redundant edges the scheme of the first text is that of the second one.
+fn is_dropped_to(rt: &impl Abort, alloc: Global, text: &str, expected: &str) -> Result<(), Memory> {
+    let found = drop_redundant_flows(alloc, &single(rt, alloc, text)?)?;
+    assert_eq!(rt; show_scheme(alloc, &found)?.as_str(), expected, "{text}");
+    Ok(())
+}
+
+// The scheme of the first text is simplified to that of the second one.
+fn is_simplified_to(
+    rt: &impl Abort,
+    alloc: Global,
+    text: &str,
+    expected: &str,
+) -> Result<(), Memory> {
+    let found = simplify(alloc, &sample(rt, alloc, text)?)?;
+    assert_eq!(rt; show_scheme(alloc, &found)?.as_str(), expected, "{text}");
+    Ok(())
+}
 
 #[test]
 fn redundant_edges_are_dropped(rt: HostRuntime) -> Result<(), Fail> {
@@ -48,8 +70,7 @@ fn redundant_edges_are_dropped(rt: HostRuntime) -> Result<(), Fail> {
         ("-b +b +i 0~1 0~2 *1", "-b +b +i 0~2 *1"),
         ("-b +b 0~1 x0=0 x4=0 *1", "-b +b x0=0 x4=0 *1"),
     ] {
-        let found = drop_redundant_flows(alloc, &single(&rt, alloc, text)?)?;
-        assert_eq!(rt; show_scheme(alloc, &found)?.as_str(), expected, "{text}");
+        is_dropped_to(&rt, alloc, text, expected)?;
     }
     Ok(())
 }
@@ -72,8 +93,7 @@ fn other_edges_stay(rt: HostRuntime) -> Result<(), Fail> {
         // No edge.
         "- + *1",
     ] {
-        let found = drop_redundant_flows(alloc, &single(&rt, alloc, text)?)?;
-        assert_eq!(rt; show_scheme(alloc, &found)?.as_str(), text);
+        is_dropped_to(&rt, alloc, text, text)?;
     }
     Ok(())
 }
@@ -115,8 +135,7 @@ fn schemes_become_simple(rt: HostRuntime) -> Result<(), Fail> {
             "+{a:2} -{a:3} + - 3~2 x4=1 *0",
         ),
     ] {
-        let found = simplify(alloc, &sample(&rt, alloc, text)?)?;
-        assert_eq!(rt; show_scheme(alloc, &found)?.as_str(), expected, "{text}");
+        is_simplified_to(&rt, alloc, text, expected)?;
     }
     Ok(())
 }
@@ -137,8 +156,7 @@ fn simple_schemes_do_not_change(rt: HostRuntime) -> Result<(), Fail> {
         "+f1>0 - 1~0 x2=1 x5=1 *0",
         "+{a:2} -{a:3} + - 3~2 x4=1 *0",
     ] {
-        let found = simplify(alloc, &sample(&rt, alloc, text)?)?;
-        assert_eq!(rt; show_scheme(alloc, &found)?.as_str(), text);
+        is_simplified_to(&rt, alloc, text, text)?;
     }
     Ok(())
 }

@@ -32,6 +32,30 @@ pub(crate) fn single(rt: &impl Abort, alloc: Global, text: &str) -> Result<Schem
     Ok(scheme)
 }
 
+// The deterministic form of the scheme of the first text is the scheme of the second one.
+fn is_determinised_to(
+    rt: &impl Abort,
+    alloc: Global,
+    text: &str,
+    expected: &str,
+) -> Result<(), Memory> {
+    let found = determinise(alloc, &sample(rt, alloc, text)?)?;
+    assert_eq!(rt; show_scheme(alloc, &found)?.as_str(), expected, "{text}");
+    Ok(())
+}
+
+// So is the scheme without alike states.
+fn is_minimised_to(
+    rt: &impl Abort,
+    alloc: Global,
+    text: &str,
+    expected: &str,
+) -> Result<(), Memory> {
+    let found = minimise(alloc, &single(rt, alloc, text)?)?;
+    assert_eq!(rt; show_scheme(alloc, &found)?.as_str(), expected, "{text}");
+    Ok(())
+}
+
 // What joins of positive states and meets of negative ones have.
 #[test]
 fn sets_of_states_are_states(rt: HostRuntime) -> Result<(), Fail> {
@@ -74,8 +98,7 @@ fn sets_of_states_are_states(rt: HostRuntime) -> Result<(), Fail> {
         ("+f> *0", "+f1>2 - + *0"),
         ("+f>{a:;b:} *0", "+f1>2{a:2;b:2} - + *0"),
     ] {
-        let found = determinise(alloc, &sample(&rt, alloc, text)?)?;
-        assert_eq!(rt; show_scheme(alloc, &found)?.as_str(), expected, "{text}");
+        is_determinised_to(&rt, alloc, text, expected)?;
     }
     Ok(())
 }
@@ -105,8 +128,7 @@ fn cycles_edges_and_binders(rt: HostRuntime) -> Result<(), Fail> {
         ("-i -b + x0=1 x7=0 *2", "+ -b -i x0=1 x7=2 *0"),
         ("-f1>2 +b -i + x3=0 *3", "+ -f2>3 +b -i x3=1 *0"),
     ] {
-        let found = determinise(alloc, &sample(&rt, alloc, text)?)?;
-        assert_eq!(rt; show_scheme(alloc, &found)?.as_str(), expected, "{text}");
+        is_determinised_to(&rt, alloc, text, expected)?;
     }
     Ok(())
 }
@@ -145,8 +167,7 @@ fn alike_states_are_one(rt: HostRuntime) -> Result<(), Fail> {
         ("- - + x1=0 x2=1 *2", "- + x1=0 x2=0 *1"),
         ("+i +i *1", "+i *0"),
     ] {
-        let found = minimise(alloc, &single(&rt, alloc, text)?)?;
-        assert_eq!(rt; show_scheme(alloc, &found)?.as_str(), expected, "{text}");
+        is_minimised_to(&rt, alloc, text, expected)?;
     }
     Ok(())
 }
@@ -201,12 +222,10 @@ fn chain(alloc: Global, records: usize, behind: &str) -> Result<String, Memory> 
 fn many_states_are_refined(rt: HostRuntime) -> Result<(), Fail> {
     let alloc = rt.alloc();
     let ring = chain(alloc, 20, "+{n:0} *0")?;
-    let found = minimise(alloc, &single(&rt, alloc, ring.as_str())?)?;
-    assert_eq!(rt; show_scheme(alloc, &found)?.as_str(), "+{n:0} *0");
+    is_minimised_to(&rt, alloc, ring.as_str(), "+{n:0} *0")?;
     for behind in ["+i *0", "+i{n:0} *0"] {
         let apart = chain(alloc, 20, behind)?;
-        let found = minimise(alloc, &single(&rt, alloc, apart.as_str())?)?;
-        assert_eq!(rt; show_scheme(alloc, &found)?.as_str(), apart.as_str());
+        is_minimised_to(&rt, alloc, apart.as_str(), apart.as_str())?;
     }
     Ok(())
 }
