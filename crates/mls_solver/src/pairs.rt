@@ -1,4 +1,4 @@
-//! Related pairs that are found by the first of their states, in space that grows with their number.
+//! Related pairs that are found by the first of their states, in space that grows with them and with the states.
 ghost use Rattle.std.specs.Prelude.{◌≡◌, ◌↔◌, ◌⊎◌, ℕ, ◌<◌, [], false, length, get_or, Contains, IfOk, OnOk, OnErr};
 ghost use Rattle.mls_solver.specs.Rooms.{Holds};
 ghost use Rattle.mls_solver.specs.steps.Finding.{HasMember};
