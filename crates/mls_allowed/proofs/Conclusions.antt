@@ -25,9 +25,9 @@ use Rattle.mls_deriv.specs.declared.claim.Pair.{Pair}
 use Rattle.mls_deriv.specs.declared.claim.Put.{Put}
 use Rattle.mls_deriv.specs.Steps.{env_of, form_at, Before, Says, IsAllowed, var}
 use Rattle.mls_deriv.proofs.CheckedSubs.{justified_more}
-use Rattle.mls_emit.specs.Conclusions.{IsGood, AreClear, Extends, IsUnread, Conclusion, Concluded, a_binder, by_step, IsAdapted, as_it_is, by_pairs, bound_as, IsBrought, IsReading, IsBinderAbove, one, both, IsFit, Concludes, HasConcluded, IsOuter, IsOver, ServesLater, as_it_was, below_own, first_member, second_member, IsOffered, IsPlaced, Replaces, ComesFrom, IsJoined}
+use Rattle.mls_lines.specs.Conclusions.{IsGood, AreClear, Extends, IsUnread, Conclusion, Concluded, a_binder, by_step, IsAdapted, as_it_is, by_pairs, bound_as, IsBrought, IsReading, IsBinderAbove, one, both, IsFit, Concludes, HasConcluded, IsOuter, IsOver, ServesLater, as_it_was, below_own, first_member, second_member, IsOffered, IsPlaced, Replaces, ComesFrom, IsJoined}
 use Rattle.mls_layout.specs.Emitted.{asked_at}
-use Rattle.mls_emit.specs.Orders.{Along}
+use Rattle.mls_lines.specs.Orders.{Along}
 use Rattle.mls_pairs.specs.PairLists.{IsPairList}
 use Rattle.mls_layout.specs.Plans.{PlannedLine, a_step_with, planned_steps}
 use Rattle.mls_layout.specs.Rows.{at, concluded, Fits}
@@ -36,9 +36,10 @@ use Rattle.mls_layout.specs.Scopes.{entry}
 use Rattle.mls_layout.specs.Shown.{IsShown, based, meet_right, meet_first, meet_second, AreShown}
 use Rattle.mls_layout.specs.Uses.{NoClaim}
 use Rattle.mls_allowed.proofs.Orders.{along_justified}
-use Rattle.mls_allowed.proofs.Plans.{planned_append, lines_split}
-use Rattle.mls_emit.proofs.Runs.{nothing_run, run_then, step_run, says_last, says_kept}
-use Rattle.mls_emit.proofs.Scopes.{inner_back, inner_found}
+use Rattle.mls_allowed.proofs.Plans.{lines_split}
+use Rattle.mls_lines.proofs.Bringing.{planned_append}
+use Rattle.mls_lines.proofs.Runs.{nothing_run, run_then, step_run, says_last, says_kept}
+use Rattle.mls_lines.proofs.Scopes.{inner_back, inner_found}
 use Rattle.mls_allowed.proofs.Subs.{sub_allowed}
 
 -- a node that is no `Bot` is in the book

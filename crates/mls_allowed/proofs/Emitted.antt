@@ -22,7 +22,7 @@ use Rattle.mls_pairs.specs.PairLists.{pair_of, IsPairList}
 use Rattle.mls_layout.specs.Shown.{IsShown, AreShown}
 use Rattle.mls_layout.specs.Emitted.{pair_with, binder_pair, asked_pairs, asked_after, asked_by, asked_at, IsListOf}
 use Rattle.mls_pairs.proofs.Refuted.{list_has}
-use Rattle.mls_emit.proofs.Scopes.{looked, got, same_key}
+use Rattle.mls_lines.proofs.Scopes.{looked, got, same_key}
 use Rattle.mls_allowed.proofs.Shown.{shown_justified}
 
 pub list_of : (book : List Node) (puts : List Put) (base claims : Mode → ℕ → ℕ → Type 0) → AreShown book puts base claims

@@ -17,12 +17,8 @@ use Rattle.mls_deriv.specs.declared.derivation.Mode.TheVariants.{Lr, Rl, Pp}
 use Rattle.mls_deriv.specs.declared.claim.Pair.{Pair}
 use Rattle.mls_deriv.specs.declared.claim.Put.{Put}
 use Rattle.mls_deriv.specs.Pairs.{put_at, left_put, right_put, Claims, exchanged, IsJustified, bot_below, below_top, join_below, below_meet, first_below, second_below, below_first, below_second, same_bool, same_int, same_variable, functions, records, left_variable, right_variable, same_node}
-use Rattle.mls_pairs.specs.PairLists.{pair_of, IsOutside, IsRefuted, refuted, IsPairList}
-use Rattle.mls_pairs.proofs.Choosing.{all_there}
-
--- both nodes of the pair are below this number
-abbrev pub IsWithin : ℕ → Pair → Type 0
-IsWithin n pair = (pair.left < n) × (pair.right < n)
+use Rattle.mls_pairs.specs.PairLists.{pair_of, IsInside, IsOutside, IsRefuted, refuted, IsPairList}
+use Rattle.mls_pairs.proofs.Inside.{all_there}
 
 -- two books with the same nodes below a number, whose children are below it too
 module _ (n : ℕ) (first second : List Node) (same : (i : ℕ) → i < n → node_at second i ≡ node_at first i) (children : (i : ℕ) → i < n → HasChildrenIn (λ k. k < n) (node_at first i))
@@ -78,7 +74,7 @@ module _ (book more : List Node) (closed : IsClosedBook book) (puts : List Put) 
   whole = book ++ more
 
   abbrev Within : Pair → Type 0
-  Within = IsWithin (length book)
+  Within = IsInside (length book)
 
   same : (i : ℕ) → i < length book → node_at whole i ≡ node_at book i
   same i i_low = get_or_append_left book more node.Bot i i_low

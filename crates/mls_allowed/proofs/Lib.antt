@@ -32,6 +32,7 @@ pub mod Conclusions
 pub mod WrittenRows
 pub mod WrittenNames
 pub mod WrittenMakes
+pub mod PartNodes
 pub mod PartReadings
 pub mod StandingParts
 pub mod WrittenParts
@@ -60,6 +61,7 @@ pub mod FirstScopes
 pub mod SubsumedWalks
 pub mod AroundParts
 pub mod ReadyParts
+pub mod LaidParts
 pub mod MadeTypes
 pub mod OwnLets
 pub mod ReadyTerms
@@ -67,3 +69,5 @@ pub mod UseCopies
 pub mod ReadyFirsts
 pub mod ReadyLines
 pub mod KnownBooks
+pub mod LetPuts
+pub mod GlobalPuts

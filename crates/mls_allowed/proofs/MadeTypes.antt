@@ -109,6 +109,7 @@ module _ (nodes : List TermNode) (globals old new : BTreeMap ℕ Scheme) (kept :
     rooted = it.rooted;
     bound = it.bound;
     posed = λ i f there e. node_kept p i f (it.posed i f there e);
+    posed_at = it.posed_at;
     models = λ known over type binder types binder_types typed. it.models known (record { globals = over.globals; lets = λ k s b is at. over.lets k s b (kept k s is) at }) type binder types binder_types typed;
   }
 

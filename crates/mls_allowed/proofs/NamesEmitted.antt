@@ -20,7 +20,7 @@ use Rattle.mls_layout.specs.Runs.{id, a_step}
 use Rattle.mls_layout.specs.Rows.{at, concluded, Fits, HasRow}
 use Rattle.mls_allowed.proofs.Ends.{copied_part}
 use Rattle.mls_allowed.proofs.Rows.{row_step, row_after}
-use Rattle.mls_emit.proofs.Scopes.{found_back}
+use Rattle.mls_lines.proofs.Scopes.{found_back}
 
 pub no_binder : (x i : ℕ) → env.get (env_of []) x ≡ Some i → ⊥
 no_binder x i found = let it = (found_back (λ y. y) [] x i found).0 in let low : it.0 < 0 = it.1 in absurd (omega arith)

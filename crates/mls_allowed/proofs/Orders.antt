@@ -11,7 +11,7 @@ use Rattle.mls_deriv.specs.declared.derivation.Mode.TheVariants.{Lr, Rl, Pp}
 use Rattle.mls_deriv.specs.declared.claim.Put.{Put}
 use Rattle.mls_deriv.specs.Pairs.{left_put, right_put, exchanged, IsJustified, bot_below, below_top, join_below, below_meet, first_below, second_below, below_first, below_second, same_bool, same_int, same_variable, functions, records, left_variable, right_variable, same_node}
 use Rattle.mls_deriv.proofs.CheckedSubs.{justified_more}
-use Rattle.mls_emit.specs.Orders.{JustifiesItself, IsOrder, InSteps, InSomeSteps, Along}
+use Rattle.mls_lines.specs.Orders.{JustifiesItself, IsOrder, InSteps, InSomeSteps, Along}
 use Rattle.mls_allowed.proofs.Composed.{composed}
 
 module _ (book : List Node) (Below : ℕ → ℕ → Type 0) (mode : Mode) (puts : List Put) (claims : Mode → ℕ → ℕ → Type 0)

@@ -44,7 +44,7 @@ use Rattle.mls_allowed.proofs.OneField.{one_field}
 use Rattle.mls_allowed.proofs.PartRows.{bound_part, fun_part, apply_part, project_part, choice_part, fix_part, number_part, truth_part}
 use Rattle.mls_allowed.proofs.PartClaims.{part_shown}
 use Rattle.mls_allowed.proofs.Rows.{leads_then, leads_still, row_after, sub_row}
-use Rattle.mls_emit.proofs.Scopes.{found_in, found_back, inner, inner_found, inner_back, inner_kept, inner_removed, inner_rising, pushed_rising}
+use Rattle.mls_lines.proofs.Scopes.{found_in, found_back, inner, inner_found, inner_back, inner_kept, inner_removed, inner_rising, pushed_rising}
 
 module _ (b : Before) (a : Automaton) (IsGoal : ℕ → ℕ → Type 0) (closed : IsClosed a) (goals : AreGoals a IsGoal) (free : HasNoClash a (IsRelated a IsGoal))
     (general special : Scheme) (is_solved : IsSolved a (IsRelated a IsGoal) general.automaton) (closed_type : IsClosed special.automaton)

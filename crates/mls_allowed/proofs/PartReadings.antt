@@ -22,9 +22,9 @@ use Rattle.mls_deriv.specs.declared.derivation.Mode.TheVariants.{Lr, Rl, Pp}
 use Rattle.mls_deriv.specs.declared.claim.Put.{Put}
 use Rattle.mls_deriv.specs.Pairs.{put_at, left_put, right_put, exchanged, IsJustified}
 use Rattle.mls_deriv.specs.Steps.{Before}
-use Rattle.mls_emit.specs.Conclusions.{IsUnread, IsReading}
+use Rattle.mls_lines.specs.Conclusions.{IsUnread, IsReading}
 use Rattle.mls_layout.specs.Layouts.{IsLayout, PartClaims, IsItself}
-use Rattle.mls_emit.specs.Orders.{IsOrder}
+use Rattle.mls_lines.specs.Orders.{IsOrder}
 use Rattle.mls_allowed.specs.Readings.{IsOneBelow, IsBelow, IsReadClaim, IsUnreadItself, IsRead}
 use Rattle.mls_layout.specs.Shown.{IsShown, based, AreShown}
 use Rattle.mls_layout.specs.Uses.{NamesOnly, AreFree, IsUseClaim, below_copy, above_copy, NoClaim}

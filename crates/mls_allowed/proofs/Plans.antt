@@ -1,5 +1,4 @@
 -- Plans, one after the other.
---     planned_append      their steps
 --     lines_split         their lines
 use Rattle.std.proofs.Common.{◌≡◌, List, [], ◌∷◌, ◌++◌, refl, sym, ap, ◌∙◌, subst, append-nil, append_assoc}
 use Rattle.mls_book.specs.declared.book.Node.{Node}
@@ -8,11 +7,6 @@ use Rattle.mls_deriv.specs.declared.derivation.SectionLine.TheVariants as line
 use Rattle.mls_deriv.specs.declared.derivation.StepLine.{StepLine}
 use Rattle.mls_layout.specs.Runs.{lines_of}
 use Rattle.mls_layout.specs.Plans.{PlannedLine, a_step_with, a_let, planned_steps, AreLinesOf}
-
-pub planned_append : (plan more : List PlannedLine) → planned_steps (plan ++ more) ≡ planned_steps plan ++ planned_steps more
-planned_append [] more = refl
-planned_append (a_step_with step puts ∷ plan) more = ap (λ (l : List StepLine). step ∷ l) (planned_append plan more)
-planned_append (a_let k number ∷ plan) more = planned_append plan more
 
 -- lines of two plans
 pub record AreSplit (book : List Node) (steps : List StepLine) (plan more : List PlannedLine) (lines : List SectionLine) : Type 0 where

@@ -19,8 +19,9 @@ use Rattle.mls_layout.specs.Plans.{PlannedLine}
 use Rattle.mls_layout.specs.Posed.{ArePosed, IsPosed}
 use Rattle.mls_parts.specs.declared.binders.PartBinders.{PartBinders}
 use Rattle.mls_parts.specs.declared.pose.Posing.{Posing}
+use Rattle.mls_parts.specs.PosedGoals.{constraint_of}
 use Rattle.mls_parts.specs.Posings.{binder_in, root_in}
-use Rattle.mls_allowed.specs.ReadyParts.{constraint_of, HasLines, IsPartReady}
+use Rattle.mls_allowed.specs.ReadyParts.{HasLines, IsPartReady}
 use Rattle.mls_allowed.specs.WrittenParts.{IsPartWritten}
 
 -- where each use that is posed so is one of the other kind, so is the tree
@@ -63,11 +64,6 @@ ready_written b globals lets begun known part d type plan members binders p spec
   lets = it.names_of;
   are_known = it.are_known;
   is_place = it.is_place;
-  is_own = it.is_own;
-  children = it.children;
-  own_place = it.own_place;
-  own_part = it.own_part;
-  own_type = it.own_type;
   tree = ready.tree;
   scope = binders.around;
   posed = posed_uses b.term_nodes p.automaton (IsGoalOf (constraint_of p)) (root_in p) (binder_in p) _ _ it.uses ready.tree binders.around part ready.tree_posed;

@@ -7,7 +7,7 @@
 --     written_node            a node of a part is one of the expression at its root
 --     part_tree               the tree of a part is posed
 --     part_ready
-use Rattle.std.proofs.Common.{◌≡◌, ◌≢◌, ◌⊎◌, inl, inr, ℕ, suc, ◌+◌, ◌<◌, ◌≤◌, ◌==◌, true, false, arith, List, [], ◌∷◌, ◌++◌, map, refl, sym, ap, ◌∙◌, subst, Contains, Option, Some, None}
+use Rattle.std.proofs.Common.{◌≡◌, ◌≢◌, ◌⊎◌, inl, inr, ℕ, suc, ◌+◌, ◌<◌, ◌≤◌, ◌==◌, true, false, arith, List, [], ◌∷◌, ◌++◌, refl, sym, ap, ◌∙◌, subst, Contains, Option, Some, None}
 use Rattle.std.specs.Prelude.{IsSome, cond, find, option_map}
 use Rattle.std.specs.BTreeMap.{BTreeMap}
 use Rattle.std.proofs.lemmas.Bool.Decides.{eqb_tells}
@@ -19,12 +19,11 @@ use Rattle.mls_automaton.specs.Automata.{Automaton, polarity_at, IsState}
 use Rattle.mls_automaton.specs.Models.{IsClosed, IsDeterministic}
 use Rattle.mls_automaton.specs.Schemes.{state_of, IsScheme}
 use Rattle.mls_automaton.specs.Sets.{Rises}
-use Rattle.mls_automaton.proofs.Lists.{Contains-map, Contains-map_back}
-use Rattle.mls_solver.specs.declared.goal.Goal.{Goal}
 use Rattle.mls_solver.specs.Clashes.{HasNoClash}
 use Rattle.mls_solver.specs.Relations.{IsGoal, IsRelated, goal}
 use Rattle.mls_solver.specs.Solved.{IsNewFlow, IsSolved, ReachesBy}
 use Rattle.mls_solver.proofs.Taking.{related-through}
+use Rattle.mls_infer.proofs.Solvable.{goal_in as goal_from, pair_in}
 use Rattle.mls_subsume.specs.declared.verdict.StatePair.{StatePair}
 use Rattle.mls_subsume.specs.Verdicts.{DoesSubsume}
 use Rattle.mls_subsume.specs.Walks.{IsIn}
@@ -46,6 +45,7 @@ use Rattle.mls_parts.specs.MetCopies.{IsUseMet}
 use Rattle.mls_parts.specs.NodeTypes.{IsNodeOf, IsOwnPart, at_top, in_part}
 use Rattle.mls_parts.specs.NumberedNodes.{behind, IsNumbered, AreNumbered}
 use Rattle.mls_parts.specs.PartBinders.{ArePartBinders, NeedsBinder}
+use Rattle.mls_parts.specs.PosedGoals.{constraint_of}
 use Rattle.mls_parts.specs.PosedParts.{IsPartPosed}
 use Rattle.mls_parts.specs.Posings.{binder_in, known_in, or_zero, root_in}
 use Rattle.mls_parts.specs.SolvedTypes.{entries_of, solved_scheme}
@@ -54,8 +54,8 @@ use Rattle.mls_parts.specs.TreeNodes.{AreTreeNodes}
 use Rattle.mls_parts.proofs.Owners.{node_low}
 use Rattle.mls_parts.proofs.SplitParts.{own_parts_in}
 use Rattle.mls_emit.specs.MadeFirsts.{around_states}
-use Rattle.mls_allowed.specs.ReadyParts.{constraint_of, goal_pair, needed_by, IsPartReady, IsUseAround}
-use Rattle.mls_emit.specs.Writings as writings
+use Rattle.mls_allowed.specs.ReadyParts.{needed_by, IsPartReady, IsUseAround}
+use Rattle.mls_lines.specs.Writings as writings
 use Rattle.mls_allowed.proofs.AroundParts.{closed_part, rises_around}
 use Rattle.mls_allowed.proofs.FirstScopes.{IsAround}
 use Rattle.mls_allowed.proofs.PosedTrees.{posed_tree}
@@ -123,15 +123,13 @@ module _ (a : Automaton) (First Second : ℕ → ℕ → Type 0) (to : (p n : �
     heads = it.heads;
   }
 
--- goals as pairs
-to_pairs : (goals : List Goal) (p n : ℕ) → IsGoal goals p n → Contains (map goal_pair goals) (p, n)
-to_pairs goals p n there = Contains-map goal_pair goals (record { positive = record { 0 = p }; negative = record { 0 = n } }) there
+-- the closed relation of the goals is that of the goals as pairs
+module _ (p : Posing) where
+  pub to_related : (q m : ℕ) → IsRelated p.automaton (IsGoal p.goals) q m → IsRelatedIn (constraint_of p) q m
+  to_related q m is = related-through p.automaton (IsGoal p.goals) (IsGoalOf (constraint_of p)) (λ q' m' g. goal (pair_in p.goals q' m' g)) q m is
 
-from_pairs : (goals : List Goal) (p n : ℕ) → Contains (map goal_pair goals) (p, n) → IsGoal goals p n
-from_pairs goals p n there =
-    let found = Contains-map_back goal_pair goals (p, n) there in
-    let same : found.0 ≡ record { positive = record { 0 = p }; negative = record { 0 = n } } = λ i. record { positive = record { 0 = (found.2 i).0 }; negative = record { 0 = (found.2 i).1 } } in
-    subst (Contains goals) same found.1
+  pub from_related : (q m : ℕ) → IsRelatedIn (constraint_of p) q m → IsRelated p.automaton (IsGoal p.goals) q m
+  from_related q m is = related-through p.automaton (IsGoalOf (constraint_of p)) (IsGoal p.goals) (λ q' m' g. goal (goal_from p.goals q' m' g)) q m is
 
 -- binders with their states
 module _ (p : Posing) where
@@ -215,16 +213,10 @@ module _ (nodes : List TermNode) (globals lets : BTreeMap ℕ Scheme) (let_scope
   Posed = IsRelated p.automaton (IsGoal p.goals)
 
   goal_of : (q m : ℕ) → IsGoal p.goals q m → IsGoalOf c q m
-  goal_of q m is = to_pairs p.goals q m is
+  goal_of q m is = pair_in p.goals q m is
 
   goal_in : (q m : ℕ) → IsGoalOf c q m → IsGoal p.goals q m
-  goal_in q m is = from_pairs p.goals q m is
-
-  to_related : (q m : ℕ) → Posed q m → IsRelatedIn c q m
-  to_related q m is = related-through p.automaton (IsGoal p.goals) (IsGoalOf c) (λ q' m' g. goal (goal_of q' m' g)) q m is
-
-  from_related : (q m : ℕ) → IsRelatedIn c q m → Posed q m
-  from_related q m is = related-through p.automaton (IsGoalOf c) (IsGoal p.goals) (λ q' m' g. goal (goal_in q' m' g)) q m is
+  goal_in q m is = goal_from p.goals q m is
 
   top_in : Contains part.nodes (n + before t)
   top_in = is_part.all (n + before t) (at_top refl)
@@ -263,8 +255,8 @@ module _ (nodes : List TermNode) (globals lets : BTreeMap ℕ Scheme) (let_scope
       solved_to = record {
         closed = posed.closed;
         goals = λ q m is. posed.goals (record { positive = record { 0 = q }; negative = record { 0 = m } }) (goal_in q m is);
-        free = λ q m related clash clashes. free q m (from_related q m related) clash clashes;
-        solved = solved_by p.automaton Posed (IsRelatedIn c) to_related from_related solved is_solved;
+        free = λ q m related clash clashes. free q m (from_related p q m related) clash clashes;
+        solved = solved_by p.automaton Posed (IsRelatedIn c) (to_related p) (from_related p) solved is_solved;
         closed_type = is.automaton;
         walk = subsumed_walk general special general_scheme is single does pairs met;
         is_positive = (posed.roots (n + before t) top_in).polarity;

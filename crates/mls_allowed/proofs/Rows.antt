@@ -27,8 +27,9 @@ use Rattle.mls_layout.specs.Emitted.{asked_at}
 use Rattle.mls_layout.specs.Runs.{id, a_step, lines_of, IsRun}
 use Rattle.mls_layout.specs.Plans.{a_step_with, planned_steps, AreLinesOf}
 use Rattle.mls_layout.specs.Rows.{at, concluded, Fits, Leads, HasRow, Widens}
-use Rattle.mls_allowed.proofs.Plans.{planned_append, lines_split}
-use Rattle.mls_emit.proofs.Runs.{nothing_run, run_then, step_run, says_last, says_kept}
+use Rattle.mls_allowed.proofs.Plans.{lines_split}
+use Rattle.mls_lines.proofs.Bringing.{planned_append}
+use Rattle.mls_lines.proofs.Runs.{nothing_run, run_then, step_run, says_last, says_kept}
 use Rattle.mls_allowed.proofs.Subs.{sub_allowed}
 
 module _ (b : Before) where

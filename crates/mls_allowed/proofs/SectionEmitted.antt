@@ -22,9 +22,10 @@ use Rattle.mls_layout.specs.Lets.{FirstPart, KnowsLet, KnowsLets, after, HasRowW
 use Rattle.mls_layout.specs.Rows.{at, concluded, HasRow}
 use Rattle.mls_layout.specs.Runs.{BeginsAnew, IsRun}
 use Rattle.mls_layout.specs.Plans.{PlannedLine, a_let, planned_steps, AreLinesOf}
-use Rattle.mls_allowed.proofs.Plans.{planned_append, lines_split}
-use Rattle.mls_emit.proofs.Runs.{nothing_run, run_then}
-use Rattle.mls_emit.proofs.Scopes.{itself_key, same_key}
+use Rattle.mls_allowed.proofs.Plans.{lines_split}
+use Rattle.mls_lines.proofs.Bringing.{planned_append}
+use Rattle.mls_lines.proofs.Runs.{nothing_run, run_then}
+use Rattle.mls_lines.proofs.Scopes.{itself_key, same_key}
 
 -- the scheme of a let number is the conclusion of a step
 pub let_run : (b : Before) (k number : ℕ) → IsRun b (line.Let k number ∷ []) (after_let b k number)

@@ -1,15 +1,13 @@
 -- A name, or a let, whose known type has a copy in the constraint of a part: the nodes of the type, as they are laid or
 -- as they were read, are those of a copy.
---     HasEdgeVariables        two states of the type show one variable only where there is an edge
---     copied                  so the copy of its states is one of their nodes
+--     copied                  the copy of the states of a type is one of their nodes
 --     use_copy                the nodes of the type of a let's first part
 --     read_copied, read_copy  the nodes of a type that was read
 use Rattle.std.proofs.Common.{◌≡◌, ℕ, ◌+◌, ◌<◌, List, length, ◌∙◌, subst, Some}
 use Rattle.std.specs.Prelude.{IsTrue}
 use Rattle.mls_book.specs.declared.book.Node.{Node}
-use Rattle.mls_automaton.specs.declared.automaton.Polarity.TheVariants.{Negative, Positive}
 use Rattle.mls_automaton.specs.declared.scheme.Scheme.{Scheme}
-use Rattle.mls_automaton.specs.Automata.{Automaton, polarity_at, head_at, HasFlow}
+use Rattle.mls_automaton.specs.Automata.{Automaton, polarity_at, head_at}
 use Rattle.mls_automaton.specs.Heads.{parts_of}
 use Rattle.mls_automaton.specs.Schemes.{IsScheme}
 use Rattle.mls_flow.specs.Simulations.{IsHeadWithin}
@@ -21,14 +19,10 @@ use Rattle.mls_deriv.specs.declared.claim.Put.{Put}
 use Rattle.mls_deriv.specs.Pairs.{put_at}
 use Rattle.mls_deriv.specs.Steps.{HasFrom}
 use Rattle.mls_layout.specs.Layouts.{IsTypeLayout}
-use Rattle.mls_layout.specs.Uses.{ArePuts, IsCopyOf, IsNameLayout, Shows}
+use Rattle.mls_layout.specs.Uses.{ArePuts, HasEdgeVariables, IsCopyOf, IsNameLayout}
 use Rattle.mls_parts.specs.MetCopies.{IsCopyMet}
-use Rattle.mls_emit.proofs.ReadLayouts.{IsTopCopied, read_layout}
+use Rattle.mls_typenodes.proofs.ReadLayouts.{IsTopCopied, has_tops, read_layout}
 use Rattle.mls_allowed.proofs.NameLayouts.{IsCopied, name_layout}
-
--- where a negative and a positive state show one variable, there is an edge between them
-abbrev pub HasEdgeVariables : List Node → Automaton → (ℕ → List ℕ) → Type 0
-HasEdgeVariables book b variables = (n p x : ℕ) → polarity_at b n ≡ Negative → polarity_at b p ≡ Positive → Shows book variables n x → Shows book variables p x → HasFlow b n p
 
 module _ (book : List Node) (a : Automaton) (binder : ℕ → ℕ) (known : Scheme) (copy : ℕ → ℕ) (met : IsCopyMet a binder known copy) where
   pub copied : (variables : ℕ → List ℕ) → HasEdgeVariables book known.automaton variables → IsCopied book known.automaton a variables copy
@@ -64,7 +58,7 @@ module _ (book : List Node) (n : ℕ) (read : ReadScheme) (from : HasFrom book n
   abbrev of : IsReadFrom read.book read.root.0 known.automaton
   of = is.automaton
 
-  pub read_copied : IsTopCopied book n read.book from of.closed of.sign of.polarised read.root.0 of.is_top of.tops known.automaton of.automaton a copy
+  pub read_copied : IsTopCopied book n read.book from of.closed of.sign of.polarised read.root.0 of.is_top of.tops known.automaton a copy
   read_copied = record {
     polarity = λ s top. met.polarity s ∙ of.automaton.polarity s top;
     heads = λ s top. subst (λ p. IsHeadWithin (λ x y. copy x ≡ y) p (parts_of (head_at known.automaton s)) (parts_of (head_at a (copy s)))) (of.automaton.polarity s top) (met.heads s);
@@ -72,7 +66,7 @@ module _ (book : List Node) (n : ℕ) (read : ReadScheme) (from : HasFrom book n
   }
 
   abbrev pub read_nodes : IsNameLayout book a (λ s. IsTrue (is.automaton.is_top s)) is.automaton.sign (λ s. n + s) copy
-  read_nodes = read_layout book n read.book from of.closed of.sign of.polarised read.root.0 of.is_top of.tops known.automaton of.automaton a copy read_copied
+  read_nodes = read_layout book n read.book from of.closed of.sign of.polarised read.root.0 of.is_top of.tops known.automaton a copy (has_tops book n read.book from of.closed of.sign of.polarised read.root.0 of.is_top of.tops known.automaton of.automaton) read_copied
 
   -- the tops are places, and the root is the top
   pub read_copy : (place : ℕ → ℕ) (puts : List Put) → ArePuts book (λ s. IsTrue (is.automaton.is_top s)) is.automaton.sign read_nodes.variables place copy puts → ((x m : ℕ) → put_at puts x ≡ Some m → m < length book)

@@ -31,7 +31,7 @@ use Rattle.mls_allowed.proofs.LetsEmitted.{let_part}
 use Rattle.mls_allowed.proofs.NamesEmitted.{global_row, inner_row}
 use Rattle.mls_allowed.proofs.PartEmitted.{HasUses, HasLets, emitted}
 use Rattle.mls_allowed.proofs.Rows.{leads_still, leads_then, row_after}
-use Rattle.mls_emit.proofs.Scopes.{found_in, found_back, other_rising}
+use Rattle.mls_lines.proofs.Scopes.{found_in, found_back, other_rising}
 
 module _ (b : Before) (a : Automaton) (IsGoal : ℕ → ℕ → Type 0) (closed : IsClosed a) (goals : AreGoals a IsGoal) (free : HasNoClash a (IsRelated a IsGoal))
     (general special : Scheme) (is_solved : IsSolved a (IsRelated a IsGoal) general.automaton) (closed_type : IsClosed special.automaton)

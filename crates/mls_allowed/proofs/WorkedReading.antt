@@ -14,11 +14,11 @@ use Rattle.mls_automaton.specs.Models.{HasRisingLabels, IsDeterministic}
 use Rattle.mls_automaton.proofs.Lists.{Contains-here}
 use Rattle.mls_scheme.specs.ReadAutomata.{IsPolarised, atoms, atom_parts, HasVariable, AreChildren, AreTops, IsReadAutomaton, IsReadFrom}
 use Rattle.mls_layout.specs.Layouts.{IsTypeLayout}
-use Rattle.mls_emit.specs.OneEach.{HaveOneEach, HasRisingSets, AreNoneNodes, read_place}
-use Rattle.mls_emit.proofs.CombinedParts.{same_set_self}
-use Rattle.mls_emit.proofs.PrintedLayouts.{read_is_laid_out, read_is_deterministic}
-use Rattle.mls_emit.proofs.TypeLayers.{HasOneLayers, plain, book_has_one}
-use Rattle.mls_emit.proofs.TypeLayouts.{at_front}
+use Rattle.mls_typenodes.specs.OneEach.{HaveOneEach, HasRisingSets, AreNoneNodes, read_place}
+use Rattle.mls_typenodes.proofs.CombinedParts.{same_set_self}
+use Rattle.mls_typenodes.proofs.PrintedLayouts.{read_is_laid_out, read_is_deterministic}
+use Rattle.mls_typenodes.proofs.TypeLayers.{HasOneLayers, plain, book_has_one}
+use Rattle.mls_typenodes.proofs.TypeLayouts.{at_front}
 use Rattle.mls_layout.proofs.WorkedParts.{contains_one, function_head}
 
 abbrev type : Ty

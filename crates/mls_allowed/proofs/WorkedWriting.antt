@@ -15,18 +15,20 @@ use Rattle.mls_deriv.specs.declared.derivation.StepLine.{StepLine}
 use Rattle.mls_deriv.specs.declared.derivation.StepRule.TheVariants as rule
 use Rattle.mls_deriv.specs.Pairs.{put_at}
 use Rattle.mls_deriv.specs.Steps.{env_of, form_at, Before}
-use Rattle.mls_emit.specs.Conclusions.{AreClear, Conclusion, Concluded, a_binder, by_step, by_pairs, settled}
+use Rattle.mls_lines.specs.Conclusions.{AreClear, Conclusion, Concluded, a_binder, by_step, by_pairs, settled}
 use Rattle.mls_layout.specs.Lets.{after}
 use Rattle.mls_layout.specs.Parts.{IsGoalOf}
 use Rattle.mls_layout.specs.Plans.{PlannedLine, a_step_with}
 use Rattle.mls_layout.specs.Posed.{IsPosed}
 use Rattle.mls_layout.specs.Runs.{a_step}
 use Rattle.mls_layout.specs.Uses.{NamesOnly}
-use Rattle.mls_emit.specs.NodeLines.{Standing, NamesKnown, IsInnerWritten, IsLetWritten, IsWrittenAs}
-use Rattle.mls_emit.specs.Writings.{IsBefore, AreWrittenBefore, IsNodeOf, itself, within, IsWriting}
+use Rattle.mls_lines.specs.NodeLines.{Standing, NamesKnown, IsInnerWritten, IsLetWritten, IsWrittenAs}
+use Rattle.mls_lines.specs.Writings.{IsBefore, AreWrittenBefore, IsNodeOf, itself, within, IsWriting}
+use Rattle.mls_allowed.specs.PartNodes.{IsPartNode, named, of_state, of_type}
 use Rattle.mls_allowed.specs.WrittenParts.{IsPartWritten}
 use Rattle.mls_allowed.specs.WrittenUses.{IsInnerRead, IsLetRead, IsUseRead}
 use Rattle.mls_allowed.proofs.NamesEmitted.{no_binder}
+use Rattle.mls_allowed.proofs.PartNodes.{child_such}
 use Rattle.mls_allowed.proofs.WorkedConstraint.{the_constraint, the_scheme, solved_to, laid_out}
 use Rattle.mls_allowed.proofs.WorkedIdentity.{identity, book, place_of, type_place, walked, parts_at, identity_layout}
 use Rattle.mls_allowed.proofs.WorkedNames.{root, binder, section_of, the_let, first, known_copy, the_puts, met, fits}
@@ -60,10 +62,10 @@ is_own (suc (suc (suc (suc (suc (suc zero)))))) = false
 is_own (suc (suc (suc (suc (suc (suc (suc zero))))))) = true
 is_own (suc (suc (suc (suc (suc (suc (suc (suc n)))))))) = false
 
-abbrev Own : ℕ → Type 0
-Own i = IsTrue (is_own i)
+abbrev IsListed : ℕ → Type 0
+IsListed i = IsTrue (is_own i)
 
-children : (i : ℕ) → Own i → NamesOnly Own (node_at book i)
+children : (i : ℕ) → IsListed i → NamesOnly IsListed (node_at book i)
 children zero is = (refl, refl)
 children (suc zero) is = tt
 children (suc (suc zero)) is = tt
@@ -74,32 +76,40 @@ children (suc (suc (suc (suc (suc (suc zero)))))) is = absurd (cc)
 children (suc (suc (suc (suc (suc (suc (suc zero))))))) is = tt
 children (suc (suc (suc (suc (suc (suc (suc (suc n)))))))) is = absurd (cc)
 
-clear : AreClear book Own the_puts
-clear zero x is e = absurd (cc)
-clear (suc zero) x is e = let same : 0 ≡ x = cc in subst (λ z. put_at the_puts z ≡ None) same refl
-clear (suc (suc zero)) x is e = let same : 0 ≡ x = cc in subst (λ z. put_at the_puts z ≡ None) same refl
-clear (suc (suc (suc zero))) x is e = absurd (cc)
-clear (suc (suc (suc (suc zero)))) x is e = absurd (cc)
-clear (suc (suc (suc (suc (suc zero))))) x is e = absurd (cc)
-clear (suc (suc (suc (suc (suc (suc zero)))))) x is e = absurd (cc)
-clear (suc (suc (suc (suc (suc (suc (suc zero))))))) x is e = absurd (cc)
-clear (suc (suc (suc (suc (suc (suc (suc (suc n)))))))) x is e = absurd (cc)
+clear_listed : AreClear book IsListed the_puts
+clear_listed zero x is e = absurd (cc)
+clear_listed (suc zero) x is e = let same : 0 ≡ x = cc in subst (λ z. put_at the_puts z ≡ None) same refl
+clear_listed (suc (suc zero)) x is e = let same : 0 ≡ x = cc in subst (λ z. put_at the_puts z ≡ None) same refl
+clear_listed (suc (suc (suc zero))) x is e = absurd (cc)
+clear_listed (suc (suc (suc (suc zero)))) x is e = absurd (cc)
+clear_listed (suc (suc (suc (suc (suc zero))))) x is e = absurd (cc)
+clear_listed (suc (suc (suc (suc (suc (suc zero)))))) x is e = absurd (cc)
+clear_listed (suc (suc (suc (suc (suc (suc (suc zero))))))) x is e = absurd (cc)
+clear_listed (suc (suc (suc (suc (suc (suc (suc (suc n)))))))) x is e = absurd (cc)
 
-own_place : (s : ℕ) → Own (place_of s)
+own_place : (s : ℕ) → IsListed (place_of s)
 own_place zero = refl
 own_place (suc zero) = refl
 own_place (suc (suc zero)) = refl
 own_place (suc (suc (suc s))) = refl
 
-own_type : (s : ℕ) → Own (type_place s)
+own_type : (s : ℕ) → IsListed (type_place s)
 own_type zero = refl
 own_type (suc zero) = refl
 own_type (suc (suc zero)) = refl
 own_type (suc (suc (suc s))) = refl
 
-own_part : (s i : ℕ) → Contains (parts_at s) i → Own i
-own_part zero i there = subst Own (contains_one 3 i there) refl
-own_part (suc s) i there = absurd (nothing i there)
+abbrev Own : ℕ → Type 0
+Own = IsPartNode book place_of type_place
+
+-- these are all
+listed : (i : ℕ) → Own i → IsListed i
+listed i (of_state s e) = subst IsListed e (own_place s)
+listed i (of_type s e) = subst IsListed e (own_type s)
+listed i (named j it child) = child_such IsListed (node_at book j) i (children j (listed j it)) child
+
+clear : AreClear book Own the_puts
+clear i x it e = clear_listed i x (listed i it) e
 
 abbrev IsPlaceAt : ℕ → ℕ → Type 0
 IsPlaceAt i s = IsTrue true
@@ -275,11 +285,6 @@ let_written = record {
   lets = 0 ∷ [];
   are_known = λ k there. (Contains-here first [], contains_one 0 k there, subst (λ z. env.find nat_cmp z b.lets ≡ Some 0) (contains_one 0 k there) refl);
   is_place = λ i s. true;
-  is_own = is_own;
-  children = children;
-  own_place = own_place;
-  own_part = own_part;
-  own_type = own_type;
   tree = the_let;
   scope = [];
   posed = posed;

@@ -26,18 +26,18 @@ use Rattle.mls_deriv.specs.declared.derivation.Mode.TheVariants.{Lr, Rl}
 use Rattle.mls_deriv.specs.declared.derivation.StepLine.{StepLine}
 use Rattle.mls_deriv.specs.declared.derivation.StepRule.TheVariants as rule
 use Rattle.mls_deriv.specs.Steps.{env_of, form_at, Before, Says}
-use Rattle.mls_emit.specs.Conclusions.{IsGood, Conclusion, Concluded, a_binder, by_step, IsAdapted, as_it_is, by_pairs, bound_as, IsBrought}
+use Rattle.mls_lines.specs.Conclusions.{IsGood, Conclusion, Concluded, a_binder, by_step, IsAdapted, as_it_is, by_pairs, bound_as, IsBrought}
 use Rattle.mls_layout.specs.Parts.{Constraint, IsGoalOf, IsSolvedTo, IsLaidOut}
 use Rattle.mls_layout.specs.Plans.{PlannedLine, planned_steps}
 use Rattle.mls_layout.specs.Rows.{at, concluded, Fits, EndsWith, HasRow}
 use Rattle.mls_layout.specs.Runs.{a_step}
 use Rattle.mls_layout.specs.Scopes.{entry}
 use Rattle.mls_layout.specs.Uses.{NamesOnly}
-use Rattle.mls_emit.specs.NodeLines.{NamesKnown}
-use Rattle.mls_emit.specs.Writings.{IsPartOf, IsNodeOf, itself, within, AreInOrder, IsWriting}
+use Rattle.mls_lines.specs.NodeLines.{NamesKnown}
+use Rattle.mls_lines.specs.Writings.{IsPartOf, IsNodeOf, itself, within, AreInOrder, IsWriting}
 use Rattle.mls_allowed.proofs.Conclusions.{good_none, good_then, says_then, above_before, above_itself, by_above, CoversAll, Brings, brought}
 use Rattle.mls_allowed.proofs.PartClaims.{below_type_shown, above_type_shown}
-use Rattle.mls_allowed.proofs.Plans.{planned_append}
+use Rattle.mls_lines.proofs.Bringing.{planned_append}
 use Rattle.mls_allowed.proofs.WrittenParts.{standing, IsUnder, Reads, laws, under, Has, Fitting, Posed, PartsPosed, node_fits}
 
 -- the last step of what brings a conclusion to a type

@@ -14,13 +14,13 @@ use Rattle.mls_deriv.specs.declared.derivation.StepLine.{StepLine}
 use Rattle.mls_deriv.specs.declared.derivation.StepRule.TheVariants as rule
 use Rattle.mls_deriv.specs.declared.claim.Put.{Put}
 use Rattle.mls_deriv.specs.Steps.{env_of, form_at, Before, Says, AllSay, HaveLabelsOf, make}
-use Rattle.mls_emit.specs.Conclusions.{IsGood, Concluded, AreBrought, IsReading, HasConcluded, IsOuter, IsOver, AreJoined, no_more, one_more}
+use Rattle.mls_lines.specs.Conclusions.{IsGood, Concluded, AreBrought, IsReading, HasConcluded, IsOuter, IsOver, AreJoined, no_more, one_more}
 use Rattle.mls_layout.specs.Plans.{PlannedLine, a_step_with, planned_steps}
 use Rattle.mls_layout.specs.Rows.{at, concluded}
 use Rattle.mls_layout.specs.Runs.{a_step}
-use Rattle.mls_emit.specs.NodeLines.{by_rule}
+use Rattle.mls_lines.specs.NodeLines.{by_rule}
 use Rattle.mls_allowed.proofs.Conclusions.{good_none, good_then, says_then, fits_of, joined_outer, over_itself, over_first, over_second, over_then}
-use Rattle.mls_allowed.proofs.Plans.{planned_append}
+use Rattle.mls_lines.proofs.Bringing.{planned_append}
 use Rattle.mls_allowed.proofs.WrittenRows.{Writes, rule_behind, nothing_outer, IsAsked, asked_outer, asked_brought, has_then}
 
 module _ (b : Before) (Own : ℕ → Type 0) (Below : ℕ → ℕ → Type 0) (Read : List Put → Mode → ℕ → ℕ → Type 0) (node_of : ℕ → ℕ) (laws : IsReading b Own Below Read node_of) where

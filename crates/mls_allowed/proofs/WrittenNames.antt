@@ -18,14 +18,14 @@ use Rattle.mls_deriv.specs.declared.claim.Pair.{Pair}
 use Rattle.mls_deriv.specs.declared.claim.Put.{Put}
 use Rattle.mls_deriv.specs.Pairs.{put_at}
 use Rattle.mls_deriv.specs.Steps.{HasFrom, env_of, form_at, Before, Says, IsAllowed, use_let, use_name, let_in}
-use Rattle.mls_emit.specs.Conclusions.{IsGood, AreClear, Extends, Conclusion, Concluded, IsReading, IsBinderAbove, both, Concludes, HasConcluded, IsSettled, a_bound, settled, put_in}
-use Rattle.mls_emit.specs.Orders.{Along}
+use Rattle.mls_lines.specs.Conclusions.{IsGood, AreClear, Extends, Conclusion, Concluded, IsReading, IsBinderAbove, both, Concludes, HasConcluded, IsSettled, a_bound, settled, put_in}
+use Rattle.mls_lines.specs.Orders.{Along}
 use Rattle.mls_layout.specs.Plans.{PlannedLine, a_step_with, planned_steps}
 use Rattle.mls_layout.specs.Rows.{at, concluded, Fits}
 use Rattle.mls_layout.specs.Runs.{id, a_step}
 use Rattle.mls_allowed.proofs.Conclusions.{good_none, good_step, adapted, bound_allowed, bound_concludes, own_unread, type_unread, placed_outer, over_itself, placed_binder, fits_of}
 use Rattle.mls_allowed.proofs.WrittenRows.{Writes, no_entry}
-use Rattle.mls_emit.proofs.Runs.{says_last}
+use Rattle.mls_lines.proofs.Runs.{says_last}
 
 -- more variables at the end
 put_first : (puts more : List Put) (x n : ℕ) → put_at puts x ≡ Some n → put_at (puts ++ more) x ≡ Some n

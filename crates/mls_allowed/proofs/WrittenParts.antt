@@ -33,10 +33,10 @@ use Rattle.mls_deriv.specs.declared.derivation.StepRule.TheVariants as rule
 use Rattle.mls_deriv.specs.declared.claim.Put.{Put}
 use Rattle.mls_deriv.specs.Pairs.{put_at}
 use Rattle.mls_deriv.specs.Steps.{env_of, form_at, Before, Says, HaveLabelsOf}
-use Rattle.mls_emit.specs.Conclusions.{IsGood, AreClear, Extends, Conclusion, Concluded, a_binder, by_step, IsOffered, IsReading, IsBinderAbove, one, HasConcluded}
+use Rattle.mls_lines.specs.Conclusions.{IsGood, AreClear, Extends, Conclusion, Concluded, a_binder, by_step, IsOffered, IsReading, IsBinderAbove, one, HasConcluded}
 use Rattle.mls_layout.specs.Heads.{IsFieldAt, AreParts}
 use Rattle.mls_layout.specs.Layouts.{PartClaims, IsItself}
-use Rattle.mls_emit.specs.Orders.{Along}
+use Rattle.mls_lines.specs.Orders.{Along}
 use Rattle.mls_layout.specs.Parts.{Constraint, IsGoalOf, IsRelatedIn, IsSolvedTo, IsLaidOut}
 use Rattle.mls_layout.specs.Plans.{PlannedLine, a_step_with, planned_steps}
 use Rattle.mls_layout.specs.Posed.{HasArms, IsPosed, ArePosed}
@@ -45,8 +45,8 @@ use Rattle.mls_layout.specs.Runs.{a_step}
 use Rattle.mls_layout.specs.Shown.{IsShown, claimed}
 use Rattle.mls_layout.specs.Trees.{IsTree, IsPlaceIn}
 use Rattle.mls_layout.specs.Uses.{NamesOnly, below_copy, above_copy}
-use Rattle.mls_emit.specs.NodeLines.{by_rule, Standing, NamesKnown, node_of, IsLeafWritten, IsFunWritten, IsRecWritten, IsApplyWritten, IsProjectWritten, IsIfWritten, AreOffered, IsMakeWritten, IsGlobalWritten, IsInnerWritten, IsLetWritten}
-use Rattle.mls_emit.specs.Writings.{IsBefore, IsWriting}
+use Rattle.mls_lines.specs.NodeLines.{by_rule, Standing, NamesKnown, node_of, IsLeafWritten, IsFunWritten, IsRecWritten, IsApplyWritten, IsProjectWritten, IsIfWritten, AreOffered, IsMakeWritten, IsGlobalWritten, IsInnerWritten, IsLetWritten}
+use Rattle.mls_lines.specs.Writings.{IsBefore, IsWriting}
 use Rattle.mls_allowed.specs.WrittenUses.{IsCopyAt, IsGlobalRead, IsInnerRead, IsLetRead, IsReadAs, IsUseRead}
 use Rattle.mls_allowed.proofs.Conclusions.{good_none, says_then, node_low}
 use Rattle.mls_allowed.proofs.OneField.{one_field}

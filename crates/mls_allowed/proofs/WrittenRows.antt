@@ -17,14 +17,14 @@ use Rattle.mls_deriv.specs.declared.derivation.StepRule.TheVariants as rule
 use Rattle.mls_deriv.specs.declared.claim.Pair.{Pair}
 use Rattle.mls_deriv.specs.declared.claim.Put.{Put}
 use Rattle.mls_deriv.specs.Steps.{env_of, form_at, Before, Says, IsAllowed, lit_number, lit_truth, fun, app, proj, choice, fix}
-use Rattle.mls_emit.specs.Conclusions.{IsGood, Conclusion, Concluded, a_binder, by_step, IsBrought, IsWith, IsWithout, IsReading, Concludes, HasConcluded, IsOuter, IsOver, ServesLater, as_it_was, below_own, IsOffered, IsJoined}
+use Rattle.mls_lines.specs.Conclusions.{IsGood, Conclusion, Concluded, a_binder, by_step, IsBrought, IsWith, IsWithout, IsReading, Concludes, HasConcluded, IsOuter, IsOver, ServesLater, as_it_was, below_own, IsOffered, IsJoined}
 use Rattle.mls_layout.specs.Plans.{PlannedLine, a_step_with, planned_steps}
 use Rattle.mls_layout.specs.Rows.{at, concluded, Fits, EndsWith}
 use Rattle.mls_layout.specs.Runs.{id, a_step}
-use Rattle.mls_emit.specs.NodeLines.{by_rule}
+use Rattle.mls_lines.specs.NodeLines.{by_rule}
 use Rattle.mls_allowed.proofs.Conclusions.{good_then, good_step, says_then, Brings, brought, fits_of, offered_outer, joined_outer, over_itself, over_first, over_second, over_then, offered_covers, ruled}
-use Rattle.mls_allowed.proofs.Plans.{planned_append}
-use Rattle.mls_emit.proofs.Scopes.{same_key, itself_key}
+use Rattle.mls_lines.proofs.Bringing.{planned_append}
+use Rattle.mls_lines.proofs.Scopes.{same_key, itself_key}
 
 pub no_entry : (x n : ℕ) → env.get (env_of []) x ≡ Some n → ⊥
 no_entry x n found = let none : env.get (env_of []) x ≡ None = get-empty nat_cmp x in cc

@@ -15,11 +15,15 @@ use Rattle.mls_deriv.specs.declared.derivation.Section.{Section}
 use Rattle.mls_deriv.specs.declared.derivation.StepLine.{StepLine}
 use Rattle.mls_deriv.specs.Steps.{env_of, Before, Says}
 use Rattle.mls_deriv.specs.Sections.{at_start, IsHeadRead, IsSectionAllowed}
-use Rattle.mls_emit.specs.Conclusions.{IsBrought}
+use Rattle.mls_lines.specs.Conclusions.{IsBrought}
 use Rattle.mls_layout.specs.Lets.{FirstPart, KnowsLet, KnowsLets, after, HaveOwnNumbers}
 use Rattle.mls_layout.specs.Plans.{PlannedLine, a_let, planned_steps, AreLinesOf}
 use Rattle.mls_layout.specs.Rows.{at, concluded, Fits, HasRow}
+use Rattle.mls_layout.specs.Parts.{IsRelatedIn}
+use Rattle.mls_subsume.specs.Walks.{IsIn}
+use Rattle.mls_allowed.specs.PartNodes.{IsPartNode, of_state, of_type}
 use Rattle.mls_allowed.specs.WrittenParts.{IsPartWritten, AreFirstsWritten}
+use Rattle.mls_allowed.proofs.PartNodes.{part_children, part_of_state}
 use Rattle.mls_allowed.proofs.SectionEmitted.{Goes, goes_still, goes_then, row_goes, let_goes, let_known, let_kept, find_other, section_allowed}
 use Rattle.mls_allowed.proofs.WrittenEnds.{HasWrittenRow, part_written}
 
@@ -45,12 +49,19 @@ part_row b known part d type plan knows it =
         subst (λ z. Says (at b b.steps) z (it.names.first k).part (concluded b (it.names.first k).env (it.names.first k).type)) same
         (record { step = let_k.says.step; stands = let_k.says.stands; about = let_k.says.about; concludes = let_k.says.concludes })
 
-    written : HasWrittenRow b it.constraint it.general it.special it.walked it.solved it.place it.type_place it.laid_out it.root it.binder it.names it.lets (λ i s. IsTrue (it.is_place i s)) (λ i. IsTrue (it.is_own i))
-        it.children it.own_place it.own_part b.steps it.members it.writing (λ k there. (it.are_known k there).2) said it.own_type part it.is_root it.scope it.partner it.paired
+    Own : ℕ → Type 0
+    Own = IsPartNode b.book it.place it.type_place
+
+    own_part : (s i : ℕ) → Contains (it.laid_out.layout.parts s) i → Own i
+    own_part =
+        part_of_state b.book it.place it.type_place it.constraint.automaton it.special.automaton it.solved.closed (IsRelatedIn it.constraint) (IsIn it.walked) it.laid_out.layout
+
+    written : HasWrittenRow b it.constraint it.general it.special it.walked it.solved it.place it.type_place it.laid_out it.root it.binder it.names it.lets (λ i s. IsTrue (it.is_place i s)) Own
+        (part_children b.book it.place it.type_place) (λ s. of_state s refl) own_part b.steps it.members it.writing (λ k there. (it.are_known k there).2) said (λ s. of_type s refl) part it.is_root it.scope it.partner it.paired
         (flat_map it.writing.plan it.members ++ it.lines) (env_of it.binders) it.number
     written =
-        part_written b it.constraint it.general it.special it.walked it.solved it.place it.type_place it.laid_out it.root it.binder it.names it.lets (λ i s. IsTrue (it.is_place i s)) (λ i. IsTrue (it.is_own i))
-        it.children it.own_place it.own_part b.steps it.members it.writing (λ k there. (it.are_known k there).2) said it.own_type part it.is_root it.scope it.partner it.paired
+        part_written b it.constraint it.general it.special it.walked it.solved it.place it.type_place it.laid_out it.root it.binder it.names it.lets (λ i s. IsTrue (it.is_place i s)) Own
+        (part_children b.book it.place it.type_place) (λ s. of_state s refl) own_part b.steps it.members it.writing (λ k there. (it.are_known k there).2) said (λ s. of_type s refl) part it.is_root it.scope it.partner it.paired
         it.tree it.posed it.earlier it.last it.nodes it.binders (subst (λ t. Fits b it.binders t) it.is_type it.fits) it.envs it.lines it.number
         (subst (λ t. IsBrought (it.writing.of part) (length (b.steps ++ planned_steps (flat_map it.writing.plan it.members))) part it.binders t it.lines it.number) it.is_type it.brought)
 

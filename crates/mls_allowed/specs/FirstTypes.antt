@@ -7,31 +7,24 @@ use Rattle.mls_book.specs.Schemes.{Subsumes}
 use Rattle.mls_automaton.specs.declared.scheme.EnvEntry.{EnvEntry}
 use Rattle.mls_automaton.specs.declared.scheme.Scheme.{Scheme}
 use Rattle.mls_automaton.specs.Automata.{Automaton}
-use Rattle.mls_automaton.specs.Environments.{BindersRise}
-use Rattle.mls_automaton.specs.Models.{IsClosed, IsDeterministic}
-use Rattle.mls_automaton.specs.Schemes.{IsScheme, IsSchemeOf}
+use Rattle.mls_automaton.specs.Models.{IsClosed}
+use Rattle.mls_automaton.specs.Schemes.{IsSchemeOf}
 use Rattle.mls_solver.specs.Relations.{IsGoal, IsRelated}
 use Rattle.mls_solver.specs.Solved.{IsSolved}
 use Rattle.mls_term.specs.declared.term.TermNode.{TermNode}
-use Rattle.mls_subsume.specs.Verdicts.{DoesSubsume}
 use Rattle.mls_term.specs.declared.term.TermForm.TheVariants as form
 use Rattle.mls_term.specs.Terms.{TermTree, TermFields, bound, inner, global, number, truth, fun, apply, make, project}
 use Rattle.mls_term.specs.Terms.{choice, local, fix, no_field, a_field, before}
 use Rattle.mls_term.specs.Derivations.{Known}
 use Rattle.mls_deriv.specs.Steps.{form_at}
 use Rattle.mls_layout.specs.PosedNodes.{IsNamed}
-use Rattle.mls_parts.specs.declared.binders.PartBinders.{PartBinders}
 use Rattle.mls_parts.specs.declared.pose.Posing.{Posing}
-use Rattle.mls_parts.specs.declared.split.TermPart.{TermPart}
 use Rattle.mls_parts.specs.NodeTypes.{IsNodeOf, NeedsOnly}
 use Rattle.mls_parts.specs.NumberedNodes.{IsPlaced}
 use Rattle.mls_allowed.specs.PartTypes.{AreAround, solved_part}
-use Rattle.mls_parts.specs.PartBinders.{ArePartBinders, NeedsBinder}
-use Rattle.mls_parts.specs.PartUses.{KnowTypes}
+use Rattle.mls_parts.specs.PartBinders.{NeedsBinder}
 use Rattle.mls_parts.specs.PosedParts.{IsPartPosed}
-use Rattle.mls_parts.specs.Posings.{known_in, root_in}
-use Rattle.mls_parts.specs.SolvedTypes.{HasBindersOf, solved_scheme}
-use Rattle.mls_parts.specs.TermParts.{IsTermPart}
+use Rattle.mls_parts.specs.Posings.{known_in}
 use Rattle.mls_emit.specs.MadeFirsts.{IsFirstMade}
 
 -- The part of this tree, whose first node has the number n, has its constraint, which is solved; the type subsumes what

@@ -1,3 +1,4 @@
+pub mod PartNodes
 pub mod Readings
 pub mod WrittenUses
 pub mod WrittenParts

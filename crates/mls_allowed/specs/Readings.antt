@@ -6,9 +6,9 @@ use Rattle.mls_deriv.specs.declared.derivation.Mode.{Mode}
 use Rattle.mls_deriv.specs.declared.derivation.Mode.TheVariants.{Lr}
 use Rattle.mls_deriv.specs.declared.claim.Put.{Put}
 use Rattle.mls_deriv.specs.Pairs.{put_at}
-use Rattle.mls_emit.specs.Conclusions.{IsUnread}
+use Rattle.mls_lines.specs.Conclusions.{IsUnread}
 use Rattle.mls_layout.specs.Layouts.{PartClaims, IsItself}
-use Rattle.mls_emit.specs.Orders.{InSomeSteps}
+use Rattle.mls_lines.specs.Orders.{InSomeSteps}
 use Rattle.mls_layout.specs.Shown.{IsShown}
 use Rattle.mls_layout.specs.Uses.{IsCopyOf, IsUseClaim}
 

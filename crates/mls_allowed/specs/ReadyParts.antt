@@ -1,16 +1,14 @@
 -- What a part of a term has before its lines are written: its constraint, solved, the walk to its type, and its nodes,
 -- posed over the binders around it that it names.
-use Rattle.std.specs.Prelude.{◌≡◌, ℕ, Bool, IsTrue, List, [], ◌∷◌, ◌++◌, length, map, Contains, Option, Some, None}
+use Rattle.std.specs.Prelude.{◌≡◌, ℕ, Bool, IsTrue, List, [], ◌∷◌, ◌++◌, length, Contains, Option, Some, None}
 use Rattle.std.specs.List.{flat_map}
 use Rattle.std.specs.BTreeMap.{BTreeMap}
 use Rattle.std.specs.FinMap as env
 use Rattle.std.specs.Ordering.{nat_cmp}
-use Rattle.mls_book.specs.Books.{node_at}
 use Rattle.mls_book.specs.Schemes.{Env}
 use Rattle.mls_automaton.specs.declared.automaton.Polarity.TheVariants.{Negative}
 use Rattle.mls_automaton.specs.declared.scheme.Scheme.{Scheme}
 use Rattle.mls_automaton.specs.Automata.{polarity_at}
-use Rattle.mls_solver.specs.declared.goal.Goal.{Goal}
 use Rattle.mls_subsume.specs.declared.verdict.StatePair.{StatePair}
 use Rattle.mls_subsume.specs.Walks.{IsIn}
 use Rattle.mls_term.specs.declared.term.TermForm.{TermForm}
@@ -19,31 +17,25 @@ use Rattle.mls_term.specs.Terms.{TermTree}
 use Rattle.mls_deriv.specs.declared.derivation.BinderNode.{BinderNode}
 use Rattle.mls_deriv.specs.declared.derivation.StepLine.{StepLine}
 use Rattle.mls_deriv.specs.Steps.{env_of, form_at, Before}
-use Rattle.mls_emit.specs.Conclusions.{IsBrought}
-use Rattle.mls_emit.specs.NodeLines.{NamesKnown}
+use Rattle.mls_lines.specs.Conclusions.{IsBrought}
+use Rattle.mls_lines.specs.NodeLines.{NamesKnown}
 use Rattle.mls_layout.specs.Lets.{FirstPart}
-use Rattle.mls_layout.specs.Parts.{Constraint, IsGoalOf, IsLaidOut, IsSolvedTo}
+use Rattle.mls_layout.specs.Parts.{IsGoalOf, IsLaidOut, IsSolvedTo}
 use Rattle.mls_layout.specs.Plans.{PlannedLine, planned_steps}
 use Rattle.mls_layout.specs.Posed.{IsPosed}
 use Rattle.mls_layout.specs.PosedNodes.{IsUsable}
 use Rattle.mls_layout.specs.Rows.{Fits}
-use Rattle.mls_layout.specs.Uses.{NamesOnly}
 use Rattle.mls_parts.specs.declared.binders.PartBinders.{PartBinders}
 use Rattle.mls_parts.specs.declared.pose.Posing.{Posing}
 use Rattle.mls_parts.specs.MetCopies.{IsUseMet}
 use Rattle.mls_parts.specs.PartBinders.{ArePartBinders}
 use Rattle.mls_parts.specs.PartUses.{binders_in}
+use Rattle.mls_parts.specs.PosedGoals.{constraint_of}
 use Rattle.mls_parts.specs.PosedParts.{IsPartPosed}
 use Rattle.mls_parts.specs.Posings.{binder_in, known_in, root_in}
-use Rattle.mls_emit.specs.Writings.{IsNodeOf, IsWriting}
+use Rattle.mls_lines.specs.Writings.{IsNodeOf, IsWriting}
+use Rattle.mls_allowed.specs.PartNodes.{IsPartNode}
 use Rattle.mls_allowed.specs.WrittenUses.{IsUseRead}
-
--- the constraint that was posed, with its goals as pairs
-abbrev pub goal_pair : Goal → ℕ × ℕ
-goal_pair g = (g.positive.0, g.negative.0)
-
-abbrev pub constraint_of : Posing → Constraint
-constraint_of p = record { automaton = p.automaton; goals = map goal_pair p.goals }
 
 -- the binders that the types of lets need
 abbrev pub needed_binders : Option Scheme → List ℕ
@@ -91,15 +83,10 @@ pub record HasLines (b : Before) (globals lets : BTreeMap ℕ Scheme) (begun : L
   pub are_known : (k : ℕ) → Contains names_of k → Contains known (names.first k) × ((names.first k).number ≡ k)
       × (env.find nat_cmp k b.lets ≡ Some (names.step k))
   pub is_place : ℕ → ℕ → Bool
-  pub is_own : ℕ → Bool
-  pub children : (i : ℕ) → IsTrue (is_own i) → NamesOnly (λ k. IsTrue (is_own k)) (node_at b.book i)
-  pub own_place : (s : ℕ) → IsTrue (is_own (place s))
-  pub own_part : (s i : ℕ) → Contains (laid_out.layout.parts s) i → IsTrue (is_own i)
-  pub own_type : (s : ℕ) → IsTrue (is_own (type_place s))
   pub uses : (scope : List ℕ) (i : ℕ) → IsUseAround b.term_nodes globals lets p scope i
       → IsUseRead b p.automaton
       (record { root = root_in p; binder = binder_in p; place = place; parts = laid_out.layout.parts }) names names_of
-      (λ i s. IsTrue (is_place i s)) (λ i. IsTrue (is_own i)) scope i
+      (λ i s. IsTrue (is_place i s)) (IsPartNode b.book place type_place) scope i
   pub writing : IsWriting b (constraint_of p)
       (record { root = root_in p; binder = binder_in p; place = place; parts = laid_out.layout.parts }) names begun members
   pub binders : List BinderNode

@@ -3,7 +3,6 @@ use Rattle.std.specs.Prelude.{◌≡◌, ℕ, Bool, IsTrue, List, [], ◌∷◌,
 use Rattle.std.specs.List.{flat_map}
 use Rattle.std.specs.FinMap as env
 use Rattle.std.specs.Ordering.{nat_cmp}
-use Rattle.mls_book.specs.Books.{node_at}
 use Rattle.mls_book.specs.Schemes.{Env}
 use Rattle.mls_automaton.specs.declared.automaton.Polarity.TheVariants.{Negative}
 use Rattle.mls_automaton.specs.declared.scheme.Scheme.{Scheme}
@@ -14,20 +13,19 @@ use Rattle.mls_term.specs.Terms.{TermTree}
 use Rattle.mls_deriv.specs.declared.derivation.BinderNode.{BinderNode}
 use Rattle.mls_deriv.specs.declared.derivation.StepLine.{StepLine}
 use Rattle.mls_deriv.specs.Steps.{env_of, Before}
-use Rattle.mls_emit.specs.Conclusions.{IsBrought}
+use Rattle.mls_lines.specs.Conclusions.{IsBrought}
 use Rattle.mls_layout.specs.Lets.{FirstPart, after}
 use Rattle.mls_layout.specs.Parts.{Constraint, IsGoalOf, IsSolvedTo, IsLaidOut}
 use Rattle.mls_layout.specs.Plans.{PlannedLine, a_let, planned_steps}
 use Rattle.mls_layout.specs.Posed.{IsPosed}
 use Rattle.mls_layout.specs.Rows.{Fits}
-use Rattle.mls_layout.specs.Uses.{NamesOnly}
-use Rattle.mls_emit.specs.NodeLines.{NamesKnown}
-use Rattle.mls_emit.specs.Writings.{IsNodeOf, IsWriting}
+use Rattle.mls_lines.specs.NodeLines.{NamesKnown}
+use Rattle.mls_lines.specs.Writings.{IsNodeOf, IsWriting}
+use Rattle.mls_allowed.specs.PartNodes.{IsPartNode}
 use Rattle.mls_allowed.specs.WrittenUses.{IsUseRead}
 
 -- Node `part` of the term has a constraint, where these first parts are known, and the plan is what is written for its
--- nodes, in order, and then what brings its root to its type. The own nodes of the part are those of its constraint and
--- of its type.
+-- nodes, in order, and then what brings its root to its type.
 pub record IsPartWritten (b : Before) (begun : List StepLine) (known : List FirstPart) (part : ℕ) (d : Env) (type : ℕ)
     (plan : List PlannedLine) : Type 0 where
   pub constraint : Constraint
@@ -45,17 +43,12 @@ pub record IsPartWritten (b : Before) (begun : List StepLine) (known : List Firs
   pub are_known : (k : ℕ) → Contains lets k → Contains known (names.first k) × ((names.first k).number ≡ k)
       × (env.find nat_cmp k b.lets ≡ Some (names.step k))
   pub is_place : ℕ → ℕ → Bool
-  pub is_own : ℕ → Bool
-  pub children : (i : ℕ) → IsTrue (is_own i) → NamesOnly (λ k. IsTrue (is_own k)) (node_at b.book i)
-  pub own_place : (s : ℕ) → IsTrue (is_own (place s))
-  pub own_part : (s i : ℕ) → Contains (laid_out.layout.parts s) i → IsTrue (is_own i)
-  pub own_type : (s : ℕ) → IsTrue (is_own (type_place s))
   pub tree : TermTree
   pub scope : List ℕ
   pub posed : IsPosed b.term_nodes constraint.automaton (IsGoalOf constraint) root binder
       (IsUseRead b constraint.automaton
       (record { root = root; binder = binder; place = place; parts = laid_out.layout.parts }) names lets
-      (λ i s. IsTrue (is_place i s)) (λ i. IsTrue (is_own i))) scope part tree
+      (λ i s. IsTrue (is_place i s)) (IsPartNode b.book place type_place)) scope part tree
   pub is_root : root part ≡ general.root.0
   pub partner : ℕ → ℕ
   pub paired : (x : ℕ) → Contains scope x

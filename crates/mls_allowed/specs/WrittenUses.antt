@@ -7,10 +7,10 @@ use Rattle.mls_automaton.specs.Automata.{Automaton}
 use Rattle.mls_term.specs.declared.term.TermForm.{TermForm}
 use Rattle.mls_term.specs.declared.term.TermForm.TheVariants as form
 use Rattle.mls_deriv.specs.Steps.{HasFrom, env_of, form_at, Before}
-use Rattle.mls_emit.specs.Conclusions.{AreClear}
+use Rattle.mls_lines.specs.Conclusions.{AreClear}
 use Rattle.mls_layout.specs.Rows.{Fits}
 use Rattle.mls_layout.specs.Uses.{IsCopyOf}
-use Rattle.mls_emit.specs.NodeLines.{Standing, NamesKnown}
+use Rattle.mls_lines.specs.NodeLines.{Standing, NamesKnown}
 
 -- `IsPlace i` are the places of the type that is known of the name at node i, or of the first part of the let there,
 -- and `Own` the nodes of the part. The first parts of these lets are known.

@@ -1,11 +1,4 @@
-pub mod Orders
-pub mod Conclusions
-pub mod NodeLines
-pub mod Writings
-pub mod OneEach
 pub mod Derived
-pub mod ReadPlaces
 pub mod MadeFirsts
 pub mod Drafts
 pub mod LetScopes
-pub mod steps

@@ -1,5 +1,5 @@
 -- Types of first parts, as they become known one after another while a section is written.
-use Rattle.std.specs.Prelude.{◌≡◌, ℕ, ◌+◌, List, map, Some}
+use Rattle.std.specs.Prelude.{◌≡◌, ℕ, ◌<◌, ◌+◌, List, length, map, Some}
 use Rattle.std.specs.BTreeMap.{BTreeMap, IsEmpty, Updates}
 use Rattle.std.specs.Ordering.{nat_cmp}
 use Rattle.mls_book.specs.declared.book.Node.{Node}
@@ -18,7 +18,7 @@ use Rattle.mls_term.specs.declared.term.TermForm.TheVariants as form
 use Rattle.mls_term.specs.declared.term.TermNode.{TermNode}
 use Rattle.mls_deriv.specs.Steps.{form_at}
 use Rattle.mls_layout.specs.declared.layout.LaidOut.{LaidOut}
-use Rattle.mls_layout.specs.LaidOut.{place_of, LaysOut}
+use Rattle.mls_layout.specs.LaidOut.{place_of, IsTypeLaidOut, LaysOut}
 use Rattle.mls_layout.specs.Walks.{AreMet}
 use Rattle.mls_parts.specs.declared.binders.PartBinders.{PartBinders}
 use Rattle.mls_parts.specs.declared.pose.KnownTypes.{KnownTypes}
@@ -58,6 +58,14 @@ pub record IsFirstType (solved : Automaton) (root : ℕ) (binders : List (ℕ ×
   pub same : HasBindersOf own (solved_scheme solved root binders)
   pub subsumes : DoesSubsume own (solved_scheme solved root binders)
   pub subsumed : DoesSubsume (solved_scheme solved root binders) own
+
+-- The type of a first part is laid out behind the nodes of the first book, all its places are in the second, and its
+-- variables, one for each edge, are numbered from `first` up to `next`.
+pub record IsFirstLaid (old : List Node) (first : ℕ) (new : List Node) (next : ℕ) (at : TypeAt) : Type 0 where
+  pub closed : IsClosedBook old → IsClosedBook new
+  pub inside : (s : ℕ) → place_of at.places s < length new
+  pub layout : IsClosedBook old → IsTypeLaidOut old at.scheme.automaton first new (place_of at.places)
+  pub variables : next ≡ first + length at.scheme.automaton.flows
 
 -- the nodes of a part, laid out behind this book for the pairs that are met from the ends of its solved constraint and of
 -- its type

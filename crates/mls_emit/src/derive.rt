@@ -9,16 +9,9 @@ ghost use Rattle.mls_iface.specs.Signatures.{IsEntry};
 ghost use Rattle.mls_emit.specs.Derived.{AreDerivations, entry_names, entry_texts, section_names, section_texts};
 ghost use Rattle.mls_emit.specs.Drafts.{AreNameTypes, AreTermNodes, names_read};
 
-mod copies;
-mod envs;
 mod known;
 mod prune;
-mod puts;
-mod read_places;
 mod section;
-mod spines;
-mod steps;
-mod writer;
 
 use known::Schemes;
 use mls_base::list::List;

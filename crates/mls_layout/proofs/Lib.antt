@@ -8,8 +8,10 @@ pub mod Entering
 pub mod KnownNodes
 pub mod OwnNodes
 pub mod HeadParts
+pub mod LaidHeads
 pub mod PartsLaidOut
 pub mod KeySets
 pub mod TypeNodes
+pub mod EdgeVariables
 pub mod OwnNumbers
 pub mod MetPairs

@@ -1,8 +1,9 @@
 -- A layout stays one in a longer book.
 --     type_kept           the nodes of a type
+--     type_laid_kept      those that are laid out with variables for its edges
 --     layout_kept         the nodes of the states of a constraint
 --     laid_out_kept       where all of them stand in the book
-use Rattle.std.proofs.Common.{◌≡◌, ◌⊎◌, inl, inr, ℕ, ◌+◌, ◌<◌, List, ◌++◌, length, Contains, refl, sym, ◌∙◌, subst, arith, length-append, Option, Some, None}
+use Rattle.std.proofs.Common.{◌≡◌, ◌⊎◌, inl, inr, ℕ, ◌+◌, ◌<◌, List, ◌++◌, length, Contains, refl, sym, ap, ◌∙◌, subst, arith, append_assoc, length-append, Option, Some, None}
 use Rattle.std.proofs.Math.ListN.{get_or-append}
 use Rattle.std.proofs.lemmas.List.{get_or_past}
 use Rattle.mls_book.specs.declared.book.NodeId.{NodeId}
@@ -23,7 +24,9 @@ use Rattle.mls_subsume.specs.Walks.{IsIn}
 use Rattle.mls_layout.specs.Trees.{IsPlaceIn, IsTree}
 use Rattle.mls_layout.specs.Heads.{IsFieldAt, IsKindAt, AreParts}
 use Rattle.mls_layout.specs.Layouts.{IsTypeLayout, Enters, IsLayout}
+use Rattle.mls_layout.specs.LaidOut.{IsTypeLaidOut}
 use Rattle.mls_layout.specs.Parts.{Constraint, IsRelatedIn, IsLaidOut}
+use Rattle.mls_layout.specs.Uses.{Shows}
 use Rattle.mls_layout.proofs.TreesMade.{tree_kept}
 
 module _ (nodes more : List Node) (closed : IsClosedBook nodes) where
@@ -96,6 +99,20 @@ module _ (nodes more : List Node) (closed : IsClosedBook nodes) where
         let w = it.flows n p edge in
         (w.0, w.1, w.2, w.3, w.4, kept w.0 (node.Var w.2) w.5 (λ e. cc), kept w.1 (node.Var w.2) w.6 (λ e. cc));
   }
+
+  pub type_laid_kept : (old : List Node) (b : Automaton) (first : ℕ) (place : ℕ → ℕ) → ((s : ℕ) → place s < length nodes) → IsTypeLaidOut old b first nodes place → IsTypeLaidOut old b first longer place
+  unfolding type_kept
+  type_laid_kept old b first place places it = record {
+    longer = (it.longer.0 ++ more, ap (λ (ns : List Node). ns ++ more) it.longer.1 ∙ append_assoc old it.longer.0 more);
+    layout = type_kept b place places it.layout;
+    shown = λ s x. (λ there. (it.shown s x).0 (back s x there), λ w. on s x ((it.shown s x).1 w));
+  }
+    where
+      on : (s x : ℕ) → Shows nodes it.layout.variables s x → Shows longer it.layout.variables s x
+      on s x (i, there, is) = (i, there, kept i (node.Var x) is (λ e. cc))
+
+      back : (s x : ℕ) → Shows longer it.layout.variables s x → Shows nodes it.layout.variables s x
+      back s x (i, there, is) = let w = it.layout.are_variables s i there in (i, there, w.1 ∙ (sym (kept i (node.Var w.0) w.1 (λ e. cc)) ∙ is))
 
   module _ (a b : Automaton) (R IsPair : ℕ → ℕ → Type 0) (place type_place : ℕ → ℕ) (places : (s : ℕ) → place s < length nodes) (type_places : (s : ℕ) → type_place s < length nodes)
       (it : IsLayout nodes a b R IsPair place type_place) (values : (n : ℕ) → it.value n < length nodes) where

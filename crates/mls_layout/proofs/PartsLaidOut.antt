@@ -7,7 +7,7 @@
 --     layout_made         the layout of the part
 --     own_parts           its own nodes are parts of heads
 --     laid_out            the part is laid out
-use Rattle.std.proofs.Common.{◌≡◌, ◌⊎◌, inl, inr, ℕ, ◌+◌, ◌<◌, ◌≤◌, true, false, Some, None, List, [], ◌∷◌, ◌++◌, length, refl, sym, ap, ◌∙◌, subst, arith, append_assoc, length-append}
+use Rattle.std.proofs.Common.{◌≡◌, ◌⊎◌, inl, inr, ℕ, ◌+◌, ◌<◌, ◌≤◌, true, false, Some, None, List, [], ◌∷◌, ◌++◌, length, sym, ap, ◌∙◌, subst, arith, append_assoc, length-append}
 use Rattle.std.specs.Prelude.{◌↔◌, All, Contains, get_or}
 use Rattle.std.proofs.lemmas.List.{get_or_default, get_or_past, get_or-append-add}
 use Rattle.std.proofs.lemmas.List.Elements.{All-cons, All-append}
@@ -22,8 +22,7 @@ use Rattle.mls_automaton.specs.declared.automaton.State.{State}
 use Rattle.mls_automaton.specs.declared.automaton.Polarity.{Polarity}
 use Rattle.mls_automaton.specs.declared.automaton.Polarity.TheVariants.{Positive, Negative}
 use Rattle.mls_automaton.specs.declared.scheme.Scheme.{Scheme}
-use Rattle.mls_automaton.specs.Automata.{Automaton, HasFlow, empty_head, flow, head_at, polarity_at, state_at}
-use Rattle.mls_automaton.specs.Heads.{parts_of}
+use Rattle.mls_automaton.specs.Automata.{Automaton, HasFlow, empty_head, flow, head_at, polarity_at}
 use Rattle.mls_automaton.specs.Models.{IsClosed}
 use Rattle.mls_solver.specs.Rooms.{Room, Holds, HoldsJust}
 use Rattle.mls_subsume.specs.declared.verdict.StatePair.{StatePair}
@@ -33,21 +32,21 @@ use Rattle.mls_layout.specs.declared.layout.leaves.Leaves.{Leaves}
 use Rattle.mls_layout.specs.declared.layout.numbers.Owned.{Owned}
 use Rattle.mls_layout.specs.declared.layout.sources.Sources.{Sources}
 use Rattle.mls_layout.specs.Trees.{IsTree, IsNodeIn, IsOfTree}
-use Rattle.mls_layout.specs.Heads.{AreParts}
 use Rattle.mls_layout.specs.Layouts.{IsTypeLayout, Enters, IsLayout}
 use Rattle.mls_layout.specs.Parts.{IsRelatedIn, IsLaidOut}
 use Rattle.mls_layout.specs.LaidOut.{place_of, HasOwnParts, LaysOut}
 use Rattle.mls_layout.specs.steps.Planned.{Planned, Extends, HasTree, AddsPlanned, end_of}
 use Rattle.mls_layout.specs.steps.Sources.{AddsLeaves, AreParted, ArePartners, AreBelow, IsEntering, IsPlaced, IsValued, head_parts, own_before, parts_in}
 use Rattle.mls_layout.specs.steps.OwnNumbers.{AreOwned, function_at, record_at}
-use Rattle.mls_layout.specs.steps.Owned.{HaveTrees, AddsStates, HasOwn}
+use Rattle.mls_layout.specs.steps.Owned.{HaveTrees, AddsStates}
 use Rattle.mls_layout.proofs.TreesMade.{book_pushed, tree_same}
 use Rattle.mls_layout.proofs.LongerLayouts.{type_kept}
-use Rattle.mls_layout.proofs.WorkedParts.{nothing, empty_tree, empty_parts}
-use Rattle.mls_layout.proofs.PlannedTrees.{extends_none, extends_then, planned_is, tree_more}
+use Rattle.mls_layout.proofs.WorkedParts.{nothing, empty_tree}
+use Rattle.mls_layout.proofs.PlannedTrees.{extends_then, planned_is, tree_more}
 use Rattle.mls_layout.proofs.KnownNodes.{sources_below}
-use Rattle.mls_layout.proofs.OwnNodes.{all_children_more, own_more}
-use Rattle.mls_layout.proofs.HeadParts.{numbers, in_numbers, there_if, boolean_in, integer_in, own_function, own_record, head_parts_are}
+use Rattle.mls_layout.proofs.OwnNodes.{all_children_more}
+use Rattle.mls_layout.proofs.HeadParts.{numbers, in_numbers, there_if, boolean_in, integer_in, own_function, own_record}
+use Rattle.mls_layout.proofs.LaidHeads.{boolean_at, heads_made, integer_at, nothing_at, past_place, past_state}
 
 -- a node of a tree names nodes before it
 tree_children : (i n : ℕ) (x : Node) → i < n → IsOfTree x → IsOrdered i x → HasChildrenBelow n x
@@ -76,10 +75,7 @@ leaves_book old book =
     let three = book_pushed ((old ++ node.Bool ∷ []) ++ node.Int ∷ []) node.Bot two tt in
     subst IsBook (append_assoc (old ++ node.Bool ∷ []) (node.Int ∷ []) (node.Bot ∷ []) ∙ append_assoc old (node.Bool ∷ []) (node.Int ∷ node.Bot ∷ [])) three
 
--- past the end there is no head, and the polarity is positive
-past_state : (a : Automaton) (s : ℕ) → length a.states ≤ s → state_at a s ≡ record { polarity = Positive; head = empty_head }
-past_state a s past = get_or_past a.states s (record { polarity = Positive; head = empty_head }) past
-
+-- only a state that is there is negative
 pub negative_inside : (a : Automaton) (n : ℕ) → polarity_at a n ≡ Negative → n < length a.states
 negative_inside a n is = go (below_or_more n (length a.states))
   where
@@ -183,17 +179,14 @@ module _ (old one two new : List Node) (a : Automaton) (leaves : Leaves) (source
   closed_made = record { book = book_new; closed = closed_new }
 
   -- the leaves
-  leaf : (k : ℕ) (n : Node) → get_or more k node.Bot ≡ n → node_at new (length old + k) ≡ n
-  leaf k n e = ap (λ (b : List Node). node_at b (length old + k)) all_longer ∙ (get_or-append-add old more k node.Bot ∙ e)
-
   is_boolean : node_at new leaves.boolean.0 ≡ node.Bool
-  is_boolean = let e : length old + 0 ≡ leaves.boolean.0 = let is : leaves.boolean.0 ≡ length old = leaved.boolean in omega (arith, is) in subst (λ k. node_at new k ≡ node.Bool) e (leaf 0 node.Bool refl)
+  is_boolean = boolean_at old one new (owned.more ++ planned.more) leaves leaved all_longer
 
   is_integer : node_at new leaves.integer.0 ≡ node.Int
-  is_integer = subst (λ k. node_at new k ≡ node.Int) (sym leaved.integer) (leaf 1 node.Int refl)
+  is_integer = integer_at old one new (owned.more ++ planned.more) leaves leaved all_longer
 
   is_nothing : node_at new leaves.nothing.0 ≡ node.Bot
-  is_nothing = subst (λ k. node_at new k ≡ node.Bot) (sym leaved.nothing) (leaf 2 node.Bot refl)
+  is_nothing = nothing_at old one new (owned.more ++ planned.more) leaves leaved all_longer
 
   below : AreBelow sources start
   below = known_below old one a leaves sources pairs type_place start types_low leaved parted partnered unnamed
@@ -218,44 +211,23 @@ module _ (old one two new : List Node) (a : Automaton) (leaves : Leaves) (source
       stands (polarity_at a s) (IsPlaced a sources value (polarity_at a s) s) (place s)
       (tree_more second plan (polarity_at a s) (IsPlaced a sources value (polarity_at a s) s) (place s) longest (placed.tree s low places.past))
 
-  -- the places past the end
-  past_place : (some : Places) → length some.nodes ≡ N → some.past ≡ sources.nothing → (s : ℕ) → N ≤ s → place_of some s ≡ sources.nothing.0
-  past_place some size past s le = ap (λ (id : NodeId). id.0) (get_or_past some.nodes s some.past (let all : length some.nodes ≡ length a.states = size in omega (arith, all, le)) ∙ past)
-
+  -- all places are there
   value_low : (n : ℕ) → value n < length new
   value_low n = go (below_or_more n (length a.states))
     where
       go : (n < length a.states) ⊎ ((j : ℕ) × (n ≡ length a.states + j)) → value n < length new
       go (inl low) = (value_stands n low).0
-      go (inr (j, e)) = subst (λ k. k < length new) (sym (past_place values valued.size values_past n (omega (arith, e)))) nothing_within
+      go (inr (j, e)) = subst (λ k. k < length new) (sym (past_place values N sources.nothing valued.size values_past n (omega (arith, e)))) nothing_within
 
   place_low : (s : ℕ) → place s < length new
   place_low s = go (below_or_more s (length a.states))
     where
       go : (s < length a.states) ⊎ ((j : ℕ) × (s ≡ length a.states + j)) → place s < length new
       go (inl low) = (place_stands s low).0
-      go (inr (j, e)) = subst (λ k. k < length new) (sym (past_place places placed.size places_past s (omega (arith, e)))) nothing_within
+      go (inr (j, e)) = subst (λ k. k < length new) (sym (past_place places N sources.nothing placed.size places_past s (omega (arith, e)))) nothing_within
 
   past_parts : (s : ℕ) → N ≤ s → parts_in sources s ≡ []
   past_parts s le = get_or_past sources.parts s [] (let all : length sources.parts ≡ length a.states = parted.size in omega (arith, all, le))
-
-  -- the heads
-  heads_made : (s : ℕ) → AreParts new place (polarity_at a s) (parts_of (head_at a s)) (parts s)
-  heads_made s = go (below_or_more s (length a.states))
-    where
-      own : s < N → HasOwn plan place (polarity_at a s) (head_at a s) new (length one + own_before a s)
-      own low =
-          subst (λ (b : List Node). HasOwn plan place (polarity_at a s) (head_at a s) b (length one + own_before a s)) (sym planned.longer)
-          (own_more place (polarity_at a s) plan plan (extends_none plan) (head_at a s) two planned.more (length one + own_before a s) (owned.own s low))
-
-      go : (s < length a.states) ⊎ ((j : ℕ) × (s ≡ length a.states + j)) → AreParts new place (polarity_at a s) (parts_of (head_at a s)) (parts s)
-      go (inl low) =
-          subst (λ (ids : List NodeId). AreParts new place (polarity_at a s) (parts_of (head_at a s)) (numbers ids)) (sym (parted.are s low))
-          (head_parts_are plan new place (λ p M i it. (stands p M i it).1) (polarity_at a s) leaves is_boolean is_integer (length one + own_before a s) (head_at a s) (own low))
-      go (inr (j, e)) =
-          let le : length a.states ≤ s = omega (arith, e) in
-          subst (λ (h : Head). AreParts new place (polarity_at a s) (parts_of h) (parts s)) (sym (ap (λ (t : State). t.head) (past_state a s le)))
-          (subst (λ (ids : List NodeId). AreParts new place (polarity_at a s) (parts_of empty_head) (numbers ids)) (sym (past_parts s le)) (empty_parts new (polarity_at a s) place))
 
   -- the members of trees, in the words of layouts
   placed_same : (s : ℕ) (Rest : ℕ → Type 0) (i : ℕ) → (IsNodeIn (parts_in sources s) i ⊎ Rest i) ↔ (Contains (parts s) i ⊎ Rest i)
@@ -276,7 +248,7 @@ module _ (old one two new : List Node) (a : Automaton) (leaves : Leaves) (source
           (subst (λ (p : Polarity). IsTree new p (IsPlaced a sources value p q) (place q)) is (place_stands q low).1)
       go (inr (j, e)) =
           let le : length a.states ≤ q = omega (arith, e) in
-          let at : place q ≡ leaves.nothing.0 = past_place places placed.size places_past q le ∙ ap (λ (id : NodeId). id.0) unnamed in
+          let at : place q ≡ leaves.nothing.0 = past_place places N sources.nothing placed.size places_past q le ∙ ap (λ (id : NodeId). id.0) unnamed in
           empty_tree new Positive (λ i. Contains (parts q) i ⊎ ((n : ℕ) × HasFlow a n q × (value n ≡ i))) (place q) (subst (λ k. node_at new k ≡ node.Bot) (sym at) is_nothing)
           (λ i it. elim it [
             | inl part ↦ nothing i (subst (λ (ids : List NodeId). Contains (numbers ids) i) (past_parts q le) part)
@@ -318,7 +290,7 @@ module _ (old one two new : List Node) (a : Automaton) (leaves : Leaves) (source
       type = subst (λ (nodes : List Node). IsTypeLayout nodes b type_place) (sym all_longer) (type_kept old more closed_old b type_place types_low type);
       parts = parts;
       value = value;
-      heads = heads_made;
+      heads = heads_made a leaves one two new start sources.parts place plan book_two parted owned planned is_boolean is_integer;
       values = values_made;
       positive = positive_made;
       negative = negative_made;

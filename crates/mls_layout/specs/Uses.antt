@@ -21,6 +21,11 @@ use Rattle.mls_layout.specs.Heads.{IsKindAt, HasSigns}
 abbrev pub Shows : List Node → (ℕ → List ℕ) → ℕ → ℕ → Type 0
 Shows book variables s x = (i : ℕ) × Contains (variables s) i × (node_at book i ≡ node.Var x)
 
+-- where a negative and a positive state of a type show one variable, there is an edge between them
+abbrev pub HasEdgeVariables : List Node → Automaton → (ℕ → List ℕ) → Type 0
+HasEdgeVariables book b variables = (n p x : ℕ) → polarity_at b n ≡ Negative → polarity_at b p ≡ Positive
+    → Shows book variables n x → Shows book variables p x → HasFlow b n p
+
 -- The nodes of the type of a name, and the states of its copy in the constraint. Each place of the type, with its
 -- sign, is the tree of its variables and of parts, each with a head of its own that lies within the head of the copy.
 -- A declared type may have several functions or records in one place. Where a negative and a positive place show one

@@ -3,7 +3,7 @@ ghost use Rattle.std.specs.Prelude.{◌≡◌, ◌↔◌, ℕ, ◌<◌, length, 
 ghost use Rattle.mls_book.specs.Books.{IsClosedBook};
 ghost use Rattle.mls_automaton.specs.Models.{IsClosed};
 ghost use Rattle.mls_solver.specs.Rooms.{HoldsStates};
-ghost use Rattle.mls_layout.specs.LaidOut.{LaysOut, node_of, place_of};
+ghost use Rattle.mls_layout.specs.LaidOut.{IsLonger, LaysOut, node_of, place_of};
 
 mod distinct;
 pub(crate) mod leaves;
@@ -109,7 +109,8 @@ pub fn lay_out(
     requires closed { IsClosed a.now }
     requires related { HoldsStates a.now found.now }
     requires places { (s : ℕ) → place_of type_places.now s < length book }
-    ensures { IfOk result (λ laid. IsClosedBook book
+    ensures longer { IfOk result (λ laid. IsLonger book laid.book) }
+    ensures laid { IfOk result (λ laid. IsClosedBook book
         → LaysOut book a.now found.now pairs.now (place_of type_places.now) laid.book (place_of laid.places) laid.own
         laid.boolean laid.integer) }
 {

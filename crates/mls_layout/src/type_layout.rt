@@ -2,7 +2,7 @@
 ghost use Rattle.std.specs.Prelude.{◌≡◌, ◌<◌, ◌+◌, ◌++◌, ℕ, length, IfOk, OnOk};
 ghost use Rattle.mls_book.specs.Books.{IsClosedBook};
 ghost use Rattle.mls_automaton.specs.Automata.{polarity_at};
-ghost use Rattle.mls_layout.specs.LaidOut.{place_of};
+ghost use Rattle.mls_layout.specs.LaidOut.{IsLonger, IsTypeLaidOut, place_of};
 ghost use Rattle.mls_layout.specs.steps.Owned.{HaveTrees};
 ghost use Rattle.mls_layout.specs.steps.Planned.{Extends};
 ghost use Rattle.mls_layout.specs.steps.Sources.{AreBelow, parts_in, partners_in};
@@ -41,7 +41,8 @@ fn push_variables(
     flows: &[Flow],
     first: usize,
 ) -> Result<Vec<NodeIds>, Memory>
-    ensures { IfOk result (λ lists. AddsVariables states book.old book.new lists.items) }
+    ensures { IfOk result (λ lists. AddsVariables states flows.now first (length flows.now) book.old book.new
+        lists.items) }
 {
     let mut lists = no_partners(alloc, states)?;
     let mut variable = first;
@@ -95,7 +96,7 @@ fn push_sources(
     a: &Automaton,
     first_variable: usize,
 ) -> Result<Sources, Memory>
-    ensures { IfOk result (AddsSources a.now book.old book.new) }
+    ensures { IfOk result (AddsSources a.now first_variable book.old book.new) }
 {
     let states = a.len();
     let variables = push_variables(alloc, book, states, a.flows(), first_variable)?;
@@ -122,8 +123,11 @@ pub fn lay_out_type(
     scheme: &Scheme,
     first_variable: usize,
 ) -> Result<TypeLaidOut, Memory>
+    ensures longer { IfOk result (λ laid. IsLonger book laid.book) }
     ensures closed { IfOk result (λ laid. IsClosedBook book → IsClosedBook laid.book) }
     ensures places { IfOk result (λ laid. (s : ℕ) → place_of laid.places s < length laid.book) }
+    ensures layout { IfOk result (λ laid. IsClosedBook book → IsTypeLaidOut book scheme.now.automaton first_variable
+        laid.book (place_of laid.places)) }
     ensures variables { IfOk result (λ laid. laid.variables ≡ first_variable + length scheme.now.automaton.flows) }
 {
     let a = &scheme.automaton;

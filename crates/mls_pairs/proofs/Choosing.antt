@@ -4,6 +4,7 @@
 --     needed_reason               the held pairs that the rules name are a reason
 --     choosing_first, choosing_next, choosing_last    the loop over the list
 --     table_shown, chosen_list    the table of a list shows its pairs, and what is chosen of it is a list too
+--     chosen_inside               and has nodes of the book
 use Rattle.std.proofs.Common.{◌≡◌, ◌⊎◌, inl, inr, ℕ, suc, ◌<◌, ◌≤◌, ◌+◌, Bool, true, false, List, [], ◌∷◌, ◌++◌, length, refl, sym, ap, ◌∙◌, subst, arith, Option, Some, None, cond, bytes_eq, length-append}
 use Rattle.std.specs.Prelude.{All, Contains, IfSome, get_or, option_map, find}
 use Rattle.std.specs.List.{flat_map}
@@ -20,13 +21,13 @@ use Rattle.mls_deriv.specs.declared.derivation.Mode.TheVariants.{Pp}
 use Rattle.mls_deriv.specs.declared.claim.Pair.{Pair}
 use Rattle.mls_deriv.specs.declared.claim.Put.{Put}
 use Rattle.mls_deriv.specs.declared.table.Table.{Table}
-use Rattle.mls_deriv.specs.Pairs.{Claims, exchanged, IsJustified, AreJustified}
+use Rattle.mls_deriv.specs.Pairs.{put_at, Claims, exchanged, IsJustified, AreJustified}
 use Rattle.mls_deriv.specs.inner.PairRules.{left_node, right_node, IsReadAs, ByLeft, ByRight, ByBoth, ByNodes}
 use Rattle.mls_deriv.specs.inner.Tables.{Holds, put_in}
 use Rattle.mls_deriv.proofs.PairRules.{from_nodes}
 use Rattle.mls_deriv.proofs.ScopedNames.{first_or_later}
 use Rattle.mls_pairs.specs.declared.found.Found.{Found}
-use Rattle.mls_pairs.specs.PairLists.{pair_of, IsRefuted, IsPairList}
+use Rattle.mls_pairs.specs.PairLists.{pair_of, IsRefuted, IsPairList, StaysInside}
 use Rattle.mls_pairs.specs.steps.Growth.{Finds}
 use Rattle.mls_pairs.specs.Lines.{IsTable}
 use Rattle.mls_pairs.specs.steps.Needs.{read_as, left_needs, right_needs, label_needs, field_needs, both_needs, node_needs}
@@ -34,6 +35,7 @@ use Rattle.mls_pairs.specs.steps.Reasons.{AreShown, IsChosen, IsHeld, IsShownAt,
 use Rattle.mls_pairs.specs.steps.Rounds.{AreThose, none, kept, gone, IsShownBy}
 use Rattle.mls_pairs.proofs.Growing.{at_front, split}
 use Rattle.mls_pairs.proofs.Needed.{head_there, next_there, field_there}
+use Rattle.mls_pairs.proofs.Inside.{all_there, part_inside}
 use Rattle.mls_pairs.proofs.TableShown.{justified_shown}
 
 -- what was found and is held
@@ -182,11 +184,6 @@ needed_reason table pair left right reason shown those = record {
       (λ m k l held there. those_there (IsHeld table) (node_needs (put_in table) pair left right) reason (pair_of m k l) those there held) shown;
 }
 
--- all pairs of a list
-pub all_there : (P : Pair → Type 0) (pairs : List Pair) → ((pair : Pair) → Contains pairs pair → P pair) → All P pairs
-all_there P [] h = All-nil P
-all_there P (pair ∷ rest) h = All-cons P pair rest (h pair (head_there pair rest)) (all_there P rest (λ other there. h other (Contains-append_right (pair ∷ []) rest other there)))
-
 module _ (book : List Node) (table : Table) where
   -- more pairs show as much
   more_named : (pairs more : List Pair) → ((pair : Pair) → Contains pairs pair → Contains more pair) → (pair : Pair)
@@ -259,6 +256,11 @@ module _ (book : List Node) (puts : List Put) (pairs : List Pair) (table : Table
   table_shown justified pair held =
       justified_shown book puts pairs table is pair
       (All-contains (λ (p : Pair). IsJustified book puts (Claims pairs) p.mode p.left p.right) pairs pair justified ((is.holds pair.mode pair.left pair.right).0 held))
+
+  -- what is chosen has nodes of the book where the list has
+  pub chosen_inside : (wanted chosen : List Pair) → StaysInside book (put_at puts) wanted pairs → IsChosen book table wanted chosen → StaysInside book (put_at puts) wanted chosen
+  chosen_inside wanted chosen inside it =
+      part_inside book (put_at puts) wanted pairs chosen (λ pair there. (is.holds pair.mode pair.left pair.right).0 (it.held pair there)) inside
 
   -- what is chosen for wanted pairs is a list for them too
   pub chosen_list : (wanted chosen : List Pair) → IsPairList book puts wanted pairs → IsChosen book table wanted chosen → IsPairList book puts wanted chosen

@@ -1,11 +1,12 @@
 -- How a list grows by the pairs that the rules name.
 --     found_there, found_new, found_none, found_next  a pair that is there, a new one, and pairs after pairs
 --     growing_first, growing_next, growing_last      the loop over the list
-use Rattle.std.proofs.Common.{◌≡◌, ◌⊎◌, inl, inr, ℕ, zero, suc, ◌<◌, ◌≤◌, Bool, List, [], ◌∷◌, ◌++◌, ◌+◌, take, length, refl, sym, ap, ◌∙◌, subst, arith, Option, append-nil, append_assoc}
-use Rattle.std.specs.Prelude.{Contains, get_or}
-use Rattle.std.proofs.lemmas.List.Elements.{Contains-append_left, Contains-append_right, Contains-append_cases, Contains-push}
+use Rattle.std.proofs.Common.{◌≡◌, ◌⊎◌, inl, inr, ℕ, zero, suc, ◌<◌, ◌≤◌, Bool, List, [], ◌∷◌, ◌++◌, ◌+◌, take, length, refl, sym, ap, ◌∙◌, subst, arith, Option, Some, append-nil, append_assoc}
+use Rattle.std.specs.Prelude.{All, Contains, get_or}
+use Rattle.std.proofs.lemmas.List.Elements.{All-nil, All-append, All-contains, Contains-append_left, Contains-append_right, Contains-append_cases, Contains-push}
 use Rattle.std.proofs.lemmas.List.{get_or_default, take_more}
 use Rattle.mls_book.specs.declared.book.Node.{Node}
+use Rattle.mls_book.specs.Books.{IsClosed}
 use Rattle.mls_deriv.specs.declared.derivation.Mode.{Mode}
 use Rattle.mls_deriv.specs.declared.claim.Pair.{Pair}
 use Rattle.mls_deriv.specs.Pairs.{Claims}
@@ -13,9 +14,10 @@ use Rattle.mls_deriv.specs.declared.table.Table.{Table}
 use Rattle.mls_deriv.specs.inner.Tables.{AddsPair, Holds, put_in}
 use Rattle.mls_deriv.proofs.ScopedNames.{first_or_later}
 use Rattle.mls_pairs.specs.declared.found.Found.{Found}
-use Rattle.mls_pairs.specs.PairLists.{pair_of}
+use Rattle.mls_pairs.specs.PairLists.{pair_of, IsInside}
 use Rattle.mls_pairs.specs.steps.Needs.{IsPlainNode, needs_by}
 use Rattle.mls_pairs.specs.steps.Growth.{IsFound, Finds, FindsNeeds, IsGathered, IsClosedList, IsGrowing}
+use Rattle.mls_pairs.proofs.Inside.{all_there, needs_inside}
 
 -- the only pair of a list
 only : (x y : Pair) → Contains (x ∷ []) y → x ≡ y
@@ -139,11 +141,18 @@ module _ (alone : Bool) (book : List Node) (put : ℕ → Option ℕ) where
               ∙ (ap (λ m. get_or f.pairs m one) is_n
               ∙ (get_or_default f.pairs n one pair low ∙ is))))
 
-  pub growing_first : (wanted : List Pair) (f g : Found) → Finds f g wanted → ((x : ℕ) → put_in f.table x ≡ put x) → IsGrowing alone book put wanted 0 g
-  growing_first wanted f g finds puts = record {
+  -- behind pairs of nodes of the book stand such pairs
+  more_inside : (n : ℕ) (f g : Found) (pairs : List Pair) → Finds f g pairs → All (IsInside n) f.pairs → All (IsInside n) pairs → All (IsInside n) g.pairs
+  more_inside n f g pairs finds first all =
+      subst (All (IsInside n)) (sym finds.behind)
+      (All-append (IsInside n) f.pairs finds.more first (all_there (IsInside n) finds.more (λ pair there. All-contains (IsInside n) pairs pair all (finds.only pair there))))
+
+  pub growing_first : (wanted : List Pair) (f g : Found) → f.pairs ≡ [] → Finds f g wanted → ((x : ℕ) → put_in f.table x ≡ put x) → IsGrowing alone book put wanted 0 g
+  growing_first wanted f g empty finds puts = record {
     is = finds.is;
     has_wanted = finds.has;
     gathered = λ k pair low. absurd (omega arith);
+    inside = λ closed low all. more_inside (length book) f g wanted finds (subst (All (IsInside (length book))) (sym empty) (All-nil (IsInside (length book)))) all;
     puts = λ x. finds.puts x ∙ puts x;
   }
 
@@ -153,8 +162,16 @@ module _ (alone : Bool) (book : List Node) (put : ℕ → Option ℕ) where
     is = more.finds.is;
     has_wanted = λ other there. subst (λ ps. Contains ps other) (sym more.finds.behind) (Contains-append_left f.pairs more.finds.more other (it.has_wanted other there));
     gathered = gathered_next f g n pair low is it.gathered more;
+    inside = λ closed puts all. next closed puts (it.inside closed puts all);
     puts = λ x. more.finds.puts x ∙ it.puts x;
   }
+    where
+      next : IsClosed book → ((x m : ℕ) → put x ≡ Some m → m < length book) → All (IsInside (length book)) f.pairs → All (IsInside (length book)) g.pairs
+      next closed puts first =
+          let own : IsInside (length book) pair = All-contains (IsInside (length book)) f.pairs pair first (n, low, is) in
+          more_inside (length book) f g more.needs more.finds first
+          (all_there (IsInside (length book)) more.needs (λ other there. All-contains (IsInside (length book)) (needs_by alone book put pair) other
+          (needs_inside book put closed puts pair own alone) (more.named other there)))
 
   pub growing_last : (wanted : List Pair) (f : Found) (n : ℕ) → length f.pairs ≤ n → IsGrowing alone book put wanted n f → IsClosedList alone book put wanted f.pairs
   growing_last wanted f n all it = record {
@@ -164,7 +181,7 @@ module _ (alone : Bool) (book : List Node) (put : ℕ → Option ℕ) where
 
   -- a pair that needs others, and one that needs none
   pub needs_found : (f g : Found) (pair : Pair) → Finds f g (needs_by alone book put pair) → FindsNeeds alone book put f g pair
-  needs_found f g pair finds = record { needs = needs_by alone book put pair; finds = finds; are = λ apart. refl }
+  needs_found f g pair finds = record { needs = needs_by alone book put pair; finds = finds; are = λ apart. refl; named = λ other there. there }
 
   pub none_needed : (f : Found) (pair : Pair) → IsFound f → IsPlainNode pair → FindsNeeds alone book put f f pair
-  none_needed f pair is same = record { needs = []; finds = found_none f is; are = λ apart. absurd (apart same) }
+  none_needed f pair is same = record { needs = []; finds = found_none f is; are = λ apart. absurd (apart same); named = λ other there. absurd (let low : there.0 < 0 = there.1 in omega arith) }

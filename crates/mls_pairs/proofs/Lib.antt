@@ -1,6 +1,7 @@
 pub mod Refuted
 pub mod Needed
 pub mod Own
+pub mod Inside
 pub mod Growing
 pub mod Rounding
 pub mod LinesRead

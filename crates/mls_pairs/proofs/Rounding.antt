@@ -4,6 +4,7 @@
 --     those_length, those_all, those_smaller      how long it is, and where all is kept
 --     left_first, left_next       what is left
 --     left_last                   what is left when nothing is to be deleted
+--     left_inside                 what is left has nodes of the book
 use Rattle.std.proofs.Common.{◌≡◌, ◌↔◌, ◌⊎◌, inl, inr, Bool, true, false, ℕ, zero, suc, ◌<◌, ◌≤◌, List, [], ◌∷◌, ◌++◌, ◌+◌, take, length, refl, sym, ap, subst, arith, Option, Some, None, IsSome}
 use Rattle.std.specs.Prelude.{◌==◌, All, Contains, get_or, IsTrue}
 use Rattle.std.proofs.lemmas.Bool.Decides.{Decides-eqb}
@@ -17,11 +18,12 @@ use Rattle.mls_deriv.specs.declared.claim.Put.{Put}
 use Rattle.mls_deriv.specs.Pairs.{put_at, Claims, IsJustified, same_node}
 use Rattle.mls_deriv.proofs.CheckedSubs.{justified_more}
 use Rattle.mls_deriv.proofs.ScopedNames.{first_or_later}
-use Rattle.mls_pairs.specs.PairLists.{pair_of, IsOutside, IsRefuted, refuted, IsPairList}
+use Rattle.mls_pairs.specs.PairLists.{pair_of, IsOutside, IsRefuted, refuted, IsPairList, StaysInside}
 use Rattle.mls_pairs.specs.steps.Needs.{IsPlainNode, needs_by, needs_of, or_else, own_needs}
 use Rattle.mls_pairs.specs.steps.Rounds.{AreThose, none, kept, gone, AddsKept, IsJustifiedBy, IsLeft, IsWhole}
 use Rattle.mls_pairs.proofs.Own.{own_justified, own_more}
 use Rattle.mls_pairs.proofs.Needed.{by_needs, Named}
+use Rattle.mls_pairs.proofs.Inside.{part_inside}
 
 -- a mode in which both sides are read plainly
 abbrev is_plain : Mode → Bool
@@ -268,6 +270,9 @@ module _ (book : List Node) (puts : List Put) (wanted : List Pair) where
       either : (pair : Pair) → Contains pairs pair ⊎ Contains it.gone pair → Contains others pair ⊎ Contains it.gone pair
       either pair (inl h) = inl ((same pair).0 h)
       either pair (inr h) = inr h
+
+  pub left_inside : (pairs : List Pair) → IsLeft book puts wanted pairs → StaysInside book (put_at puts) wanted pairs
+  left_inside pairs it = part_inside book (put_at puts) wanted it.first pairs it.within it.whole.inside
 
   pub left_last : (pairs left : List Pair) → IsLeft book puts wanted pairs → AreThose (IsJustifiedBy book puts pairs) pairs left → length left ≡ length pairs → IsPairList book puts wanted pairs
   left_last pairs left it those same = record {

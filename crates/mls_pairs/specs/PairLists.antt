@@ -1,6 +1,7 @@
 -- The pairs that a step of a derivation needs: a list that justifies itself and has each wanted pair that can be shown.
-use Rattle.std.specs.Prelude.{◌⊎◌, ℕ, List, Contains}
+use Rattle.std.specs.Prelude.{◌≡◌, ◌⊎◌, ℕ, ◌<◌, List, length, All, Contains, Option, Some}
 use Rattle.mls_book.specs.declared.book.Node.{Node}
+use Rattle.mls_book.specs.Books.{IsClosed}
 use Rattle.mls_deriv.specs.declared.derivation.Mode.{Mode}
 use Rattle.mls_deriv.specs.declared.claim.Pair.{Pair}
 use Rattle.mls_deriv.specs.declared.claim.Put.{Put}
@@ -25,6 +26,17 @@ pub data IsRefuted (book : List Node) (puts : List Put) : Pair → Type 0 where
 pub record IsPairList (book : List Node) (puts : List Put) (wanted pairs : List Pair) : Type 0 where
   pub justified : AreJustified book puts pairs
   pub has : (pair : Pair) → Contains wanted pair → Contains pairs pair ⊎ IsRefuted book puts pair
+
+-- both nodes of the pair are below this number
+abbrev pub IsInside : ℕ → Pair → Type 0
+IsInside n pair = (pair.left < n) × (pair.right < n)
+
+-- Each pair of the list has nodes of the book, where the book is closed, and the nodes that variables stand for and those
+-- of each wanted pair are nodes of the book.
+abbrev pub StaysInside : List Node → (put : ℕ → Option ℕ) → (wanted pairs : List Pair) → Type 0
+StaysInside book put wanted pairs =
+    IsClosed book → ((x m : ℕ) → put x ≡ Some m → m < length book) → All (IsInside (length book)) wanted
+    → All (IsInside (length book)) pairs
 
 -- a list that justifies itself has no refuted pair
 abbrev pub JustifiedIsNotRefuted : Type 0

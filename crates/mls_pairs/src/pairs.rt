@@ -1,7 +1,8 @@
 //! The pairs of a step.
 ghost use Rattle.std.specs.Prelude.{◌≡◌, ◌≤◌, ◌↔◌, length, IfOk, IsTrue};
+ghost use Rattle.mls_deriv.specs.Pairs.{put_at};
 ghost use Rattle.mls_pairs.specs.Lines.{IsTable};
-ghost use Rattle.mls_pairs.specs.PairLists.{IsPairList};
+ghost use Rattle.mls_pairs.specs.PairLists.{IsPairList, StaysInside};
 ghost use Rattle.mls_pairs.specs.steps.Rounds.{IsLeft};
 
 use crate::chosen::chosen_of;
@@ -52,6 +53,7 @@ fn left_after(
 // The list of `pair_list`, with its table. The last round deletes no pair.
 fn listed(alloc: Global, book: &Book, puts: &[Put], wanted: &[Pair]) -> Result<Found, Memory>
     ensures pairs { IfOk result (λ found. IsPairList book.now puts.now wanted.now found.pairs) }
+    ensures inside { IfOk result (λ found. StaysInside book.now (put_at puts.now) wanted.now found.pairs) }
     ensures table { IfOk result (λ found. IsTable puts.now found.pairs found.table) }
 {
     let mut found = gathered(alloc, book, puts, wanted)?;
@@ -73,7 +75,8 @@ fn listed(alloc: Global, book: &Book, puts: &[Put], wanted: &[Pair]) -> Result<F
 ///
 /// `Memory` where memory is wanting.
 pub fn pair_list(alloc: Global, book: &Book, puts: &[Put], wanted: &[Pair]) -> Result<Pairs, Memory>
-    ensures { IfOk result (IsPairList book.now puts.now wanted.now) }
+    ensures list { IfOk result (IsPairList book.now puts.now wanted.now) }
+    ensures inside { IfOk result (StaysInside book.now (put_at puts.now) wanted.now) }
 {
     let listed = listed(alloc, book, puts, wanted)?;
     Ok(listed.pairs)
@@ -85,7 +88,8 @@ pub fn pair_list(alloc: Global, book: &Book, puts: &[Put], wanted: &[Pair]) -> R
 ///
 /// `Memory` where memory is wanting.
 pub fn pairs_for(alloc: Global, book: &Book, puts: &[Put], wanted: &[Pair]) -> Result<Pairs, Memory>
-    ensures { IfOk result (IsPairList book.now puts.now wanted.now) }
+    ensures list { IfOk result (IsPairList book.now puts.now wanted.now) }
+    ensures inside { IfOk result (StaysInside book.now (put_at puts.now) wanted.now) }
 {
     let listed = listed(alloc, book, puts, wanted)?;
     let pairs = chosen_of(alloc, book, &listed.table, wanted)?;

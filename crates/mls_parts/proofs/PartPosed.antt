@@ -1,11 +1,13 @@
 -- Where the nodes of a part are posed and the needs of binders are met, the part is posed.
 --     part_posed
-use Rattle.std.proofs.Common.{◌≡◌, ℕ, ◌+◌, ◌<◌, false, List, Contains, refl, sym, ap, ◌∙◌, subst, Option, Some, None, IsSome}
+use Rattle.std.proofs.Common.{◌≡◌, ℕ, suc, ◌+◌, ◌<◌, true, false, List, Contains, refl, sym, ap, ◌∙◌, subst, Option, Some, None, IsSome}
 use Rattle.std.specs.BTreeMap.{BTreeMap, get}
 use Rattle.std.specs.Ordering.{nat_cmp}
 use Rattle.mls_book.specs.Predicates.{Predicate, Implies}
 use Rattle.mls_automaton.specs.declared.automaton.Polarity.{Polarity}
 use Rattle.mls_automaton.specs.declared.automaton.Polarity.TheVariants.{Negative, Positive}
+use Rattle.mls_automaton.specs.declared.automaton.Arms.{Arms}
+use Rattle.mls_automaton.specs.declared.automaton.FieldSet.{FieldSet}
 use Rattle.mls_automaton.specs.declared.automaton.Flow.{Flow}
 use Rattle.mls_automaton.specs.declared.automaton.Head.{Head}
 use Rattle.mls_automaton.specs.declared.scheme.EnvEntry.{EnvEntry}
@@ -23,6 +25,7 @@ use Rattle.mls_parts.specs.declared.pose.Posing.{Posing}
 use Rattle.mls_parts.specs.MetCopies.{IsCopyMet, IsUseMet}
 use Rattle.mls_parts.specs.MetNeeds.{AreNeeds, HasMet, needy}
 use Rattle.mls_parts.specs.PosedCopies.{IsCopyAt, IsGood, IsUsePosed}
+use Rattle.mls_parts.specs.PosedGoals.{constraint_of, IsPosedAt}
 use Rattle.mls_parts.specs.PosedModels.{HasModel}
 use Rattle.mls_layout.specs.PosedNodes.{IsNodePosed}
 use Rattle.mls_parts.specs.PosedParts.{ArePosable, HasKnownType, HavePosed, IsBegun, IsKnownType, IsPartPosed, IsPosable}
@@ -60,6 +63,18 @@ module _ (q : Posing) (good : IsGood q) where
     -- a head with a part stays, and so does that of a positive state
     head_kept : (s : ℕ) → (head_at q.automaton s ≡ empty_head → ⊥) → head_at a s ≡ head_at q.automaton s
     head_kept s other = met.others s (λ need there e. other (subst (λ n. head_at q.automaton n ≡ empty_head) e (needy_state need there).1))
+
+    function_kept : (s : ℕ) (arms : Arms) → (head_at q.automaton s).function ≡ Some arms → (head_at a s).function ≡ Some arms
+    function_kept s arms has =
+        ap (λ (h : Head). h.function) (head_kept s (λ e. let none : (head_at q.automaton s).function ≡ None = ap (λ (h : Head). h.function) e in absurd (cc))) ∙ has
+
+    fields_kept : (s : ℕ) (fields : List FieldSet) → (head_at q.automaton s).fields ≡ Some fields → (head_at a s).fields ≡ Some fields
+    fields_kept s fields has =
+        ap (λ (h : Head). h.fields) (head_kept s (λ e. let none : (head_at q.automaton s).fields ≡ None = ap (λ (h : Head). h.fields) e in absurd (cc))) ∙ has
+
+    boolean_kept : (s : ℕ) → (head_at q.automaton s).boolean ≡ true → (head_at a s).boolean ≡ true
+    boolean_kept s has =
+        ap (λ (h : Head). h.boolean) (head_kept s (λ e. let none : (head_at q.automaton s).boolean ≡ false = ap (λ (h : Head). h.boolean) e in absurd (cc))) ∙ has
 
     positive_kept : (s : ℕ) → polarity_at q.automaton s ≡ Positive → head_at a s ≡ head_at q.automaton s
     positive_kept s is = met.others s (λ need there e.
@@ -136,13 +151,7 @@ module _ (q : Posing) (good : IsGood q) where
       node_met (form.Number value) can it = (met.polarity (root_in q i) ∙ it.0, ap (λ (h : Head). h.integer) (positive_kept (root_in q i) it.0) ∙ it.1)
       node_met (form.Truth value) can it = (met.polarity (root_in q i) ∙ it.0, ap (λ (h : Head). h.boolean) (positive_kept (root_in q i) it.0) ∙ it.1)
       node_met (form.Fun x j) can it = (met.polarity (root_in q i) ∙ it.0, ap (λ (h : Head). h.function) (positive_kept (root_in q i) it.0) ∙ it.1)
-      node_met (form.Apply j k) can (g, n, head, up, edge) = (
-        g,
-        n,
-        ap (λ (h : Head). h.function) (head_kept g (λ e. let none : (head_at q.automaton g).function ≡ None = ap (λ (h : Head). h.function) e in absurd (cc))) ∙ head,
-        up,
-        flow_met n (root_in q i) edge,
-      )
+      node_met (form.Apply j k) can (g, n, head, up, edge) = (g, n, function_kept g _ head, up, flow_met n (root_in q i) edge)
       node_met (form.Make parts) can (sets, polarity, fields, labels, each) = (
         sets,
         met.polarity (root_in q i) ∙ polarity,
@@ -150,24 +159,26 @@ module _ (q : Posing) (good : IsGood q) where
         labels,
         each,
       )
-      node_met (form.Project j label) can (g, n, head, up, edge) = (
-        g,
-        n,
-        ap (λ (h : Head). h.fields) (head_kept g (λ e. let none : (head_at q.automaton g).fields ≡ None = ap (λ (h : Head). h.fields) e in absurd (cc))) ∙ head,
-        up,
-        flow_met n (root_in q i) edge,
-      )
-      node_met (form.If j k l) can (bit, n, head, first, second, third, edge) = (
-        bit,
-        n,
-        ap (λ (h : Head). h.boolean) (head_kept bit (λ e. let none : (head_at q.automaton bit).boolean ≡ false = ap (λ (h : Head). h.boolean) e in absurd (cc))) ∙ head,
-        first,
-        second,
-        third,
-        flow_met n (root_in q i) edge,
-      )
+      node_met (form.Project j label) can (g, n, head, up, edge) = (g, n, fields_kept g _ head, up, flow_met n (root_in q i) edge)
+      node_met (form.If j k l) can (bit, n, head, first, second, third, edge) = (bit, n, boolean_kept bit head, first, second, third, flow_met n (root_in q i) edge)
       node_met (form.Let k j l) can (same, (s, n, is, at)) = let it = use_met s n (known_in lets k) can is at in (same, (s, it.0, is, it.1))
       node_met (form.Rec x j) can it = it
+
+      -- the states of goals stay where they are
+      pub node_met_at : (f : TermForm) → IsPosedAt (constraint_of q) q f i → IsPosedAt (constraint_of r) r f i
+      node_met_at (form.Bound x) at = tt
+      node_met_at (form.Inner k) at = tt
+      node_met_at (form.Global g) at = tt
+      node_met_at (form.Number value) at = ap (λ (h : Head). h.integer) (positive_kept (root_in q i) root_state.polarity) ∙ at
+      node_met_at (form.Truth value) at = ap (λ (h : Head). h.boolean) (positive_kept (root_in q i) root_state.polarity) ∙ at
+      node_met_at (form.Fun x j) at = tt
+      node_met_at (form.Apply j k) (arms, up, edge) = (function_kept (suc (suc (root_in q i))) _ arms, up, flow_met (suc (root_in q i)) (root_in q i) edge)
+      node_met_at (form.Make parts) at = tt
+      node_met_at (form.Project j label) (fields, up, edge) = (fields_kept (suc (suc (root_in q i))) _ fields, up, flow_met (suc (root_in q i)) (root_in q i) edge)
+      node_met_at (form.If j k l) (bit, n, noted, head, first, second, third, edge) =
+          (bit, n, noted, boolean_kept bit head, first, second, third, flow_met n (root_in q i) edge)
+      node_met_at (form.Let k j l) at = tt
+      node_met_at (form.Rec x j) at = tt
 
 pub part_posed : (nodes : List TermNode) (globals lets : BTreeMap ℕ Scheme) (binders part : List ℕ) (begun q : Posing) (a : Automaton) → IsBegun binders begun → ArePosable binders nodes part globals lets
     → HavePosed nodes globals lets begun q part → HasMet q.binders q.needs q.automaton a
@@ -180,6 +191,7 @@ part_posed nodes globals lets binders part begun q a is_begun posable it met = r
   rooted = λ i there. number_is q.roots i (it.rooted i there);
   bound = λ x there. number_is q.binders x (binder_there binders globals lets begun q is_begun it.extends it.good x there);
   posed = λ i f there e. node_met q it.good a met binders globals lets around i (root i there) f (posable i f there e) (it.posed i f there e);
+  posed_at = λ i f there e. node_met_at q it.good a met binders globals lets around i (root i there) f (it.posed_at i f there e);
   models = λ known over type binder types binder_types typed.
       model_met q it.good a met type binder (it.models known over type binder types typed (begun_model binders begun is_begun type binder binder_types));
 }

@@ -1,8 +1,10 @@
 -- What a node adds is what its form asks for.
 --     adds_extends        what was there stays
 --     node_posed          and the node is posed
+--     node_posed_at       with the states of its goals where its form says
 --     node_extends, node_root
 --     used_again          a use whose root is that of another use of its name
+--     name_posed_at
 --     noted_cases         what is noted of conditionals
 --     node_noted
 use Rattle.std.proofs.Common.{◌≡◌, ◌⊎◌, inl, inr, ℕ, suc, ◌+◌, Bool, true, false, List, [], ◌∷◌, map, length, get_or, Contains, refl, sym, ap, ◌∙◌, subst, arith, Option, Some, None, length-append, IsSome}
@@ -24,11 +26,14 @@ use Rattle.mls_solver.specs.Relations.{IsGoal}
 use Rattle.mls_term.specs.declared.term.Part.{Part}
 use Rattle.mls_term.specs.declared.term.TermForm.{TermForm}
 use Rattle.mls_term.specs.declared.term.TermForm.TheVariants as form
+use Rattle.mls_infer.proofs.Solvable.{pair_in}
 use Rattle.mls_typing.proofs.Contexts.{same_key}
 use Rattle.mls_parts.specs.declared.pose.Need.{Need}
 use Rattle.mls_parts.specs.declared.pose.Posing.{Posing}
 use Rattle.mls_parts.specs.PosedCopies.{Extends, IsCopyAt, IsGood, IsNew, IsUsePosed}
+use Rattle.mls_layout.specs.Parts.{IsGoalOf}
 use Rattle.mls_layout.specs.PosedNodes.{HasPartsIn, IsNodePosed}
+use Rattle.mls_parts.specs.PosedGoals.{constraint_of, IsAppliedAt, IsPosedAt, IsProjectedAt}
 use Rattle.mls_parts.specs.steps.Sharing.{HasNoEdges}
 use Rattle.mls_parts.specs.Posings.{Added, Adds, AddsNode, IsCopiedEdge, IsNoted, OneEdge, binder_in, copied_need, copy_added, goal, number_at, or_zero, root_in, size}
 
@@ -67,8 +72,17 @@ module _ (p q : Posing) (i : ℕ) (new : Added) (IsEdge : ℕ → ℕ → Type 0
           absurd (is_new (subst IsSome (sym at) refl))
       go false other is = is ∙ e
 
-  pub adds_extends : IsNew p i → Extends p q
-  adds_extends is_new = record {
+  -- what was noted of conditionals stays noted
+  noted_kept : IsGood p → IsNew p i → (k n : ℕ) → get nat_cmp p.results k ≡ Some n → get nat_cmp q.results k ≡ Some n
+  noted_kept good is_new k n e = go new.result it.results (is_eq (nat_cmp i k)) refl
+    where
+      go : (result : Option ℕ) → IsNoted p.results q.results i result → (b : Bool) → is_eq (nat_cmp i k) ≡ b → get nat_cmp q.results k ≡ Some n
+      go None same b at = ap (λ rs. get nat_cmp rs k) same ∙ e
+      go (Some m) noted true at = absurd (is_new (subst (λ j. IsSome (get nat_cmp p.roots j)) (sym (same_key i k at)) (good.results k n e).rooted))
+      go (Some m) noted false at = subst (λ b. get nat_cmp q.results k ≡ cond b (Some m) (get nat_cmp p.results k)) at (noted.0 k) ∙ e
+
+  pub adds_extends : IsGood p → IsNew p i → Extends p q
+  adds_extends good is_new = record {
     more =
         let all : length q.automaton.states ≡ length p.automaton.states + length new.states = ap length it.states ∙ length-append p.automaton.states new.states in
         omega arith;
@@ -78,6 +92,7 @@ module _ (p q : Posing) (i : ℕ) (new : Added) (IsEdge : ℕ → ℕ → Type 0
     roots = root_kept is_new;
     binders = it.binders;
     needs = λ need there. subst (λ (ns : List Need). Contains ns need) (sym it.needs) (Contains-append_left p.needs new.needs need there);
+    results = noted_kept good is_new;
   }
 
   -- the root of a node that had one
@@ -222,20 +237,68 @@ module _ (known_global known_let : ℕ → Option Scheme) (p q : Posing) (i : �
     subst (λ n. IsGoal q.goals (root_in q j) n) (sym (same_binder p q i _ _ it x)) (goal_there _ _ it j (binder_in p x) parts (Contains-here _ [])),
   )
 
+  -- and the states of its goals stand where its form says
+  pair_there : (new : Added) (E : ℕ → ℕ → Type 0) (it : Adds p q i new E) (j n : ℕ) → HasRoot j → Contains new.goals (goal (root_in p j) n) → IsGoalOf (constraint_of q) (root_in q j) n
+  pair_there new E it j n has there = pair_in q.goals (root_in q j) n (goal_there new E it j n has there)
+
+  pub node_posed_at : (f : TermForm) → AddsNode known_global known_let p q i f → HasPartsIn HasRoot f → IsPosedAt (constraint_of q) q f i
+  node_posed_at (form.Bound x) it parts = tt
+  node_posed_at (form.Inner k) it parts = tt
+  node_posed_at (form.Global g) it parts = tt
+  node_posed_at (form.Number value) it parts = ap (λ (s : State). s.head.integer) (root_state _ _ it refl)
+  node_posed_at (form.Truth value) it parts = ap (λ (s : State). s.head.boolean) (root_state _ _ it refl)
+  node_posed_at (form.Fun x j) it parts = tt
+  node_posed_at (form.Apply j k) it parts =
+      subst (IsAppliedAt (constraint_of q) q j k) (sym (root_is p q i _ _ it)) (
+        ap (λ (s : State). s.head.function) (third_state _ _ it)
+            ∙ (λ l. Some (record { domain = sym (same_root p q i _ _ it is_new k parts.1) l ∷ []; codomain = suc (size p) ∷ [] })),
+        pair_there _ _ it j (suc (suc (size p))) parts.0 (Contains-here _ []),
+        (it.flows (suc (size p)) (size p)).1 (inr (refl, refl)),
+      )
+  node_posed_at (form.Make parts) it roots = tt
+  node_posed_at (form.Project j label) it parts =
+      subst (IsProjectedAt (constraint_of q) q j label) (sym (root_is p q i _ _ it)) (
+        ap (λ (s : State). s.head.fields) (third_state _ _ it),
+        pair_there _ _ it j (suc (suc (size p))) parts (Contains-here _ []),
+        (it.flows (suc (size p)) (size p)).1 (inr (refl, refl)),
+      )
+  node_posed_at (form.If j k l) (inl it) parts = (
+    suc (suc (size p)),
+    suc (size p),
+    it.results.1,
+    ap (λ (s : State). s.head.boolean) (third_state _ _ it),
+    pair_there _ _ it j (suc (suc (size p))) parts.0 (0, omega arith, refl),
+    pair_there _ _ it k (suc (size p)) parts.1 (1, omega arith, refl),
+    pair_there _ _ it l (suc (size p)) parts.2 (2, omega arith, refl),
+    into_root _ (suc (size p)) it refl,
+  )
+  node_posed_at (form.If j k l) (inr (branch, n, which, noted, it)) parts = (
+    size p,
+    n,
+    it.results.1,
+    ap (λ (s : State). s.head.boolean) (first_state _ _ it),
+    pair_there _ _ it j (size p) parts.0 (0, omega arith, refl),
+    pair_there _ _ it k n parts.1 (1, omega arith, refl),
+    pair_there _ _ it l n parts.2 (2, omega arith, refl),
+    subst (HasFlow q.automaton n) (sym (root_is p q i _ _ it)) ((it.flows n (root_in p branch)).1 (inl (good.results branch n noted).flows)),
+  )
+  node_posed_at (form.Let k j l) it parts = tt
+  node_posed_at (form.Rec x j) it parts = tt
+
   pub node_extends : (f : TermForm) → AddsNode known_global known_let p q i f → Extends p q
-  node_extends (form.Bound x) it = adds_extends p q i _ _ it is_new
-  node_extends (form.Inner k) it = adds_extends p q i _ _ it.2 is_new
-  node_extends (form.Global g) it = adds_extends p q i _ _ it.2 is_new
-  node_extends (form.Number value) it = adds_extends p q i _ _ it is_new
-  node_extends (form.Truth value) it = adds_extends p q i _ _ it is_new
-  node_extends (form.Fun x j) it = adds_extends p q i _ _ it is_new
-  node_extends (form.Apply j k) it = adds_extends p q i _ _ it is_new
-  node_extends (form.Make parts) it = adds_extends p q i _ _ it.2 is_new
-  node_extends (form.Project j label) it = adds_extends p q i _ _ it is_new
-  node_extends (form.If j k l) (inl it) = adds_extends p q i _ _ it is_new
-  node_extends (form.If j k l) (inr (branch, n, which, noted, it)) = adds_extends p q i _ _ it is_new
-  node_extends (form.Let k j l) it = adds_extends p q i _ _ it.2 is_new
-  node_extends (form.Rec x j) it = adds_extends p q i _ _ it is_new
+  node_extends (form.Bound x) it = adds_extends p q i _ _ it good is_new
+  node_extends (form.Inner k) it = adds_extends p q i _ _ it.2 good is_new
+  node_extends (form.Global g) it = adds_extends p q i _ _ it.2 good is_new
+  node_extends (form.Number value) it = adds_extends p q i _ _ it good is_new
+  node_extends (form.Truth value) it = adds_extends p q i _ _ it good is_new
+  node_extends (form.Fun x j) it = adds_extends p q i _ _ it good is_new
+  node_extends (form.Apply j k) it = adds_extends p q i _ _ it good is_new
+  node_extends (form.Make parts) it = adds_extends p q i _ _ it.2 good is_new
+  node_extends (form.Project j label) it = adds_extends p q i _ _ it good is_new
+  node_extends (form.If j k l) (inl it) = adds_extends p q i _ _ it good is_new
+  node_extends (form.If j k l) (inr (branch, n, which, noted, it)) = adds_extends p q i _ _ it good is_new
+  node_extends (form.Let k j l) it = adds_extends p q i _ _ it.2 good is_new
+  node_extends (form.Rec x j) it = adds_extends p q i _ _ it good is_new
 
   -- the node has a root now, and no other node has one more
   pub node_root : (f : TermForm) → AddsNode known_global known_let p q i f → (root : ℕ) × Updates nat_cmp p.roots q.roots i (Some root)
@@ -323,3 +386,18 @@ module _ (known_global known_let : ℕ → Option Scheme) (q : Posing) (i j : �
   used_again (form.If k l m) name at = absurd name
   used_again (form.Let k l m) name at = absurd name
   used_again (form.Rec x k) name at = absurd name
+
+  -- a name has no goals
+  pub name_posed_at : (f : TermForm) → IsName f → IsPosedAt (constraint_of q) q f i
+  name_posed_at (form.Bound x) name = absurd name
+  name_posed_at (form.Inner k) name = tt
+  name_posed_at (form.Global g) name = tt
+  name_posed_at (form.Number value) name = absurd name
+  name_posed_at (form.Truth value) name = absurd name
+  name_posed_at (form.Fun x k) name = absurd name
+  name_posed_at (form.Apply k l) name = absurd name
+  name_posed_at (form.Make parts) name = absurd name
+  name_posed_at (form.Project k label) name = absurd name
+  name_posed_at (form.If k l m) name = absurd name
+  name_posed_at (form.Let k l m) name = absurd name
+  name_posed_at (form.Rec x k) name = absurd name

@@ -25,6 +25,7 @@ use Rattle.mls_parts.specs.declared.pose.Posing.{Posing}
 use Rattle.mls_parts.specs.PosedCopies.{Extends, HasBinder, HasBinderOf, IsGood, IsNew, IsUsePosed}
 use Rattle.mls_layout.specs.PosedNodes.{HasPartsIn, IsNodePosed}
 use Rattle.mls_parts.specs.PosedParts.{HasKnownType, HavePosed, IsBegun, IsPosable}
+use Rattle.mls_parts.specs.PosedGoals.{constraint_of, IsPosedAt}
 use Rattle.mls_parts.specs.PosedModels.{AreOver, HasModel}
 use Rattle.mls_parts.specs.NodeTypes.{IsConditional, IsNodeTyped}
 use Rattle.mls_parts.specs.Posings.{Adds, AddsNode, CanPose, HasKnown, NoEdge, binder_in, known_in, or_zero, root_in}
@@ -33,8 +34,8 @@ use Rattle.mls_parts.specs.steps.Sharing.{AreShared, HasNoEdges, PosesNext, firs
 use Rattle.mls_parts.proofs.BegunPosings.{begun_good}
 use Rattle.mls_parts.proofs.GoodPosings.{node_good, shared_good}
 use Rattle.mls_parts.proofs.PartLists.{parts_more}
-use Rattle.mls_parts.proofs.PosedByNode.{IsChoiceForm, adds_extends, node_extends, node_noted, node_posed, node_root, root_is, used_again, named}
-use Rattle.mls_parts.proofs.PosedKept.{extends_all, extends_self, posed_kept}
+use Rattle.mls_parts.proofs.PosedByNode.{IsChoiceForm, adds_extends, name_posed_at, node_extends, node_noted, node_posed, node_posed_at, node_root, root_is, used_again, named}
+use Rattle.mls_parts.proofs.PosedKept.{extends_all, extends_self, posed_at_kept, posed_kept}
 use Rattle.mls_parts.proofs.PosedKept.{kept_root as root_stays}
 use Rattle.mls_parts.proofs.PosedModels.{node_model, shared_model}
 
@@ -105,13 +106,15 @@ module _ (nodes : List TermNode) (globals lets : BTreeMap ℕ Scheme) (begun : P
     parts = λ i f there. let low : there.0 < 0 = there.1 in absurd (omega arith);
     results = λ i n e. let none : get nat_cmp begun.results i ≡ None = it.no_result i in absurd (cc);
     posed = λ i f there. let low : there.0 < 0 = there.1 in absurd (omega arith);
+    posed_at = λ i f there. let low : there.0 < 0 = there.1 in absurd (omega arith);
     models = λ known over type binder types typed m. m;
   }
 
   -- one node more, however it was posed
   module _ (p q : Posing) (done : List ℕ) (i : ℕ) (f : TermForm) (it : HavePosed nodes globals lets begun p done) (form_is : form_at nodes i ≡ Some f) (behind : HasPartsIn (Contains done) f)
       (more : Extends p q) (root : ℕ) (updated : Updates nat_cmp p.roots q.roots i (Some root)) (noted : (k n : ℕ) → get nat_cmp q.results k ≡ Some n → (get nat_cmp p.results k ≡ Some n) ⊎ ((k ≡ i) × IsChoiceForm f)) (good : IsGood q)
-      (own : IsNodePosed q.automaton (IsGoal q.goals) (root_in q) (binder_in q) (IsUsePosed (known_in globals) (known_in lets) q) i f) where
+      (own : IsNodePosed q.automaton (IsGoal q.goals) (root_in q) (binder_in q) (IsUsePosed (known_in globals) (known_in lets) q) i f)
+      (own_at : IsPosedAt (constraint_of q) q f i) where
     abbrev Posed : Posing → ℕ → TermForm → Type 0
     Posed r j g = IsNodePosed r.automaton (IsGoal r.goals) (root_in r) (binder_in r) (IsUsePosed (known_in globals) (known_in lets) r) j g
 
@@ -138,11 +141,17 @@ module _ (nodes : List TermNode) (globals lets : BTreeMap ℕ Scheme) (begun : P
 
     posed_now : (j : ℕ) (g : TermForm) → Contains done j ⊎ (i ≡ j) → form_at nodes j ≡ Some g → Posed q j g
     posed_now j g (inl old) e =
-        posed_kept p q more it.good (known_in globals) (known_in lets) j (it.rooted j old) g (it.parts j g old e) (it.posed j g old e)
+        posed_kept p q more it.good j (it.rooted j old) (known_in globals) (known_in lets) g (it.parts j g old e) (it.posed j g old e)
     posed_now j g (inr new) e =
         subst (λ k. Posed q k g) new
         (let same : f ≡ g = some_is (sym form_is ∙ (ap (form_at nodes) new ∙ e)) in
         subst (Posed q i) same own)
+
+    posed_at_now : (j : ℕ) (g : TermForm) → Contains done j ⊎ (i ≡ j) → form_at nodes j ≡ Some g → IsPosedAt (constraint_of q) q g j
+    posed_at_now j g (inl old) e = posed_at_kept p q more it.good j (it.rooted j old) g (it.parts j g old e) (it.posed_at j g old e)
+    posed_at_now j g (inr new) e =
+        let same : f ≡ g = some_is (sym form_is ∙ (ap (form_at nodes) new ∙ e)) in
+        subst (λ k. IsPosedAt (constraint_of q) q g k) new (subst (λ h. IsPosedAt (constraint_of q) q h i) same own_at)
 
     results_now : (k n : ℕ) → (get nat_cmp p.results k ≡ Some n) ⊎ ((k ≡ i) × IsChoiceForm f) → Contains (done ++ i ∷ []) k × IsConditional nodes k
     results_now k n (inl before) = let at = it.results k n before in (Contains-append_left done (i ∷ []) k at.0, at.1)
@@ -159,6 +168,7 @@ module _ (nodes : List TermNode) (globals lets : BTreeMap ℕ Scheme) (begun : P
       parts = λ j g there e. parts_now j g (Contains-push_cases done i j there) e;
       results = λ k n e. results_now k n (noted k n e);
       posed = λ j g there e. posed_now j g (Contains-push_cases done i j there) e;
+      posed_at = λ j g there e. posed_at_now j g (Contains-push_cases done i j there) e;
       models = λ known over type bind types typed m.
           goes_on known over type bind types typed
           (it.models known over type bind types (λ j g there e. typed j g (Contains-append_left done (i ∷ []) j there) e) m);
@@ -180,18 +190,20 @@ module _ (nodes : List TermNode) (globals lets : BTreeMap ℕ Scheme) (begun : P
         (λ k n e. node_noted (known_in globals) (known_in lets) p q i k n e f adds)
         (node_good p q i it.good is_new globals lets f adds rooted_parts binder can)
         (node_posed (known_in globals) (known_in lets) p q i it.good is_new f adds rooted_parts)
+        (node_posed_at (known_in globals) (known_in lets) p q i it.good is_new f adds rooted_parts)
         (λ known over type bind types typed m. node_model p it.good type bind m q i types nodes known globals lets over f adds (λ b n e. (it.results b n e).1) rooted_parts binder can (typed i f (Contains-push done i) form_is))
 
     -- with the copy of another use of its name
     pub pose_again : (j : ℕ) → Contains done j → form_at nodes j ≡ Some f → HasNoEdges globals lets f → Adds p q i (shared_added (root_in p j)) NoEdge → HavePosed nodes globals lets begun q (done ++ i ∷ [])
     pose_again j there same_form none adds =
-        let more : Extends p q = adds_extends p q i (shared_added (root_in p j)) NoEdge adds is_new in
+        let more : Extends p q = adds_extends p q i (shared_added (root_in p j)) NoEdge adds it.good is_new in
         let root : root_in q i ≡ root_in q j = root_is p q i (shared_added (root_in p j)) NoEdge adds ∙ sym (root_stays p q more j (it.rooted j there)) in
         posed_more p q done i f it form_is behind more (root_in p j) adds.roots
         (λ k n e. inl (ap (λ rs. get nat_cmp rs k) (sym adds.results) ∙ e))
         (shared_good p q i it.good is_new j (it.rooted j there) adds)
         (used_again (known_in globals) (known_in lets) q i j root f (named globals lets f none)
-        (posed_kept p q more it.good (known_in globals) (known_in lets) j (it.rooted j there) f (it.parts j f there same_form) (it.posed j f there same_form)))
+        (posed_kept p q more it.good j (it.rooted j there) (known_in globals) (known_in lets) f (it.parts j f there same_form) (it.posed j f there same_form)))
+        (name_posed_at (known_in globals) (known_in lets) q i j root f (named globals lets f none))
         (λ known over type bind types typed m.
         shared_model p it.good type bind m q i types nodes known globals lets over j f (it.rooted j there) none
         (typed j f (Contains-append_left done (i ∷ []) j there) same_form) (typed i f (Contains-push done i) form_is) adds)

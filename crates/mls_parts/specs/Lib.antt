@@ -1,5 +1,6 @@
 pub mod Posings
 pub mod PosedCopies
+pub mod PosedGoals
 pub mod NumberedNodes
 pub mod NodeTypes
 pub mod PosedModels

@@ -49,6 +49,7 @@ pub record Extends (p q : Posing) : Type 0 where
   pub roots : (i s : ℕ) → get nat_cmp p.roots i ≡ Some s → get nat_cmp q.roots i ≡ Some s
   pub binders : q.binders ≡ p.binders
   pub needs : (need : Need) → Contains p.needs need → Contains q.needs need
+  pub results : (i n : ℕ) → get nat_cmp p.results i ≡ Some n → get nat_cmp q.results i ≡ Some n
 
 -- The states of the known type stand from n on, behind those of binders, with their heads and edges; the edges of its
 -- binders go from those around, which need their heads.

@@ -24,6 +24,7 @@ use Rattle.mls_parts.specs.declared.pose.Posing.{Posing}
 use Rattle.mls_parts.specs.NodeTypes.{IsConditional, IsNodeTyped}
 use Rattle.mls_parts.specs.MetCopies.{AreSeparate, IsUseMet}
 use Rattle.mls_parts.specs.PosedCopies.{Extends, IsGood, IsUsePosed}
+use Rattle.mls_parts.specs.PosedGoals.{constraint_of, IsPosedAt}
 use Rattle.mls_parts.specs.PosedModels.{AreOver, HasModel}
 use Rattle.mls_layout.specs.PosedNodes.{HasPartsIn, IsNodePosed}
 use Rattle.mls_parts.specs.Posings.{binder_in, known_in, negative, root_in, size}
@@ -96,6 +97,8 @@ pub record HavePosed (nodes : List TermNode) (globals lets : BTreeMap ℕ Scheme
   pub posed : (i : ℕ) (f : TermForm) → Contains done i → form_at nodes i ≡ Some f
       → IsNodePosed p.automaton (IsGoal p.goals) (root_in p) (binder_in p)
       (IsUsePosed (known_in globals) (known_in lets) p) i f
+  pub posed_at : (i : ℕ) (f : TermForm) → Contains done i → form_at nodes i ≡ Some f
+      → IsPosedAt (constraint_of p) p f i
   pub models : (known : Known) → AreOver known globals lets → (type binder : ℕ → Predicate)
       → ((i : ℕ) → IsType (type i))
       → ((i : ℕ) (f : TermForm) → Contains done i → form_at nodes i ≡ Some f → IsNodeTyped nodes known type binder i f)
@@ -107,8 +110,8 @@ ArePosable binders nodes part globals lets = (i : ℕ) (f : TermForm) → Contai
     → IsPosable binders globals lets f
 
 -- The constraint of a part: it is closed, its goals go from positive to negative states, each node of the part is posed
--- with copies of the types of its names, and wherever the types of nodes and binders are as the nodes ask, it has a
--- model that gives them.
+-- with copies of the types of its names, the states of its goals stand where its form says, and wherever the types of
+-- nodes and binders are as the nodes ask, it has a model that gives them.
 pub record IsPartPosed (nodes : List TermNode) (globals lets : BTreeMap ℕ Scheme) (binders part : List ℕ) (p : Posing) :
     Type 0 where
   pub closed : IsClosed p.automaton
@@ -120,6 +123,8 @@ pub record IsPartPosed (nodes : List TermNode) (globals lets : BTreeMap ℕ Sche
   pub posed : (i : ℕ) (f : TermForm) → Contains part i → form_at nodes i ≡ Some f
       → IsNodePosed p.automaton (IsGoal p.goals) (root_in p) (binder_in p)
       (IsUseMet (known_in globals) (known_in lets) p.automaton (root_in p) (binder_in p)) i f
+  pub posed_at : (i : ℕ) (f : TermForm) → Contains part i → form_at nodes i ≡ Some f
+      → IsPosedAt (constraint_of p) p f i
   pub models : (known : Known) → AreOver known globals lets → (type binder : ℕ → Predicate)
       → ((i : ℕ) → IsType (type i)) → ((x : ℕ) → Contains binders x → IsType (binder x))
       → ((i : ℕ) (f : TermForm) → Contains part i → form_at nodes i ≡ Some f → IsNodeTyped nodes known type binder i f)

@@ -2,7 +2,7 @@
 --     signing-first, signing-seen, signing-new     the search
 --     signed                                       in the end
 use Rattle.std.proofs.Common.{◌≡◌, ◌⊎◌, inl, inr, ℕ, zero, suc, ◌+◌, ◌<◌, ◌≤◌, Bool, true, false, List, [], ◌∷◌, ◌++◌, take, refl, sym, ap, ◌∙◌, subst, arith, length, get_or, All, Contains, Some, None, cond}
-use Rattle.std.specs.Prelude.{Option, is_some, set}
+use Rattle.std.specs.Prelude.{IsTrue, Option, is_some, set}
 use Rattle.std.proofs.lemmas.Bool.{cases_eq}
 use Rattle.std.proofs.lemmas.List.{length-append, length-set, get_or-set_same, get_or-set_other}
 use Rattle.std.proofs.lemmas.List.Elements.{All-append, All-contains, Contains-append_cases, Contains-append_left, Contains-append_right}
@@ -16,7 +16,7 @@ use Rattle.mls_automaton.specs.Automata.{opposite}
 use Rattle.mls_automaton.proofs.Lists.{All-contained, All-one, Contains-cases, Contains-here, Contains-later, Contains-map_back}
 use Rattle.mls_automaton.proofs.Searches.{next-is}
 use Rattle.mls_scheme.specs.declared.signs.Task.{Task}
-use Rattle.mls_scheme.specs.ReadAutomata.{atoms, IsPolarised, IsPolarisedNode}
+use Rattle.mls_scheme.specs.ReadAutomata.{atoms, AreChildren, AreTops, IsPolarised, IsPolarisedNode}
 use Rattle.mls_scheme.specs.steps.Layers.{AreAtoms, AreDifferent}
 use Rattle.mls_scheme.specs.steps.Signs.{child_tasks, field_tasks, layer_tasks, left_over, load, sign_at, size_of, task, with_sign, AddsLayer, AreSigned, IsSigning}
 use Rattle.mls_scheme.proofs.Atoms.{atoms-are}
@@ -196,6 +196,31 @@ module _ (nodes : List Node) (closed : IsClosedBook nodes) (root : ℕ) where
       let of = atoms-are sign nodes closed polarised (suc i) i low found.0 found.1 in
       children-true sign p found.0 (node_at nodes found.0) t (polarised found.0 of.in_range) (of.polarity ∙ e) found.2
 
+  -- the children of an atom of a top are tops
+  children-tops : (Q : ℕ → Type 0) (p : Polarity) (x : Node) (t : Task) → AreChildren Q x → Contains (child_tasks p x) t → Q t.node
+  children-tops Q p (node.Arrow k l) t are it = elim (Contains-cases (task k.0 (opposite p)) (task l.0 p ∷ []) t it) [
+    | inl same ↦ subst (λ (u : Task). Q u.node) same are.0
+    | inr later ↦ elim (Contains-cases (task l.0 p) [] t later) [
+      | inl same ↦ subst (λ (u : Task). Q u.node) same are.1
+      | inr none ↦ let low : none.0 < 0 = none.1 in absurd (omega arith)
+    ]
+  ]
+  children-tops Q p (node.Rcd fields) t are it =
+      let found = Contains-map_back (λ (field : Field). task field.node.0 p) fields t it in
+      subst (λ (u : Task). Q u.node) found.2 (All-contains (λ (field : Field). Q field.node.0) fields found.0 are found.1)
+  children-tops Q p node.Bot t are it = let low : it.0 < 0 = it.1 in absurd (omega arith)
+  children-tops Q p node.Top t are it = let low : it.0 < 0 = it.1 in absurd (omega arith)
+  children-tops Q p (node.Var v) t are it = let low : it.0 < 0 = it.1 in absurd (omega arith)
+  children-tops Q p node.Bool t are it = let low : it.0 < 0 = it.1 in absurd (omega arith)
+  children-tops Q p node.Int t are it = let low : it.0 < 0 = it.1 in absurd (omega arith)
+  children-tops Q p (node.Join k l) t are it = let low : it.0 < 0 = it.1 in absurd (omega arith)
+  children-tops Q p (node.Meet k l) t are it = let low : it.0 < 0 = it.1 in absurd (omega arith)
+
+  layer-tops : (is_top : ℕ → Bool) (p : Polarity) (i : ℕ) (t : Task) → AreTops nodes root is_top → IsTrue (is_top i) → Contains (layer_tasks nodes p (atoms nodes i)) t → IsTrue (is_top t.node)
+  layer-tops is_top p i t tops top it =
+      let found = layer-of nodes p (atoms nodes i) t it in
+      children-tops (λ k. IsTrue (is_top k)) p (node_at nodes found.0) t (tops.next i found.0 top found.1) found.2
+
   pub signing-first : (signs : List (Option Polarity)) (work : List Task) → root < length nodes → length signs ≡ length nodes → ((i : ℕ) → sign_at signs i ≡ None) → work ≡ task root Positive ∷ [] → IsSigning nodes root signs work
   signing-first signs work low size none is =
       rw is
@@ -207,6 +232,11 @@ module _ (nodes : List Node) (closed : IsClosedBook nodes) (root : ℕ) where
         signs_true = λ sign polarised e i p at. let never : None ≡ Some p = sym (none i) ∙ at in absurd (cc);
         work_true = λ sign polarised e i p it. elim (Contains-cases (task root Positive) [] (task i p) it) [
           | inl same ↦ subst (λ (u : Task). sign u.node ≡ u.sign) same e
+          | inr later ↦ let low : later.0 < 0 = later.1 in absurd (omega arith)
+        ];
+        least = λ is_top tops i p at. let never : None ≡ Some p = sym (none i) ∙ at in absurd (cc);
+        work_least = λ is_top tops i p it. elim (Contains-cases (task root Positive) [] (task i p) it) [
+          | inl same ↦ subst (λ (u : Task). IsTrue (is_top u.node)) same tops.has_root
           | inr later ↦ let low : later.0 < 0 = later.1 in absurd (omega arith)
         ];
       }
@@ -253,6 +283,8 @@ module _ (nodes : List Node) (closed : IsClosedBook nodes) (root : ℕ) where
       ];
       signs_true = is.signs_true;
       work_true = λ sign polarised e i p it. is.work_true sign polarised e i p (in-work (task i p) it);
+      least = is.least;
+      work_least = λ is_top tops i p it. is.work_least is_top tops i p (in-work (task i p) it);
     }
 
     abbrev new : List (Option Polarity)
@@ -302,6 +334,14 @@ module _ (nodes : List Node) (closed : IsClosedBook nodes) (root : ℕ) where
         | inl before ↦ is.work_true sign polarised r i p (in-work (task i p) before)
         | inr child ↦ layer-true sign t.sign t.node (task i p) polarised task-low (is.work_true sign polarised r t.node t.sign last-in) (layer-within nodes t.sign found (atoms nodes t.node) are.same.0 (task i p) child)
       ];
+      least = λ is_top tops i p e. elim (cases_eq i t.node) [
+        | inl same ↦ subst (λ j. IsTrue (is_top j)) (sym same) (is.work_least is_top tops t.node t.sign last-in)
+        | inr other ↦ is.least is_top tops i p (sym (get_or-set_other signs t.node i (Some t.sign) None other) ∙ e)
+      ];
+      work_least = λ is_top tops i p it. elim (Contains-append_cases rest more (task i p) it) [
+        | inl before ↦ is.work_least is_top tops i p (in-work (task i p) before)
+        | inr child ↦ layer-tops is_top t.sign t.node (task i p) tops (is.work_least is_top tops t.node t.sign last-in) (layer-within nodes t.sign found (atoms nodes t.node) are.same.0 (task i p) child)
+      ];
     }
       where
         more : List Task
@@ -344,6 +384,7 @@ module _ (nodes : List Node) (closed : IsClosedBook nodes) (root : ℕ) where
     has_root = elim is.has_root [ inl it ↦ it | inr it ↦ absurd (empty (task root Positive) it) ];
     next = λ i p e t it. elim (is.next i p e t it) [ inl known ↦ known | inr there ↦ absurd (empty t there) ];
     signs_true = is.signs_true;
+    least = is.least;
   }
     where
       empty : (t : Task) → Contains work t → ⊥

@@ -1,4 +1,6 @@
 -- The automaton that the passes over a book make is that of the book, and closed.
+--     signed-low, signed-tops     the nodes with signs are tops
+--     read-made                   the scheme that is made is that of what was read
 use Rattle.std.proofs.Common.{◌≡◌, ◌↔◌, ◌⊎◌, inl, inr, ℕ, ◌+◌, ◌<◌, Bool, true, false, List, [], ◌∷◌, map, refl, sym, ap, ◌∙◌, subst, arith, length, get_or, All, Contains, Some, None}
 use Rattle.std.specs.Prelude.{Option, IsTrue, is_some}
 use Rattle.std.specs.FinMap.{get-empty}
@@ -76,6 +78,33 @@ parts-are Q p node.Int each = record { function = tt; fields = tt }
 parts-are Q p (node.Join j k) each = record { function = tt; fields = tt }
 parts-are Q p (node.Meet j k) each = record { function = tt; fields = tt }
 
+-- the nodes with signs are tops
+pub signed-low : (nodes : List Node) (root : ℕ) (signs : List (Option Polarity)) → AreSigned nodes root signs → (k : ℕ) (q : Polarity) → sign_at signs k ≡ Some q → k < length nodes
+signed-low nodes root signs signed k q e = go (below_or_more k (length nodes))
+  where
+    go : (k < length nodes) ⊎ ((j : ℕ) × (k ≡ length nodes + j)) → k < length nodes
+    go (inl lower) = lower
+    go (inr (j, more)) =
+        let size : length signs ≡ length nodes = signed.size in
+        let past : sign_at signs k ≡ None = get_or_past signs k None (omega arith) in
+        absurd (cc)
+
+pub signed-tops : (nodes : List Node) (root : ℕ) (signs : List (Option Polarity)) → AreSigned nodes root signs → AreTops nodes root (λ i. is_some (sign_at signs i))
+signed-tops nodes root signs signed = record {
+  has_root = signed.has_root;
+  low = λ i top. low i (sign_at signs i) refl top;
+  next = λ i j top it. next i j it (sign_at signs i) refl top;
+}
+  where
+    low : (i : ℕ) (o : Option Polarity) → sign_at signs i ≡ o → is_some o ≡ true → i < length nodes
+    low i None e some = absurd (cc)
+    low i (Some p) e some = signed-low nodes root signs signed i p e
+
+    next : (i j : ℕ) → Contains (atoms nodes i) j → (o : Option Polarity) → sign_at signs i ≡ o → is_some o ≡ true → AreChildren (λ k. IsTrue (is_some (sign_at signs k))) (node_at nodes j)
+    next i j it None e some = absurd (cc)
+    next i j it (Some p) e some =
+        children-are (λ k. IsTrue (is_some (sign_at signs k))) p (node_at nodes j) (λ t child. signed.next i p e t (layer-in nodes p (atoms nodes i) j t it child))
+
 module _ (read : ReadScheme) (is : IsReadScheme read) (polarity : IsPolarisedRead read) (signs : List (Option Polarity)) (signed : AreSigned read.book read.root.0 signs)
     (a : Automaton) (s : Scheme) (states : AreNodeStates read.book signs a) (same : s.automaton.states ≡ a.states) (flows : (n p : ℕ) → HasFlow s.automaton n p ↔ IsEdge read.book signs n p)
     (root : s.root.0 ≡ read.root.0) (env : s.env ≡ []) where
@@ -103,14 +132,7 @@ module _ (read : ReadScheme) (is : IsReadScheme read) (polarity : IsPolarisedRea
   no-sign (Some p) e = absurd (cc)
 
   sign-low : (k : ℕ) (q : Polarity) → sign_at signs k ≡ Some q → k < length nodes
-  sign-low k q e = go (below_or_more k (length nodes))
-    where
-      go : (k < length nodes) ⊎ ((j : ℕ) × (k ≡ length nodes + j)) → k < length nodes
-      go (inl lower) = lower
-      go (inr (j, more)) =
-          let size : length signs ≡ length nodes = signed.size in
-          let past : sign_at signs k ≡ None = get_or_past signs k None (omega arith) in
-          absurd (cc)
+  sign-low = signed-low nodes read.root.0 signs signed
 
   state-same : (i : ℕ) → state_at a i ≡ state_at b i
   state-same i = ap (λ (ss : List State). get_or ss i (record { polarity = Positive; head = empty_head })) (sym same)
@@ -143,11 +165,7 @@ module _ (read : ReadScheme) (is : IsReadScheme read) (polarity : IsPolarisedRea
       ∙ ap Some (layer-true nodes is.book read.root.0 sign (sign i) i t polarity.polarised (sign-low i (sign i) (top-sign i top)) refl (layer-in nodes (sign i) (atoms nodes i) j t it child)))
 
   tops : AreTops nodes read.root.0 is_top
-  tops = record {
-    has_root = signed.has_root;
-    low = λ i top. sign-low i (sign i) (top-sign i top);
-    next = λ i j top it. children-are (λ k. IsTrue (is_top k)) (sign i) (node_at nodes j) (child-top i j top it);
-  }
+  tops = signed-tops nodes read.root.0 signs signed
 
   other_head : (i : ℕ) → is_top i ≡ false → head_at b i ≡ empty_head
   other_head i none = go (below_or_more i (length nodes))

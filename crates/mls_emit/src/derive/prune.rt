@@ -1,12 +1,12 @@
 //! A section without the nodes that serve no line.
 
-use crate::derive::copies::push_checked;
 use mls_base::list::List;
 use mls_base::memory::Memory;
 use mls_book::book::{Book, Field, Fields, Node, NodeId};
 use mls_deriv::derivation::{
     BinderNode, BinderNodes, SectionLine, SectionLines, StepLine, StepRule,
 };
+use mls_lines::copies::push_checked;
 use std::alloc::Global;
 
 /// The nodes and the lines of a section.

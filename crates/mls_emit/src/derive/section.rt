@@ -1,16 +1,20 @@
 //! The section of a binding, part by part.
 ghost use Rattle.std.specs.BTreeMap.{IsEmpty};
-ghost use Rattle.std.specs.Prelude.{◌≡◌, ℕ, ◌<◌, ◌+◌, [], length, slice_get, All, IfOk, IfSome, OnOk, Some};
+ghost use Rattle.std.specs.Prelude.{◌≡◌, ℕ, ◌<◌, ◌+◌, List, [], length, slice_get, All, IfOk, IfSome, None, OnOk, Some};
 ghost use Rattle.mls_automaton.specs.Environments.{BindersRise};
 ghost use Rattle.mls_automaton.specs.Models.{IsClosed};
 ghost use Rattle.mls_automaton.specs.Schemes.{IsScheme};
 ghost use Rattle.mls_automaton.specs.Sets.{Rises};
 ghost use Rattle.mls_solver.specs.Rooms.{HoldsStates};
+ghost use Rattle.mls_layout.specs.declared.layout.LaidOut.{LaidOut as IsLaid};
+ghost use Rattle.mls_layout.specs.LaidOut.{place_of};
+ghost use Rattle.mls_layout.specs.Parts.{Constraint};
 ghost use Rattle.mls_term.specs.declared.term.TermForm.TheVariants as form;
 ghost use Rattle.mls_scheme.specs.ReadTypes.{IsReadFromBook};
 ghost use Rattle.mls_iface.specs.Matches.{IsRead};
 ghost use Rattle.mls_iface.specs.Signatures.{IsEntry};
 ghost use Rattle.mls_deriv.specs.Steps.{HasFrom};
+ghost use Rattle.mls_layout.specs.LaidOut.{IsLonger};
 ghost use Rattle.mls_parts.specs.MetCopies.{AreSeparate};
 ghost use Rattle.mls_parts.specs.PartUses.{HaveOwnLabels, KnowTypes};
 ghost use Rattle.mls_parts.specs.PosedParts.{IsPartList};
@@ -18,19 +22,16 @@ ghost use Rattle.mls_parts.specs.SolvedTypes.{entries_of};
 ghost use Rattle.mls_parts.specs.TermParts.{AreTermParts, IsTermPart};
 ghost use Rattle.mls_emit.specs.Drafts.{AreNameTypes, AreTermNodes, KnowGlobals, KnowsBefore, KnowsFirst, KnowsForm};
 ghost use Rattle.mls_emit.specs.Drafts.{names_read};
-ghost use Rattle.mls_emit.specs.MadeFirsts.{around_states, IsFirstType, IsPartLaidOut, IsPartSolved};
-ghost use Rattle.mls_emit.specs.OneEach.{HasOneEach};
-ghost use Rattle.mls_emit.specs.ReadPlaces.{IsReadLaid};
+ghost use Rattle.mls_emit.specs.MadeFirsts.{around_states, IsFirstLaid, IsFirstType, IsPartLaidOut, IsPartSolved};
+ghost use Rattle.mls_typenodes.specs.OneEach.{HasOneEach};
+ghost use Rattle.mls_typenodes.specs.ReadPlaces.{IsReadLaid};
+ghost use Rattle.mls_emit.specs.declared.derive.Way.TheVariants.{Plain};
+ghost use Rattle.mls_lines.specs.PlainParts.{CanWritePart, ConcludesNothing, WritesPart, WritesWhole, type_binders};
+ghost use Rattle.mls_lines.specs.Writer.{Lengthens};
 
 use crate::derive::Way;
-use crate::derive::copies::push_book;
-use crate::derive::known::{FirstPart, FirstParts, Globals, Schemes, know_type, put_global};
+use crate::derive::known::{Schemes, know_type};
 use crate::derive::prune::{Written, pruned};
-use crate::derive::read_places::read_places;
-use crate::derive::spines::Spines;
-use crate::derive::steps::Steps;
-use crate::derive::writer::{PartView, Writer};
-use crate::rising::read_sets;
 use mls_automaton::scheme::{Env, EnvEntry, Scheme};
 use mls_automaton::state_set::StateId;
 use mls_base::memory::Memory;
@@ -40,6 +41,11 @@ use mls_iface::signature::SigEntry;
 use mls_layout::layout::{LaidOut, Places, lay_out};
 use mls_layout::type_layout::lay_out_type;
 use mls_layout::walk::walk_of;
+use mls_lines::copies::push_book;
+use mls_lines::known::{FirstPart, FirstParts, Globals, put_global};
+use mls_lines::spines::Spines;
+use mls_lines::steps::Steps;
+use mls_lines::writer::{PartView, Writer};
 use mls_parts::binders::binders_of;
 use mls_parts::first_type::first_type_of;
 use mls_parts::pose::{KnownTypes, Posing, pose_part};
@@ -47,6 +53,8 @@ use mls_parts::solve::{Solution, solution_of};
 use mls_parts::split::{Numbers, TermPart, TermParts, parts_of};
 use mls_scheme::read::scheme_of_read;
 use mls_term::term::{TermForm, TermNode};
+use mls_typenodes::read_places::read_places;
+use mls_typenodes::rising::read_sets;
 use mls_typetext::scheme::ReadScheme;
 use std::alloc::Global;
 use std::collections::BTreeMap;
@@ -140,7 +148,8 @@ fn states_of(
 
 // The nodes of the binders of a type.
 fn type_env(alloc: Global, at: &TypeAt) -> Result<BinderNodes, Memory>
-    ensures { BindersRise at.now.scheme.env }
+    ensures rise { BindersRise at.now.scheme.env }
+    ensures env { IfOk result (λ env. env ≡ type_binders at.now.scheme at.now.places) }
 {
     let mut env = BinderNodes::new(alloc);
     for entry in at.scheme.env.as_slice() {
@@ -155,6 +164,7 @@ fn type_env(alloc: Global, at: &TypeAt) -> Result<BinderNodes, Memory>
 impl Draft {
     // A section that begins with the nodes of a type, where the types of these names were read before.
     fn new(alloc: Global, way: Way, read: &ReadScheme, schemes: Schemes) -> Result<Draft, Memory>
+        ensures begins { IfOk result (λ draft. HasFrom draft.book 0 read.now.book) }
         ensures globals { IfOk result (λ draft. draft.known.globals ≡ schemes) }
         ensures lets { IfOk result (λ draft. IsEmpty draft.known.lets) }
     {
@@ -176,10 +186,11 @@ impl Draft {
 
     // Puts the type of a name into the book.
     fn place_global(&mut self, alloc: Global, read: &ReadScheme, g: usize) -> Result<(), Memory>
-        ensures { self.new.known ≡ self.old.known }
+        requires { IsRead read.now }
+        ensures longer { OnOk result (IsLonger self.old.book self.new.book) }
+        ensures known { self.new.known ≡ self.old.known }
     {
-        let scheme = self.known.globals.get(&g).ok_or(Memory)?;
-        let global = put_global(alloc, &mut self.book, read, scheme)?;
+        let global = put_global(alloc, &mut self.book, read)?;
         // The variables of first parts come behind those of all names, since both may be put in at once.
         if read.vars > self.variable {
             self.variable = read.vars;
@@ -199,6 +210,7 @@ impl Draft {
         requires declared { All IsRead declared.now }
         requires entries { All IsEntry entries.now }
         requires types { AreNameTypes (names_read declared.now entries.now) self.old.known.globals }
+        ensures longer { OnOk result (IsLonger self.old.book self.new.book) }
         ensures form { OnOk result (KnowsForm (names_read declared.now entries.now) self.old.known.globals
             self.new.known.globals (form.Global g)) }
         ensures lets { self.new.known.lets ≡ self.old.known.lets }
@@ -223,6 +235,7 @@ impl Draft {
         requires declared { All IsRead declared.now }
         requires entries { All IsEntry entries.now }
         requires types { AreNameTypes (names_read declared.now entries.now) self.old.known.globals }
+        ensures longer { OnOk result (IsLonger self.old.book self.new.book) }
         ensures form { OnOk result (KnowsForm (names_read declared.now entries.now) self.old.known.globals
             self.new.known.globals named.now) }
         ensures lets { self.new.known.lets ≡ self.old.known.lets }
@@ -244,6 +257,7 @@ impl Draft {
         requires declared { All IsRead declared.now }
         requires entries { All IsEntry entries.now }
         requires types { AreNameTypes (names_read declared.now entries.now) self.old.known.globals }
+        ensures longer { OnOk result (IsLonger self.old.book self.new.book) }
         ensures types { OnOk result (AreNameTypes (names_read declared.now entries.now) self.new.known.globals) }
         ensures known { OnOk result (KnowGlobals nodes.now self.new.known.globals (length nodes.now)) }
         ensures lets { self.new.known.lets ≡ self.old.known.lets }
@@ -263,9 +277,11 @@ impl Draft {
         root: usize,
         around: &[usize],
     ) -> Result<TypeAt, Memory>
+        ensures longer { OnOk result (IsLonger self.old.book self.new.book) }
         ensures first { IfOk result (λ at. IsFirstType solution.now.automaton root
             (around_states posing.now around.now) at.scheme) }
         ensures separate { IfOk result (λ at. AreSeparate at.scheme) }
+        ensures laid { IfOk result (IsFirstLaid self.old.book self.old.variable self.new.book self.new.variable) }
         ensures known { self.new.known ≡ self.old.known }
     {
         let states = states_of(alloc, posing, around)?;
@@ -283,13 +299,14 @@ impl Draft {
     // The type of the whole term: its nodes are the first of the book. They are laid out so where each layer has one
     // function and one record at most, as those of a printed type have.
     fn whole_type(&mut self, alloc: Global, read: &ReadScheme) -> Result<TypeAt, Memory>
-        requires { IsRead read.now }
+        requires read { IsRead read.now }
+        requires begins { HasFrom self.old.book 0 read.now.book }
+        ensures longer { OnOk result (IsLonger self.old.book self.new.book) }
         ensures scheme { IfOk result (λ at. IsScheme at.scheme) }
         ensures env { IfOk result (λ at. at.scheme.env ≡ []) }
         ensures separate { IfOk result (λ at. AreSeparate at.scheme) }
         ensures book { IfOk result (λ at. IsReadFromBook read.now at.scheme) }
-        ensures laid { IfOk result (λ at. HasFrom self.old.book 0 read.now.book
-            → ((i : ℕ) → i < length read.now.book → HasOneEach read.now.book i)
+        ensures laid { IfOk result (λ at. ((i : ℕ) → i < length read.now.book → HasOneEach read.now.book i)
             → IsReadLaid read.now self.new.book at.scheme at.places) }
         ensures known { self.new.known ≡ self.old.known }
     {
@@ -314,8 +331,9 @@ impl Draft {
         requires closed { IsClosed posing.now.automaton }
         requires related { HoldsStates posing.now.automaton solution.found }
         requires rises { Rises around.now }
+        ensures longer { IfOk result (λ laid. IsLonger self.old.book laid.book) }
         ensures laid { IfOk result (IsPartLaidOut self.old.book posing.now solution root around.now at.now) }
-        ensures known { self.new.known ≡ self.old.known }
+        ensures kept { self.new ≡ record self.old { book = self.new.book } }
     {
         let general = Scheme {
             automaton: solution.automaton,
@@ -339,7 +357,10 @@ impl Draft {
 
     // What writes the lines of a part.
     fn writer(&mut self, alloc: Global, laid: LaidOut) -> Writer
-        ensures { self.new.known ≡ self.old.known }
+        ensures laid { result.laid ≡ laid }
+        ensures steps { result.steps ≡ self.old.steps }
+        ensures nothing { ConcludesNothing result }
+        ensures kept { self.new ≡ record self.old { steps = self.new.steps } }
     {
         Writer {
             laid,
@@ -359,7 +380,13 @@ impl Draft {
         nodes: &[TermNode],
         part: &[usize],
         posing: &Posing,
-    ) -> Result<(), Memory> {
+    ) -> Result<(), Memory>
+        ensures lengthens { OnOk result (Lengthens writer.old.laid writer.new.laid) }
+        ensures writes { (c : Constraint) (parts : ℕ → List ℕ) → self.now.way ≡ Plain
+            → CanWritePart writer.old.laid writer.old.steps self.now.firsts c posing.now parts nodes.now part.now
+            → ConcludesNothing writer.old → OnOk result (WritesPart self.now.globals self.now.firsts c posing.now parts
+            nodes.now part.now writer.old writer.new) }
+    {
         let spines = match self.way {
             Way::Short => Spines::of(alloc, nodes, part, &self.known.lets)?,
             Way::Plain => Spines::new(alloc),
@@ -387,7 +414,13 @@ impl Draft {
         laid: LaidOut,
         at: &TypeAt,
     ) -> Result<usize, Memory>
-        ensures { self.new.known ≡ self.old.known }
+        ensures longer { OnOk result (IsLonger laid.book self.new.book) }
+        ensures known { self.new.known ≡ self.old.known }
+        ensures lines { (c : Constraint) (parts : ℕ → List ℕ) → self.old.way ≡ Plain
+            → CanWritePart laid self.old.steps self.old.firsts c posing.now parts nodes.now part.now
+            → IfOk result (WritesWhole self.old.globals self.old.firsts c posing.now parts nodes.now part.now laid
+            self.old.steps self.new.steps self.new.book (type_binders at.now.scheme at.now.places)
+            (place_of at.now.places at.now.scheme.root.0)) }
     {
         let root = *part.last().ok_or(Memory)?;
         let mut writer = self.writer(alloc, laid);
@@ -412,6 +445,7 @@ impl Draft {
     ) -> Result<(), Memory>
         requires scheme { IsScheme at.scheme }
         requires separate { AreSeparate at.scheme }
+        ensures book { self.new.book ≡ self.old.book }
         ensures globals { self.new.known.globals ≡ self.old.known.globals }
         ensures first { OnOk result (KnowsFirst self.old.known.lets self.new.known.lets k at.scheme) }
     {
@@ -458,9 +492,16 @@ impl Draft {
         of_let: Option<usize>,
         read: &ReadScheme,
     ) -> Result<TypeAt, Memory>
-        requires { IsRead read.now }
+        requires read { IsRead read.now }
+        requires begins { HasFrom self.old.book 0 read.now.book }
+        ensures longer { OnOk result (IsLonger self.old.book self.new.book) }
+        ensures whole { of_let ≡ None → IfOk result (λ at.
+            ((i : ℕ) → i < length read.now.book → HasOneEach read.now.book i)
+            → IsReadLaid read.now self.new.book at.scheme at.places) }
         ensures first { (k : ℕ) → of_let ≡ Some k → IfOk result (λ at. IsFirstType solved.now.solution.automaton root
             (around_states solved.now.posing solved.now.around) at.scheme) }
+        ensures first_laid { (k : ℕ) → of_let ≡ Some k → IfOk result (IsFirstLaid self.old.book self.old.variable
+            self.new.book self.new.variable) }
         ensures scheme { IfOk result (λ at. IsScheme at.scheme) }
         ensures separate { IfOk result (λ at. AreSeparate at.scheme) }
         ensures known { self.new.known ≡ self.old.known }
@@ -490,13 +531,21 @@ impl Draft {
         requires closed { IsClosed solved.posing.automaton }
         requires related { HoldsStates solved.posing.automaton solved.solution.found }
         requires rises { Rises solved.around }
-        ensures { self.new.known ≡ self.old.known }
+        ensures longer { OnOk result (IsLonger self.old.book self.new.book) }
+        ensures known { self.new.known ≡ self.old.known }
+        ensures lines { self.old.way ≡ Plain → IfOk result (λ number. (laid : IsLaid)
+            × IsPartLaidOut self.old.book solved.posing solved.solution root solved.around at.now laid
+            × ((c : Constraint) (parts : ℕ → List ℕ) → CanWritePart laid self.old.steps self.old.firsts c solved.posing
+            parts nodes.now list.now → WritesWhole self.old.globals self.old.firsts c solved.posing parts nodes.now
+            list.now laid self.old.steps self.new.steps self.new.book (type_binders at.now.scheme at.now.places)
+            (place_of at.now.places at.now.scheme.root.0) number)) }
     {
         let posing = solved.posing;
         let solution = solved.solution;
         let around = solved.around;
         let laid = self.laid_out(alloc, &posing, solution, root, around.as_slice(), at)?;
-        self.write(alloc, nodes, list, &posing, laid, at)
+        let step = self.write(alloc, nodes, list, &posing, laid, at)?;
+        Ok(step)
     }
 
     // Writes the part with this root.
@@ -512,6 +561,8 @@ impl Draft {
         requires part { IsTermPart nodes.now root part.now }
         requires known { KnowsBefore nodes.now self.old.known root }
         requires read { IsRead read.now }
+        requires begins { HasFrom self.old.book 0 read.now.book }
+        ensures longer { OnOk result (IsLonger self.old.book self.new.book) }
         ensures known { OnOk result (KnowsBefore nodes.now self.new.known (root + 1)) }
         ensures globals { self.new.known.globals ≡ self.old.known.globals }
     {
@@ -540,6 +591,8 @@ impl Draft {
         requires parts { AreTermParts nodes.now parts.now }
         requires known { KnowsBefore nodes.now self.old.known root }
         requires read { IsRead read.now }
+        requires begins { HasFrom self.old.book 0 read.now.book }
+        ensures longer { OnOk result (IsLonger self.old.book self.new.book) }
         ensures known { OnOk result (KnowsBefore nodes.now self.new.known (root + 1)) }
         ensures globals { self.new.known.globals ≡ self.old.known.globals }
     {
@@ -566,7 +619,9 @@ fn replace_schemes(schemes: &mut Schemes, alloc: Global) -> Schemes
 }
 
 // Takes the steps out.
-fn replace_steps(steps: &mut Steps, alloc: Global) -> Steps {
+fn replace_steps(steps: &mut Steps, alloc: Global) -> Steps
+    ensures { result ≡ steps.old }
+{
     std::mem::replace(steps, Steps::new(alloc))
 }
 

@@ -6,6 +6,7 @@ use Rattle.mls_deriv.specs.declared.claim.Pair.{Pair}
 use Rattle.mls_deriv.specs.Pairs.{Claims}
 use Rattle.mls_deriv.specs.inner.Tables.{Holds, put_in}
 use Rattle.mls_pairs.specs.declared.found.Found.{Found}
+use Rattle.mls_pairs.specs.PairLists.{StaysInside}
 use Rattle.mls_pairs.specs.steps.Needs.{IsPlainNode, needs_by}
 
 -- the table has just the pairs of the list
@@ -27,6 +28,7 @@ pub record FindsNeeds (alone : Bool) (book : List Node) (put : ℕ → Option �
   pub needs : List Pair
   pub finds : Finds old new needs
   pub are : (IsPlainNode pair → ⊥) → needs ≡ needs_by alone book put pair
+  pub named : (other : Pair) → Contains needs other → Contains (needs_by alone book put pair) other
 
 -- the list has what is gathered for those of its first pairs, up to this number, that need any
 abbrev pub IsGathered : (alone : Bool) → List Node → (ℕ → Option ℕ) → ℕ → List Pair → Type 0
@@ -47,4 +49,5 @@ pub record IsGrowing (alone : Bool) (book : List Node) (put : ℕ → Option ℕ
   pub is : IsFound f
   pub has_wanted : (pair : Pair) → Contains wanted pair → Contains f.pairs pair
   pub gathered : IsGathered alone book put n f.pairs
+  pub inside : StaysInside book put wanted f.pairs
   pub puts : (x : ℕ) → put_in f.table x ≡ put x

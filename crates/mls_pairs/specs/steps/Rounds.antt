@@ -7,7 +7,7 @@ use Rattle.mls_deriv.specs.declared.table.Table.{Table}
 use Rattle.mls_deriv.specs.Pairs.{put_at, Claims, IsJustified}
 use Rattle.mls_deriv.specs.inner.PairRules.{IsShown}
 use Rattle.mls_deriv.specs.inner.Tables.{Holds, put_in}
-use Rattle.mls_pairs.specs.PairLists.{IsRefuted}
+use Rattle.mls_pairs.specs.PairLists.{IsRefuted, StaysInside}
 use Rattle.mls_pairs.specs.steps.Growth.{IsClosedList}
 use Rattle.mls_pairs.specs.steps.Needs.{own_needs}
 
@@ -37,6 +37,7 @@ pub record IsWhole (book : List Node) (puts : List Put) (wanted pairs : List Pai
   pub alone : Bool
   pub none : alone ≡ true → puts ≡ []
   pub closed : IsClosedList alone book (put_at puts) wanted pairs
+  pub inside : StaysInside book (put_at puts) wanted pairs
 
 -- the list is what is left of such a list: what is gone is refuted, and what holds by itself stays
 pub record IsLeft (book : List Node) (puts : List Put) (wanted pairs : List Pair) : Type 0 where

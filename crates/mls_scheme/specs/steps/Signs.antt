@@ -1,6 +1,6 @@
 -- Looking for the tops of layers, one after another, each with its polarity.
-use Rattle.std.specs.Prelude.{◌≡◌, ◌⊎◌, ℕ, ◌+◌, ◌<◌, true, List, [], ◌∷◌, ◌++◌, map, length, get_or, cond, is_some, set}
-use Rattle.std.specs.Prelude.{All, Contains, Option, Some, None}
+use Rattle.std.specs.Prelude.{◌≡◌, ◌⊎◌, ℕ, ◌+◌, ◌<◌, Bool, true, List, [], ◌∷◌, ◌++◌, map, length, get_or, cond, is_some}
+use Rattle.std.specs.Prelude.{set, All, Contains, IsTrue, Option, Some, None}
 use Rattle.mls_book.specs.declared.book.Field.{Field}
 use Rattle.mls_book.specs.declared.book.Node.{Node}
 use Rattle.mls_book.specs.declared.book.Node.TheVariants as node
@@ -9,7 +9,7 @@ use Rattle.mls_automaton.specs.declared.automaton.Polarity.{Polarity}
 use Rattle.mls_automaton.specs.declared.automaton.Polarity.TheVariants.{Positive}
 use Rattle.mls_automaton.specs.Automata.{opposite}
 use Rattle.mls_scheme.specs.declared.signs.Task.{Task}
-use Rattle.mls_scheme.specs.ReadAutomata.{atoms, IsPolarised}
+use Rattle.mls_scheme.specs.ReadAutomata.{atoms, AreTops, IsPolarised}
 use Rattle.mls_scheme.specs.steps.Layers.{AreAtoms}
 
 abbrev pub task : ℕ → Polarity → Task
@@ -45,13 +45,19 @@ abbrev pub AreTrueSigns : List Node → ℕ → (ℕ → Polarity → Type 0) �
 AreTrueSigns nodes root Q = (sign : ℕ → Polarity) → IsPolarised sign nodes → sign root ≡ Positive
     → (i : ℕ) (p : Polarity) → Q i p → sign i ≡ p
 
--- The tops that the root leads to have signs: the root, and the children of the atoms of each.
+-- each of these nodes is a top, whichever tops the book has
+abbrev pub AreTopsAlways : List Node → ℕ → (ℕ → Polarity → Type 0) → Type 0
+AreTopsAlways nodes root Q = (is_top : ℕ → Bool) → AreTops nodes root is_top → (i : ℕ) (p : Polarity) → Q i p
+    → IsTrue (is_top i)
+
+-- The tops that the root leads to have signs, and no other node: the root, and the children of the atoms of each.
 pub record AreSigned (nodes : List Node) (root : ℕ) (signs : List (Option Polarity)) : Type 0 where
   pub size : length signs ≡ length nodes
   pub has_root : is_some (sign_at signs root) ≡ true
   pub next : (i : ℕ) (p : Polarity) → sign_at signs i ≡ Some p → (t : Task)
       → Contains (layer_tasks nodes p (atoms nodes i)) t → is_some (sign_at signs t.node) ≡ true
   pub signs_true : AreTrueSigns nodes root (λ i p. sign_at signs i ≡ Some p)
+  pub least : AreTopsAlways nodes root (λ i p. sign_at signs i ≡ Some p)
 
 -- the same on the way, where others are still to be looked at
 pub record IsSigning (nodes : List Node) (root : ℕ) (signs : List (Option Polarity)) (work : List Task) : Type 0 where
@@ -62,6 +68,8 @@ pub record IsSigning (nodes : List Node) (root : ℕ) (signs : List (Option Pola
       → Contains (layer_tasks nodes p (atoms nodes i)) t → (is_some (sign_at signs t.node) ≡ true) ⊎ Contains work t
   pub signs_true : AreTrueSigns nodes root (λ i p. sign_at signs i ≡ Some p)
   pub work_true : AreTrueSigns nodes root (λ i p. Contains work (task i p))
+  pub least : AreTopsAlways nodes root (λ i p. sign_at signs i ≡ Some p)
+  pub work_least : AreTopsAlways nodes root (λ i p. Contains work (task i p))
 
 -- how much is left: what is still to be looked at, and for each node without a sign what it would add to that, and one
 abbrev pub size_of : List Node → ℕ → ℕ

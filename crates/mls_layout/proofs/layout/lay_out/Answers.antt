@@ -1,6 +1,8 @@
-use Rattle.std.proofs.Common.{◌∙◌, ◌+◌, ap, length, subst, sym}
+use Rattle.std.proofs.Common.{◌∙◌, ◌+◌, [], ◌∷◌, ap, length, subst, sym}
+use Rattle.mls_book.specs.declared.book.Node.TheVariants as node
 use Rattle.mls_automaton.specs.declared.automaton.Polarity.TheVariants.{Positive}
 use Rattle.mls_automaton.specs.Automata.{polarity_at}
+use Rattle.mls_automaton.proofs.BookLoops.{longer-more}
 use Rattle.mls_solver.specs.Rooms.{Holds}
 use Rattle.mls_layout.specs.LaidOut.{place_of}
 use Rattle.mls_layout.specs.steps.Planned.{Planned}
@@ -56,8 +58,16 @@ push_onto-requires c =
     ∙ (c.in_ok-sources.ensures.parts.counted
     ∙ (ap (λ n. n + own_before c.args.a.now (length c.args.a.now.states)) c.len-start.ensures.len ∙ sym c.in_ok-push_own.ensures.adds.size))
 
-pub returns : goal.returns
-returns c = λ closed_book.
+-- the leaves, the own nodes of states, and the trees
+pub returns-clause-longer : goal.returns-clause-longer
+returns-clause-longer c =
+    longer-more c.args.book c.push_own.new.book c.push_onto.new.book c.in_ok-push_onto.ensures.more
+    (longer-more c.args.book c.push_leaves.new.book c.push_own.new.book c.in_ok-push_own.ensures.adds.more
+    (node.Bool ∷ node.Int ∷ node.Bot ∷ [], c.in_ok-leaves.ensures.longer) c.in_ok-push_own.ensures.adds.longer)
+    c.in_ok-push_onto.ensures.longer
+
+pub returns-clause-laid : goal.returns-clause-laid
+returns-clause-laid c = λ closed_book.
     laid_out c.args.book c.push_leaves.new.book c.push_own.new.book c.push_onto.new.book c.args.a.now c.in_ok-leaves.leaves c.in_ok-sources.sources c.args.found.now c.args.pairs.now
     (place_of c.args.type_places.now) c.in_ok-sources.sources.end c.plan_values.new.trees c.plan_states.new.trees c.push_own.new.trees c.in_ok-values.values c.in_ok-places.places
     closed_book c.requires.closed c.requires.places c.in_ok-leaves.ensures

@@ -14,7 +14,7 @@ no_put (put ∷ puts) e = absurd (let none : suc (length puts) ≡ 0 = (Decides-
 
 pub loop-next-init : goal.loop-next-init
 loop-next-init c =
-    growing_first c.is_empty-alone.result c.args.book.now (put_at c.args.puts.now) c.args.wanted.now _ c.add_all.new.self c.in_ok-add_all.ensures c.in_ok-found.ensures.puts
+    growing_first c.is_empty-alone.result c.args.book.now (put_at c.args.puts.now) c.args.wanted.now _ c.add_all.new.self c.in_ok-found.ensures.empty c.in_ok-add_all.ensures c.in_ok-found.ensures.puts
 
 pub loop-next-preserved : goal.loop-next-preserved
 loop-next-preserved c =
@@ -30,6 +30,7 @@ returns-clause-whole c = record {
   closed =
       let all : length c.loop-next.found.pairs ≤ c.loop-next.next = search rules in
       growing_last c.is_empty-alone.result c.args.book.now (put_at c.args.puts.now) c.args.wanted.now c.loop-next.found c.loop-next.next all c.loop-next.invariant;
+  inside = c.loop-next.invariant.inside;
 }
 
 pub returns-clause-table : goal.returns-clause-table

@@ -1,6 +1,6 @@
 use Rattle.std.proofs.Common.{◌≡◌, ◌<◌, ◌≤◌, true, false, length, arith}
 use Rattle.mls_pairs.specs.steps.Rounds.{IsJustifiedBy}
-use Rattle.mls_pairs.proofs.Rounding.{left_first, left_next, left_last, those_smaller}
+use Rattle.mls_pairs.proofs.Rounding.{left_first, left_next, left_last, left_inside, those_smaller}
 use Rattle.mls_pairs.proofs.TableShown.{those_justified}
 use Rattle.mls_pairs.proofs.pairs.listed.Goals as goal
 
@@ -12,6 +12,9 @@ returns-then-have_same_length-clause-pairs c =
     left_last c.args.book.now c.args.puts.now c.args.wanted.now c.loop-found.found.pairs c.in_ok-left.left c.loop-found.invariant.0
     (those_justified c.args.book.now c.args.puts.now c.loop-found.found.pairs c.loop-found.found.table c.loop-found.invariant.1 c.as_slice.result.now c.in_ok-left.left c.as_slice.ensures c.in_ok-left.ensures)
     (c.have_same_length.ensures.0 c.if-have_same_length.true)
+
+pub returns-then-have_same_length-clause-inside : goal.returns-then-have_same_length-clause-inside
+returns-then-have_same_length-clause-inside c = left_inside c.args.book.now c.args.puts.now c.args.wanted.now c.loop-found.found.pairs c.loop-found.invariant.0
 
 pub returns-then-have_same_length-clause-table : goal.returns-then-have_same_length-clause-table
 returns-then-have_same_length-clause-table c = c.loop-found.invariant.1

@@ -6,6 +6,7 @@ use Rattle.mls_typetext.specs.declared.scheme.ReadScheme.{ReadScheme}
 use Rattle.mls_term.specs.declared.term.TermForm.TheVariants as form
 use Rattle.mls_emit.specs.Drafts.{KnowsForm, names_read}
 use Rattle.mls_emit.proofs.KnownNames.{name_form}
+use Rattle.mls_lines.proofs.Growing.{longer_itself}
 use Rattle.mls_emit.proofs.derive.section.Draft.add_global.Goals as goal
 
 -- the type of the name is read from what it means
@@ -22,3 +23,6 @@ returns-clause-form c =
     let same : c.place_global.new.self.known.globals ≡ c.know_type.new.schemes = search rules in
     subst (λ (globals : BTreeMap ℕ Scheme). KnowsForm reads c.args.self.now.known.globals globals (form.Global c.args.g)) (sym same)
     (name_form reads c.args.self.now.known.globals c.know_type.new.schemes c.args.g c.in_ok-read.read.now c.requires.types is c.in_ok-know_type.ensures)
+
+pub returns-then-contains_key-clause-longer : goal.returns-then-contains_key-clause-longer
+returns-then-contains_key-clause-longer c = longer_itself c.args.self.now.book

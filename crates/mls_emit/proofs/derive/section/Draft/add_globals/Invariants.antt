@@ -1,8 +1,10 @@
 use Rattle.std.proofs.Common.{◌≡◌}
+use Rattle.mls_layout.specs.LaidOut.{IsLonger}
 use Rattle.mls_emit.specs.Drafts.{AreNameTypes, KnowGlobals, names_read}
 use Rattle.mls_emit.proofs.derive.section.Draft.add_globals.Given as goal
 
--- the names of the nodes so far; nothing is learned of lets
+-- the names of the nodes so far; nothing is learned of lets, and the book is longer
 abbrev pub invariant-loop-node : goal.invariant-loop-node
 invariant-loop-node l =
     AreNameTypes (names_read l.declared l.entries) l.self.known.globals × KnowGlobals l.nodes l.self.known.globals l.node-index × (l.self.known.lets ≡ l.initial.self.known.lets)
+    × IsLonger l.initial.self.book l.self.book

@@ -9,6 +9,9 @@ use Rattle.mls_parts.proofs.SplitParts.{part_list}
 use Rattle.mls_emit.specs.MadeFirsts.{around_states, IsFirstType, IsPartSolved}
 use Rattle.mls_emit.specs.Drafts.{KnowsBefore, KnowsFirst}
 use Rattle.mls_emit.proofs.KnownNames.{before_more, before_same, first_made, know_types}
+use Rattle.mls_solver.proofs.Answered.{always_ok}
+use Rattle.mls_layout.specs.LaidOut.{IsLonger}
+use Rattle.mls_lines.proofs.Growing.{longer_then}
 use Rattle.mls_emit.proofs.derive.section.Draft.add_part.Goals as goal
 
 -- `parts_of` gives the nodes of a part in order
@@ -34,7 +37,7 @@ add_lines-requires-clause-rises c = subst Rises (sym c.in_ok-solved.ensures.arou
 -- the type of a first part is known now
 pub returns-in-Some-clause-known : goal.returns-in-Some-clause-known
 returns-in-Some-clause-known c =
-    let path : c.add_lines.new.self.known ≡ c.args.self.now.known = c.add_lines.ensures ∙ c.type_of.ensures.known in
+    let path : c.add_lines.new.self.known ≡ c.args.self.now.known = c.add_lines.ensures.known ∙ c.type_of.ensures.known in
     let before : KnowsBefore c.args.nodes.now c.add_lines.new.self.known c.args.root = subst (λ (known : KnownTypes). KnowsBefore c.args.nodes.now known c.args.root) (sym path) c.requires.known in
     let first = c.requires.part.of_let c.in-Some.k c.in-Some.is in
     let solved : IsPartSolved c.args.nodes.now c.add_lines.new.self.known c.args.part.now.nodes c.in_ok-solved.solved =
@@ -51,4 +54,14 @@ returns-in-Some-clause-known c =
 
 pub returns-in-None-clause-known : goal.returns-in-None-clause-known
 returns-in-None-clause-known c =
-    before_same c.args.nodes.now c.args.root c.args.self.now.known c.add_lines.new.self.known (c.add_lines.ensures ∙ c.type_of.ensures.known) c.requires.known (c.requires.part.of_none c.in-None.is)
+    before_same c.args.nodes.now c.args.root c.args.self.now.known c.add_lines.new.self.known (c.add_lines.ensures.known ∙ c.type_of.ensures.known) c.requires.known (c.requires.part.of_none c.in-None.is)
+
+-- the book is longer
+pub returns-in-Some-clause-longer : goal.returns-in-Some-clause-longer
+returns-in-Some-clause-longer c =
+    always_ok c.add_first.result (IsLonger c.args.self.now.book c.add_first.new.self.book)
+    (subst (IsLonger c.args.self.now.book) (sym c.add_first.ensures.book)
+    (longer_then c.args.self.now.book c.type_of.new.self.book c.add_lines.new.self.book c.in_ok-at.ensures.longer c.in_ok-step.ensures.longer))
+
+pub returns-in-None-clause-longer : goal.returns-in-None-clause-longer
+returns-in-None-clause-longer c = longer_then c.args.self.now.book c.type_of.new.self.book c.add_lines.new.self.book c.in_ok-at.ensures.longer c.in_ok-step.ensures.longer

@@ -1,4 +1,7 @@
 use Rattle.std.proofs.Common.{◌∙◌, ℕ, List, subst}
+use Rattle.mls_book.specs.declared.book.Node.{Node}
+use Rattle.mls_book.specs.Books.{IsClosedBook}
+use Rattle.mls_layout.specs.LaidOut.{IsLonger, IsTypeLaidOut, place_of}
 use Rattle.mls_emit.specs.MadeFirsts.{IsFirstType}
 use Rattle.mls_emit.proofs.derive.section.Draft.first_type.Goals as goal
 
@@ -14,3 +17,18 @@ returns-clause-first c =
       subsumes = c.in_ok-scheme.ensures.subsumes;
       subsumed = c.in_ok-scheme.ensures.subsumed;
     })
+
+-- the nodes of the type stand behind those that are there
+pub returns-clause-longer : goal.returns-clause-longer
+returns-clause-longer c = subst (λ (book : List Node). IsLonger book c.in_ok-laid.laid.book) c.replace_book-book.ensures c.in_ok-laid.ensures.longer
+
+-- what `lay_out_type` says of the book that was taken out
+pub returns-clause-laid : goal.returns-clause-laid
+returns-clause-laid c = record {
+  closed = subst (λ (book : List Node). IsClosedBook book → IsClosedBook c.in_ok-laid.laid.book) c.replace_book-book.ensures c.in_ok-laid.ensures.closed;
+  inside = c.in_ok-laid.ensures.places;
+  layout =
+      subst (λ (book : List Node). IsClosedBook book → IsTypeLaidOut book c.in_ok-scheme.scheme.automaton c.args.self.now.variable c.in_ok-laid.laid.book (place_of c.in_ok-laid.laid.places)) c.replace_book-book.ensures
+      c.in_ok-laid.ensures.layout;
+  variables = c.in_ok-laid.ensures.variables;
+}

@@ -1,10 +1,10 @@
-use Rattle.std.proofs.Common.{List, subst}
+use Rattle.std.proofs.Common.{IfOk, List, subst}
 use Rattle.std.proofs.lemmas.Result.{IfOk-weaker}
 use Rattle.mls_book.specs.declared.book.Node.{Node}
 use Rattle.mls_book.specs.Books.{IsClosedBook}
 use Rattle.mls_automaton.specs.declared.scheme.EnvEntry.{EnvEntry}
 use Rattle.mls_subsume.specs.declared.verdict.StatePair.{StatePair}
-use Rattle.mls_layout.specs.LaidOut.{place_of, LaysOut}
+use Rattle.mls_layout.specs.LaidOut.{place_of, IsLonger, LaysOut}
 use Rattle.mls_layout.specs.Walks.{AreMet}
 use Rattle.mls_emit.specs.MadeFirsts.{IsPartLaidOut}
 use Rattle.mls_emit.proofs.derive.section.Draft.laid_out.Goals as goal
@@ -21,4 +21,7 @@ returns-clause-laid c =
       nodes = subst (λ (book : List Node). IsClosedBook book → LaysOut book c.args.posing.now.automaton c.args.solution.found c.in_ok-pairs.pairs (place_of c.args.at.now.places) laid.book (place_of laid.places) laid.own laid.boolean laid.integer) c.replace_book-book.ensures
           (subst (λ (pairs : List StatePair). IsClosedBook c.replace_book-book.result → LaysOut c.replace_book-book.result c.args.posing.now.automaton c.args.solution.found pairs (place_of c.args.at.now.places) laid.book (place_of laid.places) laid.own laid.boolean laid.integer) c.as_slice.ensures is);
     })
-    c.lay_out.ensures
+    c.lay_out.ensures.laid
+
+pub returns-clause-longer : goal.returns-clause-longer
+returns-clause-longer c = subst (λ (book : List Node). IfOk c.lay_out.result (λ laid. IsLonger book laid.book)) c.replace_book-book.ensures c.lay_out.ensures.longer

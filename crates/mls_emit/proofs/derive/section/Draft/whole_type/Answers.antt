@@ -1,5 +1,8 @@
 use Rattle.mls_emit.proofs.KnownNames.{read_type}
-use Rattle.mls_emit.proofs.UsedTops.{whole_laid}
+use Rattle.mls_typenodes.proofs.UsedTops.{whole_laid}
+use Rattle.std.proofs.Common.{[], ◌∷◌}
+use Rattle.mls_book.specs.declared.book.Node.TheVariants as node
+use Rattle.mls_lines.proofs.Growing.{longer_then}
 use Rattle.mls_emit.proofs.derive.section.Draft.whole_type.Goals as goal
 
 -- a type without binders
@@ -9,4 +12,7 @@ returns-clause-separate c = (read_type c.in_ok-scheme.scheme c.in_ok-scheme.ensu
 pub returns-clause-laid : goal.returns-clause-laid
 returns-clause-laid c =
     whole_laid c.args.read.now c.in_ok-scheme.scheme c.in_ok-scheme.ensures.book c.in_ok-scheme.ensures.scheme c.read_sets.ensures c.args.self.now.book c.push.new.self c.push-2.new.self c.in_ok-bot.bot.0 c.in_ok-top.top.0
-    c.in_ok-bot.ensures.ok c.in_ok-bot.ensures.number c.in_ok-top.ensures.ok c.in_ok-top.ensures.number c.in_ok-places.places c.in_ok-places.ensures
+    c.in_ok-bot.ensures.ok c.in_ok-bot.ensures.number c.in_ok-top.ensures.ok c.in_ok-top.ensures.number c.in_ok-places.places c.in_ok-places.ensures c.requires.begins
+
+pub returns-clause-longer : goal.returns-clause-longer
+returns-clause-longer c = longer_then c.args.self.now.book c.push.new.self c.push-2.new.self (node.Bot ∷ [], c.in_ok-bot.ensures.ok) (node.Top ∷ [], c.in_ok-top.ensures.ok)

@@ -1,0 +1,8 @@
+use Rattle.std.proofs.Common.{◌∙◌, List, ap, length, subst}
+use Rattle.mls_book.specs.declared.book.Node.{Node}
+use Rattle.mls_deriv.specs.Steps.{HasFrom}
+use Rattle.mls_emit.proofs.derive.section.Draft.new.Goals as goal
+
+pub returns-clause-begins : goal.returns-clause-begins
+returns-clause-begins c =
+    subst (λ n. HasFrom c.push_book.new.book n c.args.read.now.book) (c.in_ok-push_book.ensures.first ∙ ap (λ (book : List Node). length book) c.new-book.ensures) c.in_ok-push_book.ensures.from

@@ -1,9 +1,0 @@
-use Rattle.std.proofs.Common.{refl}
-use Rattle.mls_emit.proofs.Bringing.{taken_brings}
-use Rattle.mls_emit.proofs.derive.writer.Writer.adapted.Goals as goal
-
-pub returns : goal.returns
-returns c = λ rising counted have.
-    let taken = c.in_ok-from.ensures counted have in
-    taken_brings c.args.self.now c.taken.new.self _ c.args.node c.args.env.now c.args.root c.in_ok-from.from c.in_ok-to.to taken
-    (c.in_ok-to.ensures rising taken.adds.counted taken.stands) refl refl

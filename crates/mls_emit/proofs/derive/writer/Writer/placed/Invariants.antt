@@ -1,8 +1,0 @@
-use Rattle.std.proofs.Common.{◌≡◌, take, map}
-use Rattle.mls_emit.specs.steps.Writer.{own_node}
-use Rattle.mls_emit.proofs.JoinedEnvironments.{own_entry}
-use Rattle.mls_emit.proofs.derive.writer.Writer.placed.Given as goal
-
--- the binders so far with their own nodes
-abbrev pub invariant-loop-entry : goal.invariant-loop-entry
-invariant-loop-entry l = l.placed ≡ map (own_entry (own_node l.self l.view.posing.now)) (take l.entry-index l.env)

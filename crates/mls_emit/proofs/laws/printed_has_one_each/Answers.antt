@@ -1,5 +1,0 @@
-use Rattle.mls_emit.proofs.PrintedTypes.{printed_has_one}
-use Rattle.mls_emit.proofs.laws.printed_has_one_each.Goals as goal
-
-pub returns : goal.returns
-returns c = printed_has_one

@@ -1,0 +1,168 @@
+-- The lines that bring what a node concludes to an environment and a type, as the writer adds them.
+--     planned_append              the steps of one plan after another
+--     lines_joined, adds_then     their lines
+--     step_stands                 the step that was added last
+--     bound_taken, step_taken     the step of a node
+--     taken_brings                brought to an environment and a type
+use Rattle.std.proofs.Common.{◌≡◌, ℕ, suc, List, [], ◌∷◌, ◌++◌, length, refl, sym, ap, ◌∙◌, subst, append-nil, append_assoc, slice_get, Some}
+use Rattle.std.specs.Prelude.{option_map}
+use Rattle.std.specs.BTreeMap.{get}
+use Rattle.std.specs.Ordering.{nat_cmp}
+use Rattle.mls_book.specs.declared.book.Node.{Node}
+use Rattle.mls_book.specs.declared.book.NodeId.{NodeId}
+use Rattle.mls_deriv.specs.declared.derivation.BinderNode.{BinderNode}
+use Rattle.mls_deriv.specs.declared.derivation.SectionLine.{SectionLine}
+use Rattle.mls_deriv.specs.declared.derivation.SectionLine.TheVariants as line
+use Rattle.mls_deriv.specs.declared.derivation.StepLine.{StepLine}
+use Rattle.mls_deriv.specs.declared.derivation.StepRule.TheVariants as rule
+use Rattle.mls_deriv.specs.Sections.{steps_of}
+use Rattle.mls_layout.specs.Plans.{PlannedLine, a_step_with, a_let, planned_steps, AreLinesOf}
+use Rattle.mls_layout.specs.Runs.{a_step, lines_of}
+use Rattle.mls_layout.specs.Scopes.{entry}
+use Rattle.mls_lines.specs.declared.steps.Conclusion as written
+use Rattle.mls_lines.specs.declared.steps.Steps.{Steps}
+use Rattle.mls_lines.specs.declared.writer.Concluded.TheVariants.{Bound, Step}
+use Rattle.mls_lines.specs.declared.writer.Writer as state
+use Rattle.mls_lines.specs.Conclusions.{Conclusion, Concluded, a_binder, by_step, IsAdapted, IsBrought}
+use Rattle.mls_lines.specs.Stepping.{conclusion_of, AddsStep, Adds, AreCounted, Stands, AddsAdapted}
+use Rattle.mls_lines.specs.Writer.{concluded_of, IsTaken, ConcludesNoMore, TakesStep, BringsNode}
+use Rattle.mls_lines.proofs.Runs.{no_steps, steps_append, last_found}
+use Rattle.mls_lines.proofs.Stepping.{step_adds}
+
+pub planned_append : (plan more : List PlannedLine) → planned_steps (plan ++ more) ≡ planned_steps plan ++ planned_steps more
+planned_append [] more = refl
+planned_append (a_step_with step puts ∷ plan) more = ap (λ (l : List StepLine). step ∷ l) (planned_append plan more)
+planned_append (a_let k number ∷ plan) more = planned_append plan more
+
+module _ (book : List Node) (more : List PlannedLine) (rest : List SectionLine) where
+  pub lines_joined : (plan : List PlannedLine) (steps : List StepLine) (first : List SectionLine) → AreLinesOf book steps plan first → AreLinesOf book (steps ++ planned_steps plan) more rest
+      → AreLinesOf book steps (plan ++ more) (first ++ rest)
+  lines_joined [] steps first are later =
+      subst (λ (l : List SectionLine). AreLinesOf book steps more (l ++ rest)) (sym are) (subst (λ (s : List StepLine). AreLinesOf book s more rest) (append-nil steps) later)
+  lines_joined (a_step_with step puts ∷ plan) steps first (pairs, behind, list, is, are) later = (
+    pairs,
+    behind ++ rest,
+    list,
+    ap (λ (l : List SectionLine). l ++ rest) is ∙ append_assoc (lines_of step puts pairs) behind rest,
+    lines_joined plan (steps ++ step ∷ []) behind are (subst (λ (s : List StepLine). AreLinesOf book s more rest) (sym (append_assoc steps (step ∷ []) (planned_steps plan))) later),
+  )
+  lines_joined (a_let k number ∷ plan) steps first (behind, is, are) later =
+      (behind ++ rest, ap (λ (l : List SectionLine). l ++ rest) is, lines_joined plan steps behind are later)
+
+-- the steps of the lines are those of the plan
+pub lines_steps : (book : List Node) (plan : List PlannedLine) (steps : List StepLine) (lines : List SectionLine) → AreLinesOf book steps plan lines → steps_of lines ≡ planned_steps plan
+lines_steps book [] steps lines are = ap steps_of are
+lines_steps book (a_step_with step puts ∷ plan) steps lines (pairs, rest, list, is, are) =
+    ap steps_of is
+    ∙ (steps_append (lines_of step puts pairs) rest
+    ∙ (ap (λ (l : List StepLine). step ∷ (l ++ steps_of rest)) (no_steps puts pairs) ∙ ap (λ (l : List StepLine). step ∷ l) (lines_steps book plan (steps ++ step ∷ []) rest are)))
+lines_steps book (a_let k number ∷ plan) steps lines (rest, is, are) = ap steps_of is ∙ lines_steps book plan steps rest are
+
+pub adds_steps : (book : List Node) (old new : Steps) (plan : List PlannedLine) → Adds book old new plan → steps_of new.lines ≡ steps_of old.lines ++ planned_steps plan
+adds_steps book old new plan it =
+    ap steps_of it.lines ∙ (steps_append old.lines it.more ∙ ap (λ (l : List StepLine). steps_of old.lines ++ l) (lines_steps book plan (steps_of old.lines) it.more it.are))
+
+pub adds_then : (book : List Node) (old now new : Steps) (plan more : List PlannedLine) → Adds book old now plan → Adds book now new more → Adds book old new (plan ++ more)
+adds_then book old now new plan more first second = record {
+  more = first.more ++ second.more;
+  lines = second.lines ∙ (ap (λ (l : List SectionLine). l ++ second.more) first.lines ∙ append_assoc old.lines first.more second.more);
+  are =
+      lines_joined book more second.more plan (steps_of old.lines) first.more first.are
+      (subst (λ (s : List StepLine). AreLinesOf book s more second.more) (adds_steps book old now plan first) second.are);
+  counted = second.counted;
+}
+
+-- the step that was added last
+pub step_stands : (old new : Steps) (step : StepLine) (c : written.Conclusion) → AreCounted old → AddsStep old new step c → Stands (steps_of new.lines) c
+step_stands old new step c counted it = record {
+  step = step;
+  found =
+      (λ n. slice_get (steps_of (it.lines n)) c.step)
+      ∙ (ap (λ (l : List StepLine). slice_get l c.step) (steps_append old.lines (line.Step step ∷ []))
+      ∙ (ap (slice_get (steps_of old.lines ++ step ∷ [])) (it.number ∙ counted) ∙ last_found (steps_of old.lines) step));
+  env = sym it.env;
+  root = sym it.root;
+}
+
+module _ (old now new : state.Writer) (i : ℕ) (u : NodeId) (from : written.Conclusion) (counted : AreCounted old.steps) (same_steps : now.steps ≡ old.steps) (same_laid : now.laid ≡ old.laid)
+    (fewer : ConcludesNoMore old now) where
+  pub bound_taken : (x : ℕ) → get nat_cmp old.concluded i ≡ Some (Bound x) → new.laid ≡ now.laid → new.concluded ≡ now.concluded
+      → AddsStep now.steps new.steps (a_step i rule.Var (entry x u.0 ∷ []) u.0) from → TakesStep old new i u from
+  bound_taken x found laid concluded adds =
+      let step = a_step i rule.Var (entry x u.0 ∷ []) u.0 in
+      let it = subst (λ (s : Steps). AddsStep s new.steps step from) same_steps adds in
+      record {
+        own = a_binder x;
+        known = ap (option_map concluded_of) found;
+        plan = a_step_with step [] ∷ [];
+        taken = (refl, λ n. record { number = (it.number ∙ counted) n; type = (it.root n).0; env = it.env n; puts = it.puts n });
+        adds = step_adds old.laid.book old.steps new.steps step from refl counted it;
+        stands = step_stands old.steps new.steps step from counted it;
+        laid = laid ∙ same_laid;
+        fewer = λ j own known. fewer j own (sym (ap (λ m. get nat_cmp m j) concluded) ∙ known);
+      }
+
+  pub step_taken : get nat_cmp old.concluded i ≡ Some (Step from) → Stands (steps_of old.steps.lines) from → TakesStep old now i u from
+  step_taken found stands = record {
+    own = by_step (conclusion_of from);
+    known = ap (option_map concluded_of) found;
+    plan = [];
+    taken = (refl, refl);
+    adds = record {
+      more = [];
+      lines = (λ n. (same_steps n).lines) ∙ sym (append-nil old.steps.lines);
+      are = refl;
+      counted = subst AreCounted (sym same_steps) counted;
+    };
+    stands = subst (λ (s : Steps). Stands (steps_of s.lines) from) (sym same_steps) stands;
+    laid = same_laid;
+    fewer = fewer;
+  }
+
+-- behind the step of a node, the lines that bring it to an environment and a type
+pub taken_brings : (old now new : state.Writer) (i : ℕ) (d : List BinderNode) (u : NodeId) (from to : written.Conclusion) → TakesStep old now i u from
+    → AddsAdapted now.laid.book now.steps new.steps i from d u to → new.laid ≡ now.laid → new.concluded ≡ now.concluded → BringsNode old new i d u to.step
+taken_brings old now new i d u from to it adapts laid concluded = record {
+  own = it.own;
+  known = it.known;
+  plan = it.plan ++ adapts.plan;
+  brought = by_own it.own it.plan it.taken (adds_steps old.laid.book old.steps now.steps it.plan it.adds);
+  adds =
+      adds_then old.laid.book old.steps now.steps new.steps it.plan adapts.plan it.adds
+      (record {
+        more = adapts.more;
+        lines = adapts.lines;
+        are = subst (λ (book : List Node). AreLinesOf book (steps_of now.steps.lines) adapts.plan adapts.more) (λ n. (it.laid n).book) adapts.are;
+        counted = adapts.counted;
+      });
+  laid = laid ∙ it.laid;
+  fewer = λ j own known. it.fewer j own (sym (ap (λ m. get nat_cmp m j) concluded) ∙ known);
+}
+  where
+    steps : List StepLine
+    steps = steps_of old.steps.lines
+
+    one_longer : (l : List StepLine) (step : StepLine) → length (l ++ step ∷ []) ≡ suc (length l)
+    one_longer [] step = refl
+    one_longer (first ∷ l) step = ap suc (one_longer l step)
+
+    count : (plan : List PlannedLine) → steps_of now.steps.lines ≡ steps ++ planned_steps plan → now.steps.count ≡ length (steps ++ planned_steps plan)
+    count plan is = it.adds.counted ∙ ap (λ (l : List StepLine). length l) is
+
+    by_own : (own : Concluded) (plan : List PlannedLine) → IsTaken own (length steps) i u.0 plan (conclusion_of from) → steps_of now.steps.lines ≡ steps ++ planned_steps plan
+        → IsBrought own (length steps) i d u.0 (plan ++ adapts.plan) to.step
+    by_own (by_step c) plan (none, same) is =
+        let at : now.steps.count ≡ length steps =
+        count plan is ∙ (ap (λ (l : List PlannedLine). length (steps ++ planned_steps l)) none ∙ ap (λ (l : List StepLine). length l) (append-nil steps)) in
+        subst (λ (l : List PlannedLine). IsAdapted c (length steps) i d u.0 (l ++ adapts.plan) to.step) (sym none)
+        (subst (λ (s : Conclusion). IsAdapted s (length steps) i d u.0 adapts.plan to.step) same
+        (subst (λ n. IsAdapted (conclusion_of from) n i d u.0 adapts.plan to.step) at adapts.adapts))
+    by_own (a_binder x) plan (first, same) is =
+        let step = a_step i rule.Var (entry x u.0 ∷ []) u.0 in
+        let at : now.steps.count ≡ suc (length steps) =
+        count plan is ∙ (ap (λ (l : List PlannedLine). length (steps ++ planned_steps l)) first ∙ one_longer steps step) in (
+          adapts.plan,
+          ap (λ (l : List PlannedLine). l ++ adapts.plan) first,
+          subst (λ (s : Conclusion). IsAdapted s (suc (length steps)) i d u.0 adapts.plan to.step) same
+              (subst (λ n. IsAdapted (conclusion_of from) n i d u.0 adapts.plan to.step) at adapts.adapts),
+        )

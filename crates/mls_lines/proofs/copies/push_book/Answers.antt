@@ -1,0 +1,9 @@
+use Rattle.std.proofs.Common.{◌∙◌, ◌<◌, ap, subst}
+use Rattle.mls_deriv.specs.Steps.{raised}
+use Rattle.mls_lines.proofs.Lengthening.{copied_more}
+use Rattle.mls_lines.proofs.copies.push_book.Goals as goal
+
+pub loop-i-preserved : goal.loop-i-preserved
+loop-i-preserved c =
+    copied_more c.args.book.now c.loop-i.book c.push_checked.new.book c.args.other.now c.len-first.result c.loop-i.i c.in_ok-node.node (subst (λ n. c.loop-i.i < n) c.len-i-end.ensures.len c.loop-i-test.true) c.loop-i.invariant c.in_ok-push_checked.ensures.ok
+    (c.in_ok-node.ensures ∙ ap (raised c.len-first.result) c.node.ensures.node)

@@ -1,0 +1,7 @@
+use Rattle.std.proofs.Common.{◌≡◌, ◌++◌, take}
+use Rattle.mls_lines.specs.Stepping.{below}
+use Rattle.mls_lines.proofs.envs.push_below.Given as goal
+
+-- those so far
+abbrev pub invariant-loop-entry : goal.invariant-loop-entry
+invariant-loop-entry l = l.left ≡ l.fn.left ++ below l.binder (take l.entry-index l.env)

@@ -1,0 +1,13 @@
+use Rattle.std.proofs.Common.{take}
+use Rattle.mls_deriv.specs.Steps.{IsRising}
+use Rattle.mls_lines.specs.Environments.{AreEntries, MeetsIn}
+use Rattle.mls_lines.specs.Writer.{Grows}
+use Rattle.mls_lines.proofs.writer.Writer.met_entries.Given as goal
+
+-- the entries of the binders so far
+abbrev pub invariant-loop-binder : goal.invariant-loop-binder
+invariant-loop-binder l = record {
+  grows : Grows l.initial.self l.self;
+  entries : IsRising l.first → IsRising l.second
+      → AreEntries (MeetsIn l.self.laid.book l.first l.second) (take l.binder-index l.binders) l.env;
+}

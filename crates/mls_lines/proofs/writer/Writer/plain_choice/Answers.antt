@@ -1,0 +1,39 @@
+use Rattle.std.proofs.Common.{◌∙◌, List, refl, sym, ap, subst}
+use Rattle.mls_book.specs.declared.book.NodeId.{NodeId}
+use Rattle.mls_deriv.specs.declared.derivation.BinderNode.{BinderNode}
+use Rattle.mls_deriv.specs.Steps.{IsRising}
+use Rattle.mls_lines.specs.Writer.{BringsNode}
+use Rattle.mls_lines.proofs.GoingOn.{sound_grown, sound_brought}
+use Rattle.mls_lines.proofs.PlainForms.{choice_writes}
+use Rattle.mls_lines.proofs.Lengthening.{lengthens_grown, lengthens_kept}
+use Rattle.mls_lines.proofs.writer.Writer.plain_choice.Goals as goal
+
+pub returns-clause-writes : goal.returns-clause-writes
+returns-clause-writes c = λ k parts sound have posed.
+    let w = c.args.self.now in
+    let p = c.args.view.now.posing.now in
+    let grown = c.env_of_parts_of_choice.new.self in
+    let once = c.adapted.new.self in
+    let twice = c.adapted-2.new.self in
+    let thrice = c.adapted-3.new.self in
+    let truth = w.laid.boolean in
+    let top = c.place-into.result in
+    let grows = c.in_ok-env.ensures.grows in
+    let joins = c.in_ok-env.ensures.joins sound.rising in
+    let rising = joins.joins.rising in
+    let now = sound_grown w grown grows sound in
+    let it = subst (λ (d : List BinderNode). BringsNode grown once c.args.condition d truth c.in_ok-asked.asked) c.as_slice.ensures
+    (c.in_ok-asked.ensures.brings (subst IsRising (sym c.as_slice.ensures) rising) now.counted now.have) in
+    let then_now = sound_brought grown once c.args.condition c.in_ok-env.env truth c.in_ok-asked.asked it now in
+    let later = subst (λ (d : List BinderNode). BringsNode once twice c.args.first d top c.in_ok-yes.yes) c.as_slice-2.ensures
+    (c.in_ok-yes.ensures.brings (subst IsRising (sym c.as_slice-2.ensures) rising) then_now.counted then_now.have) in
+    let last_now = sound_brought once twice c.args.first c.in_ok-env.env top c.in_ok-yes.yes later then_now in
+    let latest = subst (λ (d : List BinderNode). BringsNode twice thrice c.args.second d top c.in_ok-no.no) c.as_slice-3.ensures
+    (c.in_ok-no.ensures.brings (subst IsRising (sym c.as_slice-3.ensures) rising) last_now.counted last_now.have) in
+    choice_writes c.args.view.now.globals.now c.args.view.now.firsts.now k p parts c.args.node w sound grown once twice thrice _ grows c.args.condition c.args.first c.args.second truth top c.in_ok-env.env
+    c.in_ok-asked.asked c.in_ok-yes.yes c.in_ok-no.no it later latest c.in_ok-own.own refl refl c.in_ok-state.state posed c.in_ok-state.ensures have refl (ap (λ (n : NodeId). n.0) c.place-into.ensures) joins c.in_ok-own.ensures
+
+pub returns-clause-lengthens : goal.returns-clause-lengthens
+returns-clause-lengthens c =
+    lengthens_kept c.args.self.now.laid c.env_of_parts_of_choice.new.self.laid c.adapted-3.new.self.laid (lengthens_grown c.args.self.now c.env_of_parts_of_choice.new.self c.in_ok-env.ensures.grows)
+    (c.in_ok-no.ensures.laid ∙ (c.in_ok-yes.ensures.laid ∙ c.in_ok-asked.ensures.laid))

@@ -1,0 +1,29 @@
+use Rattle.std.proofs.Common.{◌∙◌, List, [], refl, sym, ap, subst, None, get_or}
+use Rattle.mls_deriv.specs.declared.derivation.BinderNode.{BinderNode}
+use Rattle.mls_deriv.specs.Steps.{IsRising}
+use Rattle.mls_parts.specs.Posings.{root_in}
+use Rattle.mls_lines.specs.PlainRecords.{AreFieldsOf, BringsParts}
+use Rattle.mls_lines.proofs.GoingOn.{sound_grown}
+use Rattle.mls_lines.proofs.Lengthening.{lengthens_grown, lengthens_kept}
+use Rattle.mls_lines.proofs.PlainRecords.{all_joined_rising, make_writes}
+use Rattle.mls_lines.proofs.writer.Writer.plain_make.Goals as goal
+
+pub returns-clause-writes : goal.returns-clause-writes
+returns-clause-writes c = λ k places sound have.
+    let w = c.args.self.now in
+    let p = c.args.view.now.posing.now in
+    let grown = c.env_of_parts.new.self in
+    let now = c.parts.new.self in
+    let id = c.in_ok-record.record in
+    let (fields, is, are) = c.in_ok-fields.ensures in
+    let grows = c.in_ok-env.ensures.grows in
+    let joined = c.in_ok-env.ensures.joins fields (subst (AreFieldsOf fields c.args.parts.now) (sym c.as_slice.ensures) are) sound.rising in
+    let rising = all_joined_rising _ grown.laid.book [] c.in_ok-env.env joined.offered joined.joins tt in
+    let it = subst (λ (d : List BinderNode). BringsParts grown now d fields c.args.parts.now c.in_ok-steps.steps) c.as_slice-3.ensures
+    (c.in_ok-steps.ensures.brings fields (subst (AreFieldsOf fields c.args.parts.now) (sym c.as_slice-2.ensures) are) (sound_grown w grown grows sound) (subst IsRising (sym c.as_slice-3.ensures) rising)) in
+    let there = have.records (root_in p c.args.node) id (ap (λ s. get_or w.laid.own.records s None) (sym c.root.ensures) ∙ c.in_ok-record.ensures) in
+    make_writes c.args.view.now.globals.now c.args.view.now.firsts.now k p places c.args.node w grown now _ grows fields c.args.parts.now c.in_ok-env.env c.in_ok-steps.steps joined it c.in_ok-own.own refl refl id there is c.in_ok-own.ensures
+
+pub returns-clause-lengthens : goal.returns-clause-lengthens
+returns-clause-lengthens c =
+    lengthens_kept c.args.self.now.laid c.env_of_parts.new.self.laid c.parts.new.self.laid (lengthens_grown c.args.self.now c.env_of_parts.new.self c.in_ok-env.ensures.grows) c.in_ok-steps.ensures.laid

@@ -1,0 +1,21 @@
+use Rattle.std.proofs.Common.{refl}
+use Rattle.mls_lines.proofs.writer.Writer.puts_of_global.Goals as goal
+
+pub returns-clause-grows : goal.returns-clause-grows
+returns-clause-grows c = record {
+  more = c.in_ok-puts.ensures.longer.0;
+  book = c.in_ok-puts.ensures.longer.1;
+  places = refl;
+  own = refl;
+  boolean = refl;
+  integer = refl;
+  steps = refl;
+  concluded = refl;
+}
+
+pub returns-clause-joins : goal.returns-clause-joins
+returns-clause-joins c = λ is. record {
+  first = c.in_ok-first.first;
+  copy = c.in_ok-first.ensures;
+  joins = c.in_ok-puts.ensures.joins is;
+}

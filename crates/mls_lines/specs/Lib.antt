@@ -1,0 +1,12 @@
+pub mod Orders
+pub mod Conclusions
+pub mod NodeLines
+pub mod Writings
+pub mod Stepping
+pub mod Environments
+pub mod Writer
+pub mod PlainLines
+pub mod PlainRecords
+pub mod PlainParts
+pub mod Showing
+pub mod Puts

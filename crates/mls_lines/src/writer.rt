@@ -1,0 +1,136 @@
+//! The lines of a part, written node by node: each has the step of its rule, behind those that bring its parts to the
+//! types that the rule asks for.
+ghost use Rattle.std.specs.Prelude.{◌≡◌, [], IfOk, Ok, OnOk};
+ghost use Rattle.mls_deriv.specs.declared.derivation.StepRule.TheVariants.{Lit};
+ghost use Rattle.mls_lines.specs.declared.steps.Conclusion.{Conclusion as IsConclusion};
+ghost use Rattle.mls_lines.specs.declared.writer.Concluded.TheVariants.{Step};
+ghost use Rattle.mls_lines.specs.Stepping.{AddsStep};
+ghost use Rattle.mls_lines.specs.Writer.{Lengthens};
+
+mod chains;
+mod choices;
+mod functions;
+mod joined;
+mod names;
+mod nodes;
+mod plain;
+mod records;
+
+use crate::known::{FirstParts, Globals};
+use crate::spines::Spines;
+use crate::steps::{Conclusion, Steps};
+use mls_base::memory::Memory;
+use mls_book::book::NodeId;
+use mls_deriv::derivation::{BinderNodes, StepRule};
+use mls_layout::layout::LaidOut;
+use mls_parts::pose::{KnownTypes, Posing};
+use mls_term::term::{TermForm, TermNode};
+use std::alloc::Global;
+use std::collections::BTreeMap;
+
+/// What is known of a part: its constraint, its chains of applications, and the types of names.
+#[derive(Clone, Copy)]
+pub struct PartView<'a> {
+    pub posing: &'a Posing,
+    pub spines: &'a Spines,
+    pub known: &'a KnownTypes,
+    pub globals: &'a Globals,
+    pub firsts: &'a FirstParts,
+}
+
+/// The nodes of a part, the steps so far, what the nodes of the term conclude, the node of the greatest type, where a
+/// binder that is not used asked for one, how many nodes the meets of binders have, and the environment of each chain, by
+/// its first node, which has no binder where that of each node is its own.
+#[derive(Drop)]
+pub struct Writer {
+    pub laid: LaidOut,
+    pub steps: Steps,
+    pub concluded: BTreeMap<usize, Concluded>,
+    pub top: Option<NodeId>,
+    pub widths: BTreeMap<usize, usize>,
+    pub chains: BTreeMap<usize, BinderNodes>,
+}
+
+/// What a node concludes: a binder may have any type, and another node has a step.
+#[derive(Drop)]
+pub enum Concluded {
+    Bound(usize),
+    Step(Conclusion),
+}
+
+// A step as what a node concludes.
+fn stepped(own: Result<Conclusion, Memory>) -> Result<Concluded, Memory>
+    ensures { IfOk result (λ made. (c : IsConclusion) × (own ≡ Ok c) × (made ≡ Step c)) }
+{
+    let own = own?;
+    Ok(Concluded::Step(own))
+}
+
+impl Writer {
+    // A number or a truth value.
+    fn literal(&mut self, alloc: Global, node: usize, root: NodeId) -> Result<Conclusion, Memory>
+        ensures laid { OnOk result (self.new.laid ≡ self.old.laid) }
+        ensures concluded { OnOk result (self.new.concluded ≡ self.old.concluded) }
+        ensures lines { IfOk result (AddsStep self.old.steps self.new.steps
+            (record { node = node; rule = Lit; env = []; root = root })) }
+    {
+        let env = BinderNodes::new(alloc);
+        let own = self.steps.step(alloc, node, StepRule::Lit, env, root)?;
+        Ok(own)
+    }
+
+    // What a node concludes by its rule, behind what its rule asks for.
+    fn write_form(
+        &mut self,
+        alloc: Global,
+        view: &PartView,
+        node: usize,
+        form: &TermForm,
+    ) -> Result<Concluded, Memory>
+        ensures { OnOk result (Lengthens self.old.laid self.new.laid) }
+    {
+        match form {
+            TermForm::Bound(x) => Ok(Concluded::Bound(*x)),
+            TermForm::Inner(k) => stepped(self.inner(alloc, view, node, *k)),
+            TermForm::Global(g) => stepped(self.global(alloc, view, node, *g)),
+            TermForm::Number(_) => stepped(self.literal(alloc, node, self.laid.integer)),
+            TermForm::Truth(_) => stepped(self.literal(alloc, node, self.laid.boolean)),
+            TermForm::Fun(x, body) => stepped(self.fun(alloc, view, node, *x, *body)),
+            TermForm::Apply(function, argument) => {
+                stepped(self.apply(alloc, view, node, *function, *argument))
+            }
+            TermForm::Make(parts) => stepped(self.make(alloc, view, node, parts.as_slice())),
+            TermForm::Project(body, label) => {
+                stepped(self.project(alloc, view, node, *body, label))
+            }
+            TermForm::If(condition, first, second) => {
+                stepped(self.choice(alloc, view, node, *condition, *first, *second))
+            }
+            TermForm::Let(k, _, second) => stepped(self.let_in(alloc, view, node, *k, *second)),
+            TermForm::Rec(x, body) => stepped(self.recursion(alloc, view, node, *x, *body)),
+        }
+    }
+
+    /// Writes the lines of the nodes of a part, in order.
+    ///
+    /// # Errors
+    ///
+    /// `Memory` where memory is wanting.
+    pub fn write_part(
+        &mut self,
+        alloc: Global,
+        view: &PartView,
+        nodes: &[TermNode],
+        part: &[usize],
+    ) -> Result<(), Memory>
+        ensures { OnOk result (Lengthens self.old.laid self.new.laid) }
+    {
+        for i in part {
+            if let Some(node) = nodes.get(*i) {
+                let own = self.write_form(alloc, view, *i, &node.form)?;
+                self.concluded.insert(*i, own)?;
+            }
+        }
+        Ok(())
+    }
+}

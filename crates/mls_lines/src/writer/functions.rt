@@ -1,0 +1,151 @@
+//! The lines of functions, recursions and applications.
+ghost use Rattle.std.specs.Prelude.{◌≡◌, ℕ, List, IfOk, OnOk};
+ghost use Rattle.mls_term.specs.declared.term.TermForm.TheVariants as form;
+ghost use Rattle.mls_layout.specs.Parts.{Constraint};
+ghost use Rattle.mls_lines.specs.declared.writer.Concluded.TheVariants.{Step};
+ghost use Rattle.mls_lines.specs.PlainLines.{HasOwnParts, IsSound, WritesNode};
+ghost use Rattle.mls_lines.specs.Writer.{Lengthens};
+
+use crate::envs::{with, without};
+use crate::steps::{Conclusion, node_of};
+use crate::writer::nodes::{ArrowNode, behind};
+use crate::writer::{PartView, Writer};
+use mls_base::memory::Memory;
+use mls_book::book::Node;
+use mls_deriv::derivation::{BinderNodes, StepRule};
+use std::alloc::Global;
+
+// The type of the function of an application, and the environment of both parts.
+#[derive(Drop)]
+struct Applied {
+    arrow: ArrowNode,
+    env: BinderNodes,
+}
+
+impl Writer {
+    ///
+    /// # Errors
+    ///
+    /// `Memory` where memory is wanting.
+    pub fn fun(
+        &mut self,
+        alloc: Global,
+        view: &PartView,
+        node: usize,
+        x: usize,
+        body: usize,
+    ) -> Result<Conclusion, Memory>
+        ensures { OnOk result (Lengthens self.old.laid self.new.laid) }
+    {
+        let arrow = self.function(view.posing.root(node))?;
+        let root = self.own_type(body, arrow.to)?;
+        let own = self.offered(alloc, view, body, root)?;
+        let step = self.adapted(alloc, body, own.as_slice(), root)?;
+        let domain = match node_of(own.as_slice(), x) {
+            Some(domain) => domain,
+            None => self.greatest()?,
+        };
+        let own_arrow = match domain == arrow.from && root == arrow.to {
+            true => arrow.node,
+            false => self.laid.book.push(Node::Arrow(domain, root))?,
+        };
+        let env = without(alloc, own.as_slice(), x)?;
+        self.steps
+            .step(alloc, node, StepRule::Fun(step), env, own_arrow)
+    }
+
+    ///
+    /// # Errors
+    ///
+    /// `Memory` where memory is wanting.
+    pub fn recursion(
+        &mut self,
+        alloc: Global,
+        view: &PartView,
+        node: usize,
+        x: usize,
+        body: usize,
+    ) -> Result<Conclusion, Memory>
+        ensures laid { OnOk result (self.new.laid ≡ self.old.laid) }
+        ensures writes { (c : Constraint) (parts : ℕ → List ℕ) → IsSound self.old
+            → HasOwnParts self.old c.automaton parts → IfOk result (λ own. WritesNode view.now.globals.now
+            view.now.firsts.now c view.now.posing.now parts node (form.Rec x body) self.old self.new (Step own)) }
+    {
+        let root = self.place(view.posing.root(body));
+        let offer = self.offered(alloc, view, body, root)?;
+        let inner = with(alloc, offer.as_slice(), x, root)?;
+        let step = self.adapted(alloc, body, inner.as_slice(), root)?;
+        let env = without(alloc, offer.as_slice(), x)?;
+        let own = self
+            .steps
+            .step(alloc, node, StepRule::Rec(step), env, root)?;
+        Ok(own)
+    }
+
+    // The type of the function of an application: that which the function has, if it is one of functions, or else that
+    // of the goal. A binder may have the type of its own node.
+    fn applied(&self, view: &PartView, node: usize, function: usize) -> Result<ArrowNode, Memory> {
+        if let Some(root) = self.placed_type(view, function)? {
+            if let Some(arrow) = self.arrow_at(root) {
+                return Ok(arrow);
+            }
+        }
+        self.function(behind(view.posing.root(node), 2)?)
+    }
+
+    // The type of the function of an application and the environment of both parts. Where a function of this type needs
+    // a step by pairs in any case, and the argument has all binders, the function takes what the argument is, and the
+    // argument needs no step by pairs.
+    fn met(
+        &mut self,
+        alloc: Global,
+        view: &PartView,
+        node: usize,
+        function: usize,
+        argument: usize,
+    ) -> Result<Applied, Memory>
+        ensures { OnOk result (Lengthens self.old.laid self.new.laid) }
+    {
+        let arrow = self.applied(view, node, function)?;
+        let own = self.own_type(argument, arrow.from)?;
+        let env = self.env_of_application(
+            alloc,
+            view,
+            node,
+            (function, arrow.node),
+            (argument, own),
+        )?;
+        let is_there = self.placed_type(view, function)? == Some(arrow.node)
+            && self.has_env(function, arrow.node, env.as_slice());
+        if is_there || own == arrow.from || !self.has_env(argument, own, env.as_slice()) {
+            return Ok(Applied { arrow, env });
+        }
+        let arrow = ArrowNode {
+            node: self.laid.book.push(Node::Arrow(own, arrow.to))?,
+            from: own,
+            to: arrow.to,
+        };
+        Ok(Applied { arrow, env })
+    }
+
+    ///
+    /// # Errors
+    ///
+    /// `Memory` where memory is wanting.
+    pub fn apply(
+        &mut self,
+        alloc: Global,
+        view: &PartView,
+        node: usize,
+        function: usize,
+        argument: usize,
+    ) -> Result<Conclusion, Memory>
+        ensures { OnOk result (Lengthens self.old.laid self.new.laid) }
+    {
+        let Applied { arrow, env } = self.met(alloc, view, node, function, argument)?;
+        let first = self.adapted(alloc, function, env.as_slice(), arrow.node)?;
+        let second = self.adapted(alloc, argument, env.as_slice(), arrow.from)?;
+        self.steps
+            .step(alloc, node, StepRule::App(first, second), env, arrow.to)
+    }
+}

@@ -1,0 +1,9 @@
+pub mod ReadLayouts
+pub mod CombinedParts
+pub mod TypeLayers
+pub mod TopHeads
+pub mod TypeLayouts
+pub mod SingleSets
+pub mod PrintedTypes
+pub mod PrintedLayouts
+pub mod UsedTops
