@@ -1,6 +1,6 @@
 -- The nodes of a part as they are laid out: its constraint and its type stand in each longer book that is closed.
 --     part_laid_out
-use Rattle.std.proofs.Common.{◌≡◌, ℕ, List, ◌++◌, refl}
+use Rattle.std.proofs.Common.{ℕ, List, ◌++◌, refl}
 use Rattle.mls_book.specs.declared.book.NodeId.{NodeId}
 use Rattle.mls_book.specs.declared.book.Node.{Node}
 use Rattle.mls_book.specs.Books.{IsClosedBook}

@@ -3,7 +3,7 @@
 --     let_puts            so what is put in is what a use asks for
 --     let_puts_low        and it is nodes of the book
 --     node_of_copy        the node of the copy of a state
-use Rattle.std.proofs.Common.{◌≡◌, ◌⊎◌, inl, inr, ℕ, ◌+◌, ◌<◌, List, length, sym, ap, ◌∙◌, subst, slice_get, arith, Some}
+use Rattle.std.proofs.Common.{◌≡◌, inl, inr, ℕ, ◌+◌, ◌<◌, List, length, sym, ap, ◌∙◌, subst, slice_get, arith, Some}
 use Rattle.mls_book.specs.declared.book.Node.{Node}
 use Rattle.mls_automaton.specs.declared.automaton.Flow.{Flow}
 use Rattle.mls_automaton.specs.declared.scheme.Scheme.{Scheme}

@@ -4,8 +4,8 @@
 --     part_of_state       so are the parts of the heads of its states
 --     part_variable       a variable among them is one that a state of the type shows
 --     part_clear          so none of them stands for another node, where those of the type do not
-use Rattle.std.proofs.Common.{◌≡◌, ◌⊎◌, inl, inr, ℕ, List, [], ◌∷◌, length, refl, sym, ap, ◌∙◌, subst, get_or, Some, None}
-use Rattle.std.specs.Prelude.{All, Contains, Option}
+use Rattle.std.proofs.Common.{◌≡◌, ◌⊎◌, inl, inr, ℕ, List, refl, sym, ◌∙◌, subst, Some, None}
+use Rattle.std.specs.Prelude.{Contains, Option}
 use Rattle.std.proofs.lemmas.List.Elements.{All-contains}
 use Rattle.mls_book.specs.declared.book.Field.{Field}
 use Rattle.mls_book.specs.declared.book.NodeId.{NodeId}
@@ -24,9 +24,9 @@ use Rattle.mls_deriv.specs.declared.claim.Put.{Put}
 use Rattle.mls_deriv.specs.Pairs.{put_at}
 use Rattle.mls_lines.specs.Conclusions.{AreClear}
 use Rattle.mls_typenodes.proofs.UsedTops.{field_found}
-use Rattle.mls_layout.specs.Heads.{AreParts, IsFieldAt, IsKindAt}
+use Rattle.mls_layout.specs.Heads.{IsFieldAt, IsKindAt}
 use Rattle.mls_layout.specs.Layouts.{Enters, IsLayout}
-use Rattle.mls_layout.specs.Trees.{HasMember, HasOnly, IsPlaceIn, IsTree, here, first, member, none, none_node, second, two, two_node}
+use Rattle.mls_layout.specs.Trees.{HasMember, HasOnly, IsPlaceIn, here, first, member, none, none_node, second, two, two_node}
 use Rattle.mls_layout.specs.Uses.{NamesOnly, Shows}
 use Rattle.mls_allowed.specs.PartNodes.{HasChild, IsPartNode, named, of_state, of_type}
 

@@ -1,27 +1,19 @@
--- A name, or a let, whose known type has a copy in the constraint of a part: the nodes of the type, as they are laid or
--- as they were read, are those of a copy.
+-- A let whose known type has a copy in the constraint of a part: the nodes of the type, as they are laid, are those of a
+-- copy.
 --     copied                  the copy of the states of a type is one of their nodes
 --     use_copy                the nodes of the type of a let's first part
---     read_copied, read_copy  the nodes of a type that was read
-use Rattle.std.proofs.Common.{◌≡◌, ℕ, ◌+◌, ◌<◌, List, length, ◌∙◌, subst, Some}
-use Rattle.std.specs.Prelude.{IsTrue}
+use Rattle.std.proofs.Common.{◌≡◌, ℕ, ◌<◌, List, length, Some}
 use Rattle.mls_book.specs.declared.book.Node.{Node}
 use Rattle.mls_automaton.specs.declared.scheme.Scheme.{Scheme}
 use Rattle.mls_automaton.specs.Automata.{Automaton, polarity_at, head_at}
 use Rattle.mls_automaton.specs.Heads.{parts_of}
 use Rattle.mls_automaton.specs.Schemes.{IsScheme}
-use Rattle.mls_flow.specs.Simulations.{IsHeadWithin}
 use Rattle.mls_flow.proofs.HeadsWithin.{within-more}
-use Rattle.mls_scheme.specs.ReadAutomata.{IsReadFrom}
-use Rattle.mls_scheme.specs.ReadTypes.{IsReadFromBook}
-use Rattle.mls_typetext.specs.declared.scheme.ReadScheme.{ReadScheme}
 use Rattle.mls_deriv.specs.declared.claim.Put.{Put}
 use Rattle.mls_deriv.specs.Pairs.{put_at}
-use Rattle.mls_deriv.specs.Steps.{HasFrom}
 use Rattle.mls_layout.specs.Layouts.{IsTypeLayout}
 use Rattle.mls_layout.specs.Uses.{ArePuts, HasEdgeVariables, IsCopyOf, IsNameLayout}
 use Rattle.mls_parts.specs.MetCopies.{IsCopyMet}
-use Rattle.mls_typenodes.proofs.ReadLayouts.{IsTopCopied, has_tops, read_layout}
 use Rattle.mls_allowed.proofs.NameLayouts.{IsCopied, name_layout}
 
 module _ (book : List Node) (a : Automaton) (binder : ℕ → ℕ) (known : Scheme) (copy : ℕ → ℕ) (met : IsCopyMet a binder known copy) where
@@ -52,33 +44,3 @@ module _ (book : List Node) (a : Automaton) (binder : ℕ → ℕ) (known : Sche
       at_top = all known.root.0;
       is_positive = is.root.polarity;
     }
-
--- The type of a name of the environment, whose book stands among the nodes.
-module _ (book : List Node) (n : ℕ) (read : ReadScheme) (from : HasFrom book n read.book) (known : Scheme) (is : IsReadFromBook read known) (a : Automaton) (binder : ℕ → ℕ) (copy : ℕ → ℕ) (met : IsCopyMet a binder known copy) where
-  abbrev of : IsReadFrom read.book read.root.0 known.automaton
-  of = is.automaton
-
-  pub read_copied : IsTopCopied book n read.book from of.closed of.sign of.polarised read.root.0 of.is_top of.tops known.automaton a copy
-  read_copied = record {
-    polarity = λ s top. met.polarity s ∙ of.automaton.polarity s top;
-    heads = λ s top. subst (λ p. IsHeadWithin (λ x y. copy x ≡ y) p (parts_of (head_at known.automaton s)) (parts_of (head_at a (copy s)))) (of.automaton.polarity s top) (met.heads s);
-    flows = λ l m top top' edge. met.flows l m edge;
-  }
-
-  abbrev pub read_nodes : IsNameLayout book a (λ s. IsTrue (is.automaton.is_top s)) is.automaton.sign (λ s. n + s) copy
-  read_nodes = read_layout book n read.book from of.closed of.sign of.polarised read.root.0 of.is_top of.tops known.automaton a copy (has_tops book n read.book from of.closed of.sign of.polarised read.root.0 of.is_top of.tops known.automaton of.automaton) read_copied
-
-  -- the tops are places, and the root is the top
-  pub read_copy : (place : ℕ → ℕ) (puts : List Put) → ArePuts book (λ s. IsTrue (is.automaton.is_top s)) is.automaton.sign read_nodes.variables place copy puts → ((x m : ℕ) → put_at puts x ≡ Some m → m < length book)
-      → IsCopyOf book a place (λ s. IsTrue (is.automaton.is_top s)) read.root.0
-  read_copy place puts are low = record {
-    sign = of.sign;
-    known_place = λ s. n + s;
-    copy = copy;
-    type = read_nodes;
-    puts = puts;
-    are = are;
-    low = low;
-    at_top = of.tops.has_root;
-    is_positive = of.is_positive;
-  }
