@@ -62,6 +62,7 @@ pub mod SubsumedWalks
 pub mod AroundParts
 pub mod ReadyParts
 pub mod LaidParts
+pub mod PartLines
 pub mod MadeTypes
 pub mod OwnLets
 pub mod ReadyTerms
