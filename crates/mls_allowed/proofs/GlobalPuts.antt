@@ -151,7 +151,7 @@ module _ (book : List Node) (n : ℕ) (read : ReadScheme) (from : HasFrom book n
       pub global_puts_low : (x i : ℕ) → put_at puts x ≡ Some i → i < length book
       global_puts_low x i e = (puts_hold Joins 0 puts joins.each x i e).0
 
-      pub global_copy : IsCopyOf book a place IsUsed read.root.0
+      unfoldable pub global_copy : IsCopyOf book a place IsUsed read.root.0
       global_copy = record {
         sign = of.sign;
         known_place = λ s. n + s;

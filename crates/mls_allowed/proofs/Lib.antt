@@ -63,6 +63,7 @@ pub mod AroundParts
 pub mod ReadyParts
 pub mod LaidParts
 pub mod PartLines
+pub mod ReadUses
 pub mod MadeTypes
 pub mod OwnLets
 pub mod ReadyTerms

@@ -31,7 +31,7 @@ module _ (book : List Node) (a : Automaton) (binder : ℕ → ℕ) (known : Sche
     abbrev pub layout : IsNameLayout book a IsPlace (polarity_at known.automaton) known_place copy
     layout = name_layout book known.automaton a is.automaton IsPlace all known_place copy type (copied type.variables edges)
 
-    pub use_copy : (puts : List Put) → ArePuts book IsPlace (polarity_at known.automaton) (name_layout book known.automaton a is.automaton IsPlace all known_place copy type (copied type.variables edges)).variables place copy puts
+    unfoldable pub use_copy : (puts : List Put) → ArePuts book IsPlace (polarity_at known.automaton) (name_layout book known.automaton a is.automaton IsPlace all known_place copy type (copied type.variables edges)).variables place copy puts
         → ((x n : ℕ) → put_at puts x ≡ Some n → n < length book) → IsCopyOf book a place IsPlace known.root.0
     use_copy puts are low = record {
       sign = polarity_at known.automaton;

@@ -1,0 +1,92 @@
+-- The uses of names and the lets of a part are read as its lines ask, where it is told what is put in at them.
+--     global_read         a name of the environment
+--     first_copy          the nodes of the type of a let's first part, at a use of it
+--     first_bound         the binders of that type are around
+--     inner_read          a name that a let binds
+--     let_read            a let
+use Rattle.std.proofs.Common.{◌≡◌, ℕ, ◌+◌, ◌<◌, ◌≤◌, Bool, List, length, refl, sym, ap, ◌∙◌, subst, arith, Contains, slice_get, Option, Some, None}
+use Rattle.std.specs.Prelude.{IsSome, IsTrue, is_some, find, option_map}
+use Rattle.std.specs.BTreeMap.{BTreeMap}
+use Rattle.std.specs.FinMap as env
+use Rattle.mls_book.specs.declared.book.Node.{Node}
+use Rattle.mls_book.specs.Schemes as book
+use Rattle.mls_automaton.specs.declared.automaton.Polarity.TheVariants.{Negative}
+use Rattle.mls_automaton.specs.declared.scheme.EnvEntry.{EnvEntry}
+use Rattle.mls_automaton.specs.declared.scheme.Scheme.{Scheme}
+use Rattle.mls_automaton.specs.Automata.{Automaton, polarity_at}
+use Rattle.mls_automaton.specs.Environments.{BindersRise}
+use Rattle.mls_automaton.specs.Schemes.{state_of, IsScheme}
+use Rattle.mls_scheme.specs.ReadTypes.{IsReadFromBook}
+use Rattle.mls_scheme.specs.steps.Signs.{sign_at}
+use Rattle.mls_typetext.specs.declared.scheme.ReadScheme.{ReadScheme}
+use Rattle.mls_typetext.specs.Laws.{IsReadScheme}
+use Rattle.mls_deriv.specs.Steps.{HasFrom, env_of, Before}
+use Rattle.mls_layout.specs.declared.layout.Places.{Places}
+use Rattle.mls_layout.specs.LaidOut.{place_of, IsTypeLaidOut}
+use Rattle.mls_layout.specs.Uses.{IsCopyOf}
+use Rattle.mls_layout.proofs.EdgeVariables.{edge_variables}
+use Rattle.mls_parts.specs.declared.pose.Posing.{Posing}
+use Rattle.mls_parts.specs.MetCopies.{IsCopyMet, IsOfNoBinder}
+use Rattle.mls_parts.specs.Posings.{binder_in, root_in}
+use Rattle.mls_lines.specs.Conclusions.{AreClear}
+use Rattle.mls_lines.specs.NodeLines.{NamesKnown, Standing}
+use Rattle.mls_lines.specs.PlainParts.{type_binders}
+use Rattle.mls_lines.specs.Puts.{AreJoins, ArePutsOfEdges, IsNodeOfCopy}
+use Rattle.mls_lines.specs.Showing.{ShowTops}
+use Rattle.mls_allowed.specs.WrittenUses.{IsGlobalRead, IsInnerRead, IsLetRead}
+use Rattle.mls_allowed.proofs.GlobalPuts.{global_copy}
+use Rattle.mls_allowed.proofs.LetPuts.{let_puts, let_puts_low, node_of_copy}
+use Rattle.mls_allowed.proofs.NameLayouts.{name_layout}
+use Rattle.mls_allowed.proofs.PartLines.{type_binder, type_fits}
+use Rattle.mls_allowed.proofs.UseCopies.{use_copy}
+
+-- A name of the environment, whose type was read, and has a copy whose states stand from one on.
+module _ (b : Before) (a : Automaton) (at : Standing) (names : NamesKnown) (lets : List ℕ) (Own : ℕ → Type 0) (i g : ℕ) (read : ReadScheme) (is_read : IsReadScheme read) (known : Scheme) (is : IsReadFromBook read known) (showing : BTreeMap ℕ (List ℕ)) (shows : ShowTops read.book read.root.0 showing)
+  (from : HasFrom b.book (names.from g) read.book) (copy : ℕ → ℕ) (met : IsCopyMet a at.binder known copy) (is_root : at.root i ≡ copy known.root.0) (first : ℕ) (copies : (s : ℕ) → s < length read.book → copy s ≡ first + s)
+  (joins : AreJoins b.book (λ s. at.place (first + s)) showing read.vars (names.puts i)) (scheme : book.Scheme) (there : slice_get b.globals g ≡ Some scheme) (same_book : scheme.book ≡ read.book) (same_root : scheme.root ≡ read.root.0) (type : names.type g ≡ names.from g + read.root.0) where
+  abbrev Copied : (ℕ → Bool) → Type 0
+  Copied test = (c : IsCopyOf b.book a at.place (λ s. IsTrue (test s)) read.root.0) × (c.copy ≡ copy) × (c.known_place ≡ (λ s. names.from g + s)) × (c.puts ≡ names.puts i)
+
+  global_copied : Copied (λ s. is_some (sign_at shows.signs s))
+  unfolding global_copy
+  global_copied = (global_copy b.book (names.from g) read from known is showing shows a at.binder copy met is_read at.place first copies (names.puts i) joins, refl, refl, refl)
+
+  pub global_read : (is_place : ℕ → ℕ → Bool) → is_place i ≡ (λ s. is_some (sign_at shows.signs s)) → IsGlobalRead b a at names lets (λ j s. IsTrue (is_place j s)) Own i g
+  global_read is_place places =
+      let c = subst Copied (sym places) global_copied in
+      record {
+        top = read.root.0;
+        copied = c.0;
+        is_root = ap (λ f. f read.root.0) c.1 ∙ (ap copy (sym is.root) ∙ sym is_root);
+        scheme = scheme;
+        known = there;
+        stands = subst (HasFrom b.book (names.from g)) (sym same_book) from;
+        type = type ∙ ap (λ r. names.from g + r) (sym same_root);
+        at_top = type ∙ sym (ap (λ f. f read.root.0) c.2);
+        inside = let within : names.from g + length read.book ≤ length b.book = from.within in let low : read.root.0 < length read.book = is_read.root in subst (λ n. n < length b.book) (sym type) (omega (arith, within, low));
+        puts = sym c.3;
+      }
+
+-- A use of the name of a let, or the let, whose first part has a type that is laid out, with a variable for each edge, and
+-- has a copy whose states stand from one on, but for those of binders.
+module _ (b : Before) (a : Automaton) (p : Posing) (places : Places) (parts : ℕ → List ℕ) (names : NamesKnown) (lets : List ℕ) (is_place : ℕ → ℕ → Bool) (Own : ℕ → Type 0) (scope : List ℕ) (i k : ℕ) (known : Scheme) (is : IsScheme known) (old : List Node) (first : ℕ) (type_places : Places)
+  (laid : IsTypeLaidOut old known.automaton first b.book (place_of type_places)) (inside : (s : ℕ) → place_of type_places s < length b.book) (own_inside : (s : ℕ) → place_of places s < length b.book) (copy : ℕ → ℕ) (met : IsCopyMet a (binder_in p) known copy) (from : ℕ)
+  (copies : (s : ℕ) → s < length known.automaton.states → IsOfNoBinder known s → copy s ≡ from + s) (edges : ArePutsOfEdges (IsNodeOfCopy places p known from) known.automaton.flows first (names.puts i)) (all : (s : ℕ) → IsTrue (is_place i s))
+  (scoped : (x : ℕ) → IsSome (state_of known.env x) → Contains scope x) (first_env : (names.first k).env ≡ env_of (type_binders known type_places)) (known_there : Contains lets k) where
+  abbrev IsPlace : ℕ → Type 0
+  IsPlace s = IsTrue (is_place i s)
+
+  abbrev at : Standing
+  at = record { root = root_in p; binder = binder_in p; place = place_of places; parts = parts }
+
+  pub first_copy : (c : IsCopyOf b.book a (place_of places) IsPlace known.root.0) × (c.sign ≡ polarity_at known.automaton) × (c.known_place ≡ place_of type_places) × (c.copy ≡ copy) × (c.puts ≡ names.puts i)
+  unfolding name_layout use_copy
+  first_copy = (
+    use_copy b.book a (binder_in p) known copy met is IsPlace all (place_of type_places) (place_of places) laid.layout (edge_variables known.automaton is.automaton old b.book first (place_of type_places) laid) (names.puts i)
+    (let_puts known.automaton is.automaton first (place_of places) copy (IsNodeOfCopy places p known from) (node_of_copy a p known copy met from copies places) (names.puts i) edges old b.book (place_of type_places) laid IsPlace all)
+    (let_puts_low known.automaton is.automaton first (place_of places) copy (IsNodeOfCopy places p known from) (node_of_copy a p known copy met from copies places) (names.puts i) edges b.book own_inside),
+    refl,
+    refl,
+    refl,
+    refl,
+  )
