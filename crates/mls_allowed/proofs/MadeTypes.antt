@@ -85,10 +85,10 @@ IsKept old new = (k : ℕ) (s : Scheme) → known_in old k ≡ Some s → known_
 
 module _ (nodes : List TermNode) (globals old new : BTreeMap ℕ Scheme) (kept : IsKept old new) where
   -- what a node asks stays so
-  node_kept : (p : Posing) (i : ℕ) (f : TermForm) → IsNodePosed p.automaton (IsGoal p.goals) (root_in p) (binder_in p) (IsUseMet (known_in globals) (known_in old) p.automaton (root_in p) (binder_in p)) i f
-      → IsNodePosed p.automaton (IsGoal p.goals) (root_in p) (binder_in p) (IsUseMet (known_in globals) (known_in new) p.automaton (root_in p) (binder_in p)) i f
+  node_kept : (p : Posing) (i : ℕ) (f : TermForm) → IsNodePosed p.automaton (IsGoal p.goals) (root_in p) (binder_in p) (IsUseMet (known_in globals) (known_in old) p.automaton (root_in p) (binder_in p) p.copies) i f
+      → IsNodePosed p.automaton (IsGoal p.goals) (root_in p) (binder_in p) (IsUseMet (known_in globals) (known_in new) p.automaton (root_in p) (binder_in p) p.copies) i f
   node_kept p i (form.Bound x) it = it
-  node_kept p i (form.Inner k) it = (it.0, it.1, kept k it.0 it.2, it.3, it.4)
+  node_kept p i (form.Inner k) it = (it.0, kept k it.0 it.1, it.2, it.3)
   node_kept p i (form.Global g) it = it
   node_kept p i (form.Number value) it = it
   node_kept p i (form.Truth value) it = it
@@ -97,7 +97,7 @@ module _ (nodes : List TermNode) (globals old new : BTreeMap ℕ Scheme) (kept :
   node_kept p i (form.Make parts) it = it
   node_kept p i (form.Project j label) it = it
   node_kept p i (form.If j k l) it = it
-  node_kept p i (form.Let k j l) it = (it.0, (it.1.0, it.1.1, kept k it.1.0 it.1.2, it.1.3))
+  node_kept p i (form.Let k j l) it = (it.0, (it.1.0, kept k it.1.0 it.1.1, it.1.2))
   node_kept p i (form.Rec x j) it = it
 
   pub posed_kept : (binders part : List ℕ) (p : Posing) → IsPartPosed nodes globals old binders part p → IsPartPosed nodes globals new binders part p

@@ -224,10 +224,10 @@ module _ (nodes : List TermNode) (globals lets : BTreeMap ℕ Scheme) (let_scope
   -- the tree of the part is posed
   pub part_tree : IsPosed nodes p.automaton (IsGoalOf c) (root_in p) (binder_in p) (IsUseAround nodes globals lets p) binders.around (n + before t) t
   part_tree =
-      posed_tree nodes p.automaton (IsGoalOf c) (root_in p) (binder_in p) (IsUseMet (known_in globals) (known_in lets) p.automaton (root_in p) (binder_in p)) (Contains part.nodes) (needed_by lets)
+      posed_tree nodes p.automaton (IsGoalOf c) (root_in p) (binder_in p) (IsUseMet (known_in globals) (known_in lets) p.automaton (root_in p) (binder_in p) p.copies) (Contains part.nodes) (needed_by lets)
       (IsUseAround nodes globals lets p) (λ scope i f e usable it. (f, e, usable, it))
       (λ i f there e. own_parts_in (Contains part.nodes) f (λ j own. closed_part nodes lets let_scope count needs part binders are n t numbers is_part around i j f there e own))
-      (λ i f there e. node_goals p.automaton (IsGoal p.goals) (IsGoalOf c) (root_in p) (binder_in p) (IsUseMet (known_in globals) (known_in lets) p.automaton (root_in p) (binder_in p)) goal_of i f (posed.posed i f there e))
+      (λ i f there e. node_goals p.automaton (IsGoal p.goals) (IsGoalOf c) (root_in p) (binder_in p) (IsUseMet (known_in globals) (known_in lets) p.automaton (root_in p) (binder_in p) p.copies) goal_of i f (posed.posed i f there e))
       binders.around t (n + before t) (tree_at_numbers nodes t n numbers) top_in
       (rises_around nodes lets let_scope count needs part binders are n t numbers is_part around)
 

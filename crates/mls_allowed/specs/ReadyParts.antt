@@ -45,11 +45,12 @@ needed_binders (Some s) = binders_in s.env
 abbrev pub needed_by : BTreeMap ℕ Scheme → ℕ → List ℕ
 needed_by lets k = needed_binders (known_in lets k)
 
--- A use of a name, or a let: the binders that its type needs are in scope, and its type has a copy.
+-- A use of a name, or a let: the binders that its type needs are in scope, and its type has a copy, whose first state is
+-- noted.
 abbrev pub IsUseAround : List TermNode → (globals lets : BTreeMap ℕ Scheme) → Posing → List ℕ → ℕ → Type 0
 IsUseAround nodes globals lets p scope i =
     (f : TermForm) × (form_at nodes i ≡ Some f) × IsUsable (needed_by lets) scope f
-    × IsUseMet (known_in globals) (known_in lets) p.automaton (root_in p) (binder_in p) i f
+    × IsUseMet (known_in globals) (known_in lets) p.automaton (root_in p) (binder_in p) p.copies i f
 
 -- The part with this root and these nodes is ready, where names have these known types, and `special` is its own type.
 -- Its binders are those around it that it names, and each of them has a state of the type.

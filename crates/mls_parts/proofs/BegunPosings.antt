@@ -40,13 +40,14 @@ state_for x = negative empty_head
 nowhere : (m : BTreeMap ℕ ℕ) (k : ℕ) → IsEmpty m → get nat_cmp m k ≡ None
 nowhere m k empty = ap (lookup (is_at (nat_cmp k))) empty
 
-pub begun_none : (p : Posing) → p.automaton ≡ record { states = []; flows = [] } → p.goals ≡ [] → p.needs ≡ [] → IsEmpty p.roots → IsEmpty p.binders → IsEmpty p.results → IsBegun [] p
-begun_none p automaton goals needs roots binders results = record {
+pub begun_none : (p : Posing) → p.automaton ≡ record { states = []; flows = [] } → p.goals ≡ [] → p.needs ≡ [] → IsEmpty p.roots → IsEmpty p.binders → IsEmpty p.copies → IsEmpty p.results → IsBegun [] p
+begun_none p automaton goals needs roots binders copies results = record {
   states = ap (λ (a : Automaton). a.states) automaton;
   flows = ap (λ (a : Automaton). a.flows) automaton;
   goals = goals;
   needs = needs;
   no_root = λ i. nowhere p.roots i roots;
+  no_copy = λ i. nowhere p.copies i copies;
   no_result = λ i. nowhere p.results i results;
   there = λ x there. let low : there.0 < 0 = there.1 in absurd (omega arith);
   back = λ x s e. let none : get nat_cmp p.binders x ≡ None = nowhere p.binders x binders in absurd (cc);
@@ -65,6 +66,7 @@ module _ (binders : List ℕ) (p : Posing) (it : IsBegun binders p) where
     goals = more.goals ∙ it.goals;
     needs = more.needs ∙ it.needs;
     no_root = λ i. ap (λ rs. get nat_cmp rs i) more.roots ∙ it.no_root i;
+    no_copy = λ i. ap (λ cs. get nat_cmp cs i) more.copies ∙ it.no_copy i;
     no_result = λ i. ap (λ rs. get nat_cmp rs i) more.results ∙ it.no_result i;
     there = λ y there. has y (Contains-push_cases binders x y there) (is_eq (nat_cmp x y)) refl (more.binders.0 y);
     back = λ y s e. found y s e (is_eq (nat_cmp x y)) refl (more.binders.0 y);
@@ -130,6 +132,7 @@ module _ (binders : List ℕ) (p : Posing) (it : IsBegun binders p) where
     needs = λ need there. absurd (no_need need there);
     labels = λ need there. absurd (no_need need there);
     around = λ need there. absurd (no_need need there);
+    copies = λ i n e. let none : get nat_cmp p.copies i ≡ None = it.no_copy i in absurd (cc);
     results = λ i n e. let none : get nat_cmp p.results i ≡ None = it.no_result i in absurd (cc);
   }
 

@@ -59,6 +59,7 @@ binder_bound p m n known entry from ends head needs can from_is partners it head
       needs = needs_are ∙ (ap (λ (ns : List Need). ns ++ record { binder = entry.binder; head = head } ∷ []) it.needs ∙ ap (λ (h : Head). p.needs ++ record { binder = entry.binder; head = h } ∷ []) same);
       roots = it.roots;
       binders = it.binders;
+      copies = it.copies;
       results = it.results;
     }
 
@@ -87,6 +88,7 @@ module _ (p : Posing) (known : Scheme) where
     needs = sym (nil_behind p.needs);
     roots = refl;
     binders = refl;
+    copies = refl;
     results = refl;
   }
     where
@@ -127,6 +129,7 @@ module _ (p : Posing) (known : Scheme) where
             ∙ ap (λ (ns : List Need). p.needs ++ ns) (sym (map-append (copied_need n known) entries (entry ∷ [])))));
         roots = more.roots ∙ it.roots;
         binders = more.binders ∙ it.binders;
+        copies = more.copies ∙ it.copies;
         results = more.results ∙ it.results;
       }
 
@@ -156,15 +159,16 @@ module _ (p : Posing) (known : Scheme) where
             subst (λ s. IsState m.automaton Negative s) (sym (ap (λ bs. number_at bs entry.binder) it.binders))
             (longer p.automaton m.automaton (map (renamed_state (λ k. n + k)) known.automaton.states) Negative (binder_in p entry.binder) it.states old)
 
-pub copy_posed : (p m : Posing) (i : ℕ) (roots copies : BTreeMap ℕ ℕ) (known : Scheme) (root other : ℕ) → AddsCopy p m (size p) known known.env
-    → Updates nat_cmp m.roots roots i (Some root) → root ≡ other
+pub copy_posed : (p m : Posing) (i : ℕ) (roots copies : BTreeMap ℕ ℕ) (known : Scheme) (root other first : ℕ) → AddsCopy p m (size p) known known.env
+    → Updates nat_cmp m.roots roots i (Some root) → root ≡ other → Updates nat_cmp m.copies copies i (Some first) → first ≡ size p
     → Adds p (record m { roots = roots; copies = copies }) i (copy_added (size p) known other) (IsCopiedEdge (size p) (binder_in p) known known.env)
-copy_posed p m i roots copies known root other it updates same = record {
+copy_posed p m i roots copies known root other first it updates same noted begins = record {
   states = it.states;
   flows = it.flows;
   goals = it.goals ∙ sym (nil_behind p.goals);
   needs = it.needs;
   roots = subst (λ rs. Updates nat_cmp rs roots i (Some other)) it.roots (subst (λ r. Updates nat_cmp m.roots roots i (Some r)) same updates);
   binders = it.binders;
+  copies = subst (λ cs. Updates nat_cmp cs copies i (Some (size p))) it.copies (subst (λ n. Updates nat_cmp m.copies copies i (Some n)) begins noted);
   results = it.results;
 }

@@ -31,7 +31,7 @@ use Rattle.mls_parts.specs.declared.pose.Need.{Need}
 use Rattle.mls_parts.specs.declared.pose.Posing.{Posing}
 use Rattle.mls_parts.specs.PosedCopies.{HasBinder, HasBinderOf, IsGood, IsNew, IsResult}
 use Rattle.mls_layout.specs.PosedNodes.{HasPartsIn}
-use Rattle.mls_parts.specs.Posings.{Added, Adds, AddsNode, CanPose, HasKnown, known_in, IsCopiedEdge, IsKnownTo, OneEdge, binder_in, copied_need, copy_added, NoEdge, bool_head, choice_goals, fix_added, function_head, goal, int_head, joined_choice_added, literal_added, negative, one_field, or_zero, positive, record_head, root_in, size}
+use Rattle.mls_parts.specs.Posings.{Added, Adds, AddsNode, CanPose, HasKnown, known_in, IsCopiedEdge, IsKnownTo, OneEdge, binder_in, copied_need, copy_added, NoEdge, bool_head, choice_goals, fix_added, function_head, goal, int_head, joined_choice_added, literal_added, negative, one_field, or_zero, positive, record_head, copy_in, root_in, size}
 use Rattle.mls_parts.specs.steps.Sharing.{shared_added}
 use Rattle.mls_parts.proofs.PosedByNode.{new_state, none_noted, noted_cases, root_is, root_kept, same_root}
 use Rattle.mls_parts.proofs.Posings.{longer, state_there}
@@ -85,6 +85,7 @@ module _ (p q : Posing) (i : ℕ) (new : Added) (IsEdge : ℕ → ℕ → Type 0
     around = λ need there.
         subst (λ bs. IsSome (get nat_cmp bs need.binder)) (sym it.binders)
         (need_good need (Contains-append_cases p.needs new.needs need (subst (λ (ns : List Need). Contains ns need) it.needs there))).2;
+    copies = λ k n e. copy_rooted k n (noted_cases p.copies q.copies i new.copy it.copies k n e);
     results = λ k n e. result_good k n (noted_cases p.results q.results i new.result it.results k n e);
   }
     where
@@ -119,6 +120,10 @@ module _ (p q : Posing) (i : ℕ) (new : Added) (IsEdge : ℕ → ℕ → Type 0
       root_there : (k : ℕ) (o : Option ℕ) → get nat_cmp p.roots k ≡ o → IsSome o → IsSome (get nat_cmp q.roots k)
       root_there k None e wrong = absurd (cc)
       root_there k (Some s) e some = subst IsSome (sym (root_kept p q i new IsEdge it is_new k s e)) refl
+
+      copy_rooted : (k n : ℕ) → (get nat_cmp p.copies k ≡ Some n) ⊎ ((k ≡ i) × (new.copy ≡ Some n)) → IsSome (get nat_cmp q.roots k)
+      copy_rooted k n (inl before) = root_there k (get nat_cmp p.roots k) refl (good.copies k n before)
+      copy_rooted k n (inr (same, is)) = subst (λ j. IsSome (get nat_cmp q.roots j)) (sym same) (subst IsSome (sym it.roots.1) refl)
 
       result_good : (k n : ℕ) → (get nat_cmp p.results k ≡ Some n) ⊎ ((k ≡ i) × (new.result ≡ Some n)) → IsResult q k n
       result_good k n (inl before) =
@@ -195,7 +200,7 @@ module _ (p q : Posing) (i : ℕ) (good : IsGood p) (is_new : IsNew p i) where
       each (suc k) = (no_states (IsState q.automaton) Positive, tt)
 
   -- a node of three, of which the second flows into the first, and the third has this head
-  result_good : (head : Head) (goals : List Goal) (result : Option ℕ) → Adds p q i (record { states = positive empty_head ∷ negative empty_head ∷ negative head ∷ []; goals = goals; needs = []; root = size p; result = result }) (OneEdge (suc (size p)) (size p))
+  result_good : (head : Head) (goals : List Goal) (result : Option ℕ) → Adds p q i (record { states = positive empty_head ∷ negative empty_head ∷ negative head ∷ []; goals = goals; needs = []; root = size p; copy = None; result = result }) (OneEdge (suc (size p)) (size p))
       → (((r : Polarity) (s : ℕ) → IsState p.automaton r s → IsState q.automaton r s) → IsState q.automaton Negative (suc (size p)) → HasStatesIn (IsState q.automaton) Negative head) → HasRisingLabels head.fields
       → ((g : Goal) → Contains goals g → IsState p.automaton Positive g.positive.0 × ((g.negative.0 ≡ suc (size p)) ⊎ (g.negative.0 ≡ suc (suc (size p)))))
       → ((n : ℕ) → result ≡ Some n → n ≡ suc (size p)) → IsGood q
@@ -207,19 +212,19 @@ module _ (p q : Posing) (i : ℕ) (good : IsGood p) (is_new : IsNew p i) where
       (λ n e. (subst (IsState q.automaton Negative) (sym (noted n e)) into, (it.flows n (size p)).1 (inr (noted n e, refl))))
     where
       new : Added
-      new = record { states = positive empty_head ∷ negative empty_head ∷ negative head ∷ []; goals = goals; needs = []; root = size p; result = result }
+      new = record { states = positive empty_head ∷ negative empty_head ∷ negative head ∷ []; goals = goals; needs = []; root = size p; copy = None; result = result }
 
       old : (r : Polarity) (s : ℕ) → IsState p.automaton r s → IsState q.automaton r s
-      old = old_state p q i (record { states = positive empty_head ∷ negative empty_head ∷ negative head ∷ []; goals = goals; needs = []; root = size p; result = result }) (OneEdge (suc (size p)) (size p)) it good
+      old = old_state p q i (record { states = positive empty_head ∷ negative empty_head ∷ negative head ∷ []; goals = goals; needs = []; root = size p; copy = None; result = result }) (OneEdge (suc (size p)) (size p)) it good
 
       root : IsState q.automaton Positive (size p)
-      root = let at : size p + 0 ≡ size p = omega arith in subst (IsState q.automaton Positive) at (fresh_state p q i (record { states = positive empty_head ∷ negative empty_head ∷ negative head ∷ []; goals = goals; needs = []; root = size p; result = result }) (OneEdge (suc (size p)) (size p)) it good 0 (omega arith))
+      root = let at : size p + 0 ≡ size p = omega arith in subst (IsState q.automaton Positive) at (fresh_state p q i (record { states = positive empty_head ∷ negative empty_head ∷ negative head ∷ []; goals = goals; needs = []; root = size p; copy = None; result = result }) (OneEdge (suc (size p)) (size p)) it good 0 (omega arith))
 
       into : IsState q.automaton Negative (suc (size p))
-      into = let at : size p + 1 ≡ suc (size p) = omega arith in subst (IsState q.automaton Negative) at (fresh_state p q i (record { states = positive empty_head ∷ negative empty_head ∷ negative head ∷ []; goals = goals; needs = []; root = size p; result = result }) (OneEdge (suc (size p)) (size p)) it good 1 (omega arith))
+      into = let at : size p + 1 ≡ suc (size p) = omega arith in subst (IsState q.automaton Negative) at (fresh_state p q i (record { states = positive empty_head ∷ negative empty_head ∷ negative head ∷ []; goals = goals; needs = []; root = size p; copy = None; result = result }) (OneEdge (suc (size p)) (size p)) it good 1 (omega arith))
 
       upper : IsState q.automaton Negative (suc (suc (size p)))
-      upper = let at : size p + 2 ≡ suc (suc (size p)) = omega arith in subst (IsState q.automaton Negative) at (fresh_state p q i (record { states = positive empty_head ∷ negative empty_head ∷ negative head ∷ []; goals = goals; needs = []; root = size p; result = result }) (OneEdge (suc (size p)) (size p)) it good 2 (omega arith))
+      upper = let at : size p + 2 ≡ suc (suc (size p)) = omega arith in subst (IsState q.automaton Negative) at (fresh_state p q i (record { states = positive empty_head ∷ negative empty_head ∷ negative head ∷ []; goals = goals; needs = []; root = size p; copy = None; result = result }) (OneEdge (suc (size p)) (size p)) it good 2 (omega arith))
 
       lower : (g : Goal) → (g.negative.0 ≡ suc (size p)) ⊎ (g.negative.0 ≡ suc (suc (size p))) → IsState q.automaton Negative g.negative.0
       lower g (inl is) = subst (IsState q.automaton Negative) (sym is) into
@@ -393,9 +398,9 @@ module _ (p q : Posing) (i : ℕ) (good : IsGood p) (is_new : IsNew p i) where
       ]
 
   -- a use that shares the copy of another one
-  pub shared_good : (j : ℕ) → HasRoot j → Adds p q i (shared_added (root_in p j)) NoEdge → IsGood q
+  pub shared_good : (j : ℕ) → HasRoot j → Adds p q i (shared_added (root_in p j) (copy_in p j)) NoEdge → IsGood q
   shared_good j rooted it =
-      adds_good p q i (shared_added (root_in p j)) NoEdge it good is_new (λ k. (no_states (IsState q.automaton) Positive, tt)) (λ n s edge. absurd edge)
+      adds_good p q i (shared_added (root_in p j) (copy_in p j)) NoEdge it good is_new (λ k. (no_states (IsState q.automaton) Positive, tt)) (λ n s edge. absurd edge)
       (λ g there. let low : there.0 < 0 = there.1 in absurd (omega arith))
-      (old_state p q i (shared_added (root_in p j)) NoEdge it good Positive (root_in p j) (root_before j rooted))
+      (old_state p q i (shared_added (root_in p j) (copy_in p j)) NoEdge it good Positive (root_in p j) (root_before j rooted))
       (λ need there. let low : there.0 < 0 = there.1 in absurd (omega arith)) (λ n e. absurd (none_noted n e))

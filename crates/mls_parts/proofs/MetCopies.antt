@@ -1,5 +1,6 @@
 -- The copy of a known type, where binders have what is needed of them.
 --     renamed_within      a head lies within itself under other numbers
+--     plain               a copied state of no binder has its number by that of the first
 --     copy_met
 use Rattle.std.proofs.Common.{◌≡◌, ◌⊎◌, inl, inr, ℕ, suc, ◌+◌, ◌<◌, Bool, true, false, List, [], ◌∷◌, map, length, All, Contains, refl, sym, ap, ◌∙◌, subst, arith, Option, Some, None}
 use Rattle.std.specs.Prelude.{bytes_eq, cond, find, option_map}
@@ -121,7 +122,7 @@ module _ (binders : List ℕ) (q : Posing) (a : Automaton) (s : Scheme) (n : ℕ
   copy k = place_of (find (is_of k) s.env) k
 
   -- the states of heads and the positive ends of edges are those of no binder
-  plain : (k : ℕ) → k < many → IsOfNoBinder s k → copy k ≡ n + k
+  pub plain : (k : ℕ) → k < many → IsOfNoBinder s k → copy k ≡ n + k
   plain k low none = go (find (is_of k) s.env) refl
     where
       here : (w : (k < many) ⊎ ((j : ℕ) × (k ≡ many + j))) → own k w ≡ n + k

@@ -22,16 +22,16 @@ use Rattle.mls_term.specs.declared.term.TermForm.TheVariants as form
 use Rattle.mls_term.specs.declared.term.TermNode.{TermNode}
 use Rattle.mls_parts.specs.declared.pose.Need.{Need}
 use Rattle.mls_parts.specs.declared.pose.Posing.{Posing}
-use Rattle.mls_parts.specs.MetCopies.{IsCopyMet, IsUseMet}
+use Rattle.mls_parts.specs.MetCopies.{HasCopy, IsUseMet}
 use Rattle.mls_parts.specs.MetNeeds.{AreNeeds, HasMet, needy}
-use Rattle.mls_parts.specs.PosedCopies.{IsCopyAt, IsGood, IsUsePosed}
+use Rattle.mls_parts.specs.PosedCopies.{HasCopyAt, IsGood, IsUsePosed}
 use Rattle.mls_parts.specs.PosedGoals.{constraint_of, IsPosedAt}
 use Rattle.mls_parts.specs.PosedModels.{HasModel}
 use Rattle.mls_layout.specs.PosedNodes.{IsNodePosed}
 use Rattle.mls_parts.specs.PosedParts.{ArePosable, HasKnownType, HavePosed, IsBegun, IsKnownType, IsPartPosed, IsPosable}
 use Rattle.mls_parts.specs.Posings.{binder_in, known_in, number_at, or_zero, root_in}
 use Rattle.mls_parts.proofs.BegunPosings.{begun_model}
-use Rattle.mls_parts.proofs.MetCopies.{copy, copy_met, copy_root}
+use Rattle.mls_parts.proofs.MetCopies.{copy, copy_met, copy_root, plain}
 use Rattle.mls_parts.proofs.PosedParts.{binder_state, binder_there}
 
 -- what is needed may be met
@@ -126,28 +126,36 @@ module _ (q : Posing) (good : IsGood q) where
     module _ (binders : List ℕ) (globals lets : BTreeMap ℕ Scheme) (around : (x : ℕ) → Contains binders x → IsState q.automaton Negative (binder_in q x))
         (i : ℕ) (root_state : IsState q.automaton Positive (root_in q i)) where
       abbrev MetUse : ℕ → TermForm → Type 0
-      MetUse = IsUseMet (known_in globals) (known_in lets) a (root_in q) (binder_in q)
+      MetUse = IsUseMet (known_in globals) (known_in lets) a (root_in q) (binder_in q) q.copies
 
-      use_met : (s : Scheme) (n : ℕ) (o : Option Scheme) → HasKnownType binders o → o ≡ Some s → IsCopyAt q s n → (c : ℕ → ℕ) × IsCopyMet a (binder_in q) s c × (c s.root.0 ≡ n + s.root.0)
-      use_met s n None known e at = absurd known
-      use_met s n (Some t) known e at =
+      use_met : (s : Scheme) (o : Option Scheme) → HasKnownType binders o → o ≡ Some s → (at : HasCopyAt q i s) → (has : HasCopy a (binder_in q) q.copies i s) × (has.copy s.root.0 ≡ at.first + s.root.0)
+      use_met s None known e at = absurd known
+      use_met s (Some t) known e at =
           let same : t ≡ s = cc in
           let is : IsKnownType binders s = subst (IsKnownType binders) same known in
-          let entries : (entry : EnvEntry) → Contains s.env entry → IsState q.automaton Negative (binder_in q entry.binder) = λ entry there. around entry.binder (is.around entry there) in
-          (copy binders q a s n is at met entries low, copy_met binders q a s n is at met entries low, copy_root binders q a s n is at met entries low)
+          let entries : (entry : EnvEntry) → Contains s.env entry → IsState q.automaton Negative (binder_in q entry.binder) = λ entry there. around entry.binder (is.around entry there) in (
+            record {
+              copy = copy binders q a s at.first is at.stands met entries low;
+              met = copy_met binders q a s at.first is at.stands met entries low;
+              first = at.first;
+              noted = at.noted;
+              stands = plain binders q a s at.first is at.stands met entries low;
+            },
+            copy_root binders q a s at.first is at.stands met entries low,
+          )
         where
-          low : (need : Need) → Contains q.needs need → needy q.binders need < n
+          low : (need : Need) → Contains q.needs need → needy q.binders need < at.first
           low need there = go (get nat_cmp q.binders need.binder) refl (good.around need there)
             where
-              go : (o : Option ℕ) → get nat_cmp q.binders need.binder ≡ o → IsSome o → needy q.binders need < n
+              go : (o : Option ℕ) → get nat_cmp q.binders need.binder ≡ o → IsSome o → needy q.binders need < at.first
               go None e' wrong = absurd (cc)
-              go (Some m) e' some = subst (λ k. k < n) (sym (ap or_zero e')) (at.behind need.binder m e')
+              go (Some m) e' some = subst (λ k. k < at.first) (sym (ap or_zero e')) (at.stands.behind need.binder m e')
 
       pub node_met : (f : TermForm) → IsPosable binders globals lets f → IsNodePosed q.automaton (IsGoal q.goals) (root_in q) (binder_in q) (IsUsePosed (known_in globals) (known_in lets) q) i f
           → IsNodePosed a (IsGoal q.goals) (root_in q) (binder_in q) MetUse i f
       node_met (form.Bound x) can edge = flow_met (binder_in q x) (root_in q i) edge
-      node_met (form.Inner k) can (s, n, is, at, root) = let it = use_met s n (known_in lets k) can is at in (s, it.0, is, it.1, root ∙ sym it.2)
-      node_met (form.Global g) can (s, n, is, at, root) = let it = use_met s n (known_in globals g) can is at in (s, it.0, is, it.1, root ∙ sym it.2)
+      node_met (form.Inner k) can (s, is, at, root) = let it = use_met s (known_in lets k) can is at in (s, is, it.0, root ∙ sym it.1)
+      node_met (form.Global g) can (s, is, at, root) = let it = use_met s (known_in globals g) can is at in (s, is, it.0, root ∙ sym it.1)
       node_met (form.Number value) can it = (met.polarity (root_in q i) ∙ it.0, ap (λ (h : Head). h.integer) (positive_kept (root_in q i) it.0) ∙ it.1)
       node_met (form.Truth value) can it = (met.polarity (root_in q i) ∙ it.0, ap (λ (h : Head). h.boolean) (positive_kept (root_in q i) it.0) ∙ it.1)
       node_met (form.Fun x j) can it = (met.polarity (root_in q i) ∙ it.0, ap (λ (h : Head). h.function) (positive_kept (root_in q i) it.0) ∙ it.1)
@@ -161,7 +169,7 @@ module _ (q : Posing) (good : IsGood q) where
       )
       node_met (form.Project j label) can (g, n, head, up, edge) = (g, n, fields_kept g _ head, up, flow_met n (root_in q i) edge)
       node_met (form.If j k l) can (bit, n, head, first, second, third, edge) = (bit, n, boolean_kept bit head, first, second, third, flow_met n (root_in q i) edge)
-      node_met (form.Let k j l) can (same, (s, n, is, at)) = let it = use_met s n (known_in lets k) can is at in (same, (s, it.0, is, it.1))
+      node_met (form.Let k j l) can (same, (s, is, at)) = (same, (s, is, (use_met s (known_in lets k) can is at).0))
       node_met (form.Rec x j) can it = it
 
       -- the states of goals stay where they are

@@ -3,10 +3,11 @@
 --     node_posed          and the node is posed
 --     node_posed_at       with the states of its goals where its form says
 --     node_extends, node_root
---     used_again          a use whose root is that of another use of its name
+--     used_again          a use whose root and copy are those of another use of its name
 --     name_posed_at
---     noted_cases         what is noted of conditionals
---     node_noted
+--     noted_cases         what is noted of nodes
+--     noted_again         of one node is noted what is noted of another one
+--     node_noted          what is noted of conditionals
 use Rattle.std.proofs.Common.{◌≡◌, ◌⊎◌, inl, inr, ℕ, suc, ◌+◌, Bool, true, false, List, [], ◌∷◌, map, length, get_or, Contains, refl, sym, ap, ◌∙◌, subst, arith, Option, Some, None, length-append, IsSome}
 use Rattle.std.specs.Prelude.{cond}
 use Rattle.std.specs.BTreeMap.{BTreeMap, get, Updates}
@@ -50,6 +51,23 @@ noted_cases before after i (Some m) it k n e = go (is_eq (nat_cmp i k)) refl (it
     go true same is = inr (sym (same_key i k same), sym is ∙ e)
     go false other is = inl (sym is ∙ e)
 
+-- what was noted of other nodes stays noted
+noted_kept : (before after : BTreeMap ℕ ℕ) (i : ℕ) (result : Option ℕ) → IsNoted before after i result → (k n : ℕ) → (i ≡ k → ⊥) → get nat_cmp before k ≡ Some n → get nat_cmp after k ≡ Some n
+noted_kept before after i None same k n other e = ap (λ rs. get nat_cmp rs k) same ∙ e
+noted_kept before after i (Some m) it k n other e = go (is_eq (nat_cmp i k)) refl (it.0 k)
+  where
+    go : (b : Bool) → is_eq (nat_cmp i k) ≡ b → get nat_cmp after k ≡ cond b (Some m) (get nat_cmp before k) → get nat_cmp after k ≡ Some n
+    go true same is = absurd (other (same_key i k same))
+    go false apart is = is ∙ e
+
+-- of one node is noted what is noted of another one
+pub noted_again : (before after : BTreeMap ℕ ℕ) (i j : ℕ) → Updates nat_cmp before after i (Some (number_at before j)) → (n : ℕ) → get nat_cmp after j ≡ Some n → get nat_cmp after i ≡ Some n
+noted_again before after i j it n e = go (is_eq (nat_cmp i j)) refl (it.0 j)
+  where
+    go : (b : Bool) → is_eq (nat_cmp i j) ≡ b → get nat_cmp after j ≡ cond b (Some (number_at before j)) (get nat_cmp before j) → get nat_cmp after i ≡ Some n
+    go true same is = subst (λ k. get nat_cmp after k ≡ Some n) (sym (same_key i j same)) e
+    go false apart is = it.1 ∙ ap (λ o. Some (or_zero o)) (sym is ∙ e)
+
 -- nothing is noted of a node of another form
 pub none_noted : (n : ℕ) → None ≡ Some n → ⊥
 none_noted n e = cc
@@ -72,14 +90,9 @@ module _ (p q : Posing) (i : ℕ) (new : Added) (IsEdge : ℕ → ℕ → Type 0
           absurd (is_new (subst IsSome (sym at) refl))
       go false other is = is ∙ e
 
-  -- what was noted of conditionals stays noted
-  noted_kept : IsGood p → IsNew p i → (k n : ℕ) → get nat_cmp p.results k ≡ Some n → get nat_cmp q.results k ≡ Some n
-  noted_kept good is_new k n e = go new.result it.results (is_eq (nat_cmp i k)) refl
-    where
-      go : (result : Option ℕ) → IsNoted p.results q.results i result → (b : Bool) → is_eq (nat_cmp i k) ≡ b → get nat_cmp q.results k ≡ Some n
-      go None same b at = ap (λ rs. get nat_cmp rs k) same ∙ e
-      go (Some m) noted true at = absurd (is_new (subst (λ j. IsSome (get nat_cmp p.roots j)) (sym (same_key i k at)) (good.results k n e).rooted))
-      go (Some m) noted false at = subst (λ b. get nat_cmp q.results k ≡ cond b (Some m) (get nat_cmp p.results k)) at (noted.0 k) ∙ e
+  -- a node that had a root is another one
+  other_node : IsNew p i → (k : ℕ) → IsSome (get nat_cmp p.roots k) → i ≡ k → ⊥
+  other_node is_new k rooted same = is_new (subst (λ j. IsSome (get nat_cmp p.roots j)) (sym same) rooted)
 
   pub adds_extends : IsGood p → IsNew p i → Extends p q
   adds_extends good is_new = record {
@@ -92,7 +105,8 @@ module _ (p q : Posing) (i : ℕ) (new : Added) (IsEdge : ℕ → ℕ → Type 0
     roots = root_kept is_new;
     binders = it.binders;
     needs = λ need there. subst (λ (ns : List Need). Contains ns need) (sym it.needs) (Contains-append_left p.needs new.needs need there);
-    results = noted_kept good is_new;
+    copies = λ k n e. noted_kept p.copies q.copies i new.copy it.copies k n (other_node is_new k (good.copies k n e)) e;
+    results = λ k n e. noted_kept p.results q.results i new.result it.results k n (other_node is_new k (good.results k n e).rooted) e;
   }
 
   -- the root of a node that had one
@@ -165,8 +179,10 @@ module _ (known_global known_let : ℕ → Option Scheme) (p q : Posing) (i : �
   pub node_posed : (f : TermForm) → AddsNode known_global known_let p q i f → HasPartsIn HasRoot f → Posed f
   node_posed (form.Bound x) it parts =
       subst (λ n. HasFlow q.automaton n (root_in q i)) (sym (same_binder p q i _ _ it x)) (into_root _ (binder_in p x) it refl)
-  node_posed (form.Inner k) it parts = (it.0, size p, it.1, copy_there p q i it.0 _ good it.2, root_is p q i _ _ it.2)
-  node_posed (form.Global g) it parts = (it.0, size p, it.1, copy_there p q i it.0 _ good it.2, root_is p q i _ _ it.2)
+  node_posed (form.Inner k) it parts =
+      (it.0, it.1, record { first = size p; noted = it.2.copies.1; stands = copy_there p q i it.0 _ good it.2 }, root_is p q i _ _ it.2)
+  node_posed (form.Global g) it parts =
+      (it.0, it.1, record { first = size p; noted = it.2.copies.1; stands = copy_there p q i it.0 _ good it.2 }, root_is p q i _ _ it.2)
   node_posed (form.Number value) it parts =
       let at = root_state _ _ it refl in
       (ap (λ (s : State). s.polarity) at, ap (λ (s : State). s.head.integer) at)
@@ -230,7 +246,7 @@ module _ (known_global known_let : ℕ → Option Scheme) (p q : Posing) (i : �
   )
   node_posed (form.Let k j l) it parts = (
     root_is p q i _ _ it.2 ∙ sym (same_root p q i _ _ it.2 is_new l parts),
-    (it.0, size p, it.1, copy_there p q i it.0 _ good it.2),
+    (it.0, it.1, record { first = size p; noted = it.2.copies.1; stands = copy_there p q i it.0 _ good it.2 }),
   )
   node_posed (form.Rec x j) it parts = (
     root_is p q i _ _ it ∙ sym (same_root p q i _ _ it is_new j parts),
@@ -369,14 +385,16 @@ named globals lets (form.If j k l) none = none
 named globals lets (form.Let k j l) none = none
 named globals lets (form.Rec x j) none = none
 
-module _ (known_global known_let : ℕ → Option Scheme) (q : Posing) (i j : ℕ) (same : root_in q i ≡ root_in q j) where
+module _ (known_global known_let : ℕ → Option Scheme) (q : Posing) (i j : ℕ) (same : root_in q i ≡ root_in q j) (again : (n : ℕ) → get nat_cmp q.copies j ≡ Some n → get nat_cmp q.copies i ≡ Some n) where
   abbrev PosedAt : ℕ → TermForm → Type 0
   PosedAt k f = IsNodePosed q.automaton (IsGoal q.goals) (root_in q) (binder_in q) (IsUsePosed known_global known_let q) k f
 
   pub used_again : (f : TermForm) → IsName f → PosedAt j f → PosedAt i f
   used_again (form.Bound x) name at = absurd name
-  used_again (form.Inner k) name (s, n, is, copy, root) = (s, n, is, copy, same ∙ root)
-  used_again (form.Global g) name (s, n, is, copy, root) = (s, n, is, copy, same ∙ root)
+  used_again (form.Inner k) name (s, is, has, root) =
+      (s, is, record { first = has.first; noted = again has.first has.noted; stands = has.stands }, same ∙ root)
+  used_again (form.Global g) name (s, is, has, root) =
+      (s, is, record { first = has.first; noted = again has.first has.noted; stands = has.stands }, same ∙ root)
   used_again (form.Number value) name at = absurd name
   used_again (form.Truth value) name at = absurd name
   used_again (form.Fun x k) name at = absurd name

@@ -17,7 +17,7 @@ use Rattle.mls_infer.proofs.Solvable.{goal_in, pair_in}
 use Rattle.mls_term.specs.declared.term.TermForm.{TermForm}
 use Rattle.mls_term.specs.declared.term.TermForm.TheVariants as form
 use Rattle.mls_parts.specs.declared.pose.Posing.{Posing}
-use Rattle.mls_parts.specs.PosedCopies.{Extends, IsCopyAt, IsGood, IsUsePosed}
+use Rattle.mls_parts.specs.PosedCopies.{Extends, HasCopyAt, IsCopyAt, IsGood, IsUsePosed}
 use Rattle.mls_layout.specs.Parts.{IsGoalOf}
 use Rattle.mls_layout.specs.PosedNodes.{HasPartsIn, IsNodePosed}
 use Rattle.mls_parts.specs.PosedGoals.{constraint_of, IsAppliedAt, IsPosedAt, IsProjectedAt}
@@ -32,6 +32,7 @@ extends_self p = record {
   roots = λ i s e. e;
   binders = refl;
   needs = λ need there. there;
+  copies = λ i n e. e;
   results = λ i n e. e;
 }
 
@@ -44,6 +45,7 @@ extends_all p q r first second = record {
   roots = λ i s e. second.roots i s (first.roots i s e);
   binders = second.binders ∙ first.binders;
   needs = λ need there. second.needs need (first.needs need there);
+  copies = λ i n e. second.copies i n (first.copies i n e);
   results = λ i n e. second.results i n (first.results i n e);
 }
 
@@ -148,14 +150,18 @@ module _ (p q : Posing) (it : Extends p q) where
     posed_at_kept (form.Let k j l) parts at = tt
     posed_at_kept (form.Rec x j) parts at = tt
 
+    -- its copy stays, from the same state on
+    abbrev has_kept : (s : Scheme) → HasCopyAt p i s → HasCopyAt q i s
+    has_kept s has = record { first = has.first; noted = it.copies i has.first has.noted; stands = kept_copy s has.first has.stands }
+
     module _ (known_global known_let : ℕ → Option Scheme) where
       abbrev Posed : Posing → TermForm → Type 0
       Posed r f = IsNodePosed r.automaton (IsGoal r.goals) (root_in r) (binder_in r) (IsUsePosed known_global known_let r) i f
 
       pub posed_kept : (f : TermForm) → HasPartsIn HasRoot f → Posed p f → Posed q f
       posed_kept (form.Bound x) parts edge = subst (λ n. HasFlow q.automaton n (root_in q i)) (sym (kept_binder x)) (into_root (binder_in p x) edge)
-      posed_kept (form.Inner k) parts (s, n, is, copy, root) = (s, n, is, kept_copy s n copy, same_root ∙ root)
-      posed_kept (form.Global g) parts (s, n, is, copy, root) = (s, n, is, kept_copy s n copy, same_root ∙ root)
+      posed_kept (form.Inner k) parts (s, is, has, root) = (s, is, has_kept s has, same_root ∙ root)
+      posed_kept (form.Global g) parts (s, is, has, root) = (s, is, has_kept s has, same_root ∙ root)
       posed_kept (form.Number value) parts at = (ap (λ (s : State). s.polarity) root_state ∙ at.0, ap (λ (s : State). s.head.integer) root_state ∙ at.1)
       posed_kept (form.Truth value) parts at = (ap (λ (s : State). s.polarity) root_state ∙ at.0, ap (λ (s : State). s.head.boolean) root_state ∙ at.1)
       posed_kept (form.Fun x j) parts at = (
@@ -194,7 +200,7 @@ module _ (p q : Posing) (it : Extends p q) where
         kept_goal l n parts.2 third,
         into_root n edge,
       )
-      posed_kept (form.Let k j l) parts (root, (s, n, is, copy)) = (same_root ∙ (root ∙ sym (kept_root l parts)), (s, n, is, kept_copy s n copy))
+      posed_kept (form.Let k j l) parts (root, (s, is, has)) = (same_root ∙ (root ∙ sym (kept_root l parts)), (s, is, has_kept s has))
       posed_kept (form.Rec x j) parts (root, there) = (
         same_root ∙ (root ∙ sym (kept_root j parts)),
         subst (λ n. IsGoal q.goals (root_in q j) n) (sym (kept_binder x)) (kept_goal j (binder_in p x) parts there),

@@ -48,7 +48,7 @@ use Rattle.mls_parts.specs.PosedModels.{AreOver, HasModel}
 use Rattle.mls_parts.proofs.GoodPosings.{known_from}
 use Rattle.mls_book.proofs.Depths.{Implies-same, Implies-trans}
 use Rattle.mls_parts.specs.steps.Sharing.{HasNoEdges, IsWithoutEdges, shared_added}
-use Rattle.mls_parts.specs.Posings.{Added, Adds, AddsNode, CanPose, known_in, IsCopiedEdge, IsKnownTo, NoEdge, OneEdge, binder_in, bool_head, choice_goals, copied_need, copy_added, fix_added, function_head, goal, int_head, IsBranch, joined_choice_added, literal_added, negative, one_field, or_zero, positive, record_head, root_in, size}
+use Rattle.mls_parts.specs.Posings.{Added, Adds, AddsNode, CanPose, known_in, IsCopiedEdge, IsKnownTo, NoEdge, OneEdge, binder_in, bool_head, choice_goals, copied_need, copy_added, fix_added, function_head, goal, int_head, IsBranch, joined_choice_added, literal_added, negative, one_field, or_zero, positive, record_head, copy_in, root_in, size}
 use Rattle.mls_automaton.specs.declared.scheme.EnvEntry.{EnvEntry}
 use Rattle.mls_automaton.specs.declared.scheme.Scheme.{Scheme}
 use Rattle.mls_automaton.proofs.BookValues.{root-value}
@@ -334,17 +334,17 @@ module _ (p : Posing) (good : IsGood p) (type binder : ℕ → Predicate) (m : H
       pub at_upper : V (suc (suc (size p))) ≡ upper
       at_upper = let at : suc (suc (size p)) ≡ size p + 2 = omega arith in ap V at ∙ at_fresh 2
 
-      pub result_model : (result : Option ℕ) → Adds p q i (record { states = positive empty_head ∷ negative empty_head ∷ negative head ∷ []; goals = goals; needs = no_needs; root = size p; result = result }) (OneEdge (suc (size p)) (size p))
+      pub result_model : (result : Option ℕ) → Adds p q i (record { states = positive empty_head ∷ negative empty_head ∷ negative head ∷ []; goals = goals; needs = no_needs; root = size p; copy = None; result = result }) (OneEdge (suc (size p)) (size p))
           → (((s : ℕ) → s < size p → V s ≡ m.value s) → Implies upper (head_value Negative V head)) → ((g : Goal) → Contains goals g → Implies (V g.positive.0) (V g.negative.0))
           → ((n : ℕ) → result ≡ Some n → n ≡ suc (size p)) → HasModel q type binder
       result_model result it below up noted =
-          adds_model p q i (record { states = positive empty_head ∷ negative empty_head ∷ negative head ∷ []; goals = goals; needs = no_needs; root = size p; result = result }) (OneEdge (suc (size p)) (size p)) it good type binder m fresh fresh_types met
+          adds_model p q i (record { states = positive empty_head ∷ negative empty_head ∷ negative head ∷ []; goals = goals; needs = no_needs; root = size p; copy = None; result = result }) (OneEdge (suc (size p)) (size p)) it good type binder m fresh fresh_types met
           (λ n s edge. subst (λ n. Implies (V n) (V s)) (sym edge.0) (subst (λ s. Implies (V (suc (size p))) (V s)) (sym edge.1) (Implies-same (V (suc (size p))) (V (size p)) (at_into ∙ sym at_root))))
           up at_root (λ need there. nothing_need (λ need. Implies (binder need.binder) (head_value Negative V need.head)) need there)
           (λ n e. ap V (noted n e) ∙ at_into)
         where
           at : (k : ℕ) → state_at q.automaton (size p + k) ≡ get_or (positive empty_head ∷ negative empty_head ∷ negative head ∷ []) k (record { polarity = Positive; head = empty_head })
-          at k = new_state p q i (record { states = positive empty_head ∷ negative empty_head ∷ negative head ∷ []; goals = goals; needs = no_needs; root = size p; result = result }) (OneEdge (suc (size p)) (size p)) it k
+          at k = new_state p q i (record { states = positive empty_head ∷ negative empty_head ∷ negative head ∷ []; goals = goals; needs = no_needs; root = size p; copy = None; result = result }) (OneEdge (suc (size p)) (size p)) it k
 
           met : (k : ℕ) → IsInside (state_at q.automaton (size p + k)).polarity (head_value (state_at q.automaton (size p + k)).polarity V (state_at q.automaton (size p + k)).head) (V (size p + k))
           met zero = subst (λ (x : State). IsInside x.polarity (head_value x.polarity V x.head) (V (size p + 0))) (sym (at 0)) (past_met V (size p + 0))
@@ -563,12 +563,12 @@ module _ (p : Posing) (good : IsGood p) (type binder : ℕ → Predicate) (m : H
       same_types j (form.Rec x k) none first second = absurd none
 
       pub shared_model : (j : ℕ) (f : TermForm) → HasRoot j → HasNoEdges globals lets f → IsNodeTyped nodes known type binder j f → IsNodeTyped nodes known type binder i f
-          → Adds p q i (shared_added (root_in p j)) NoEdge → HasModel q type binder
+          → Adds p q i (shared_added (root_in p j) (copy_in p j)) NoEdge → HasModel q type binder
       shared_model j f rooted none first second it =
           let at = root_low j rooted in
           let U : ℕ → Predicate = extended (size p) m.value (λ k. top) in
-          adds_model p q i (shared_added (root_in p j)) NoEdge it good type binder m (λ k. top) (λ k. top_type)
-          (λ k. subst (λ (y : State). IsInside y.polarity (head_value y.polarity U y.head) (U (size p + k))) (sym (new_state p q i (shared_added (root_in p j)) NoEdge it k)) (past_met U (size p + k)))
+          adds_model p q i (shared_added (root_in p j) (copy_in p j)) NoEdge it good type binder m (λ k. top) (λ k. top_type)
+          (λ k. subst (λ (y : State). IsInside y.polarity (head_value y.polarity U y.head) (U (size p + k))) (sym (new_state p q i (shared_added (root_in p j) (copy_in p j)) NoEdge it k)) (past_met U (size p + k)))
           (λ n s edge. absurd edge)
           (λ g there. nothing_goal (λ g. Implies (U g.positive.0) (U g.negative.0)) g there)
           (extended_old (size p) m.value (λ k. top) (root_in p j) at.0 ∙ (at.1 ∙ same_types j f none first second))

@@ -28,13 +28,13 @@ use Rattle.mls_parts.specs.PosedParts.{HasKnownType, HavePosed, IsBegun, IsPosab
 use Rattle.mls_parts.specs.PosedGoals.{constraint_of, IsPosedAt}
 use Rattle.mls_parts.specs.PosedModels.{AreOver, HasModel}
 use Rattle.mls_parts.specs.NodeTypes.{IsConditional, IsNodeTyped}
-use Rattle.mls_parts.specs.Posings.{Adds, AddsNode, CanPose, HasKnown, NoEdge, binder_in, known_in, or_zero, root_in}
+use Rattle.mls_parts.specs.Posings.{Adds, AddsNode, CanPose, HasKnown, NoEdge, binder_in, copy_in, known_in, or_zero, root_in}
 use Rattle.mls_parts.specs.declared.shared.Shared.{Shared}
 use Rattle.mls_parts.specs.steps.Sharing.{AreShared, HasNoEdges, PosesNext, first_use, shared_added}
 use Rattle.mls_parts.proofs.BegunPosings.{begun_good}
 use Rattle.mls_parts.proofs.GoodPosings.{node_good, shared_good}
 use Rattle.mls_parts.proofs.PartLists.{parts_more}
-use Rattle.mls_parts.proofs.PosedByNode.{IsChoiceForm, adds_extends, name_posed_at, node_extends, node_noted, node_posed, node_posed_at, node_root, root_is, used_again, named}
+use Rattle.mls_parts.proofs.PosedByNode.{IsChoiceForm, adds_extends, name_posed_at, node_extends, node_noted, node_posed, node_posed_at, node_root, noted_again, root_is, used_again, named}
 use Rattle.mls_parts.proofs.PosedKept.{extends_all, extends_self, posed_at_kept, posed_kept}
 use Rattle.mls_parts.proofs.PosedKept.{kept_root as root_stays}
 use Rattle.mls_parts.proofs.PosedModels.{node_model, shared_model}
@@ -194,16 +194,17 @@ module _ (nodes : List TermNode) (globals lets : BTreeMap ℕ Scheme) (begun : P
         (λ known over type bind types typed m. node_model p it.good type bind m q i types nodes known globals lets over f adds (λ b n e. (it.results b n e).1) rooted_parts binder can (typed i f (Contains-push done i) form_is))
 
     -- with the copy of another use of its name
-    pub pose_again : (j : ℕ) → Contains done j → form_at nodes j ≡ Some f → HasNoEdges globals lets f → Adds p q i (shared_added (root_in p j)) NoEdge → HavePosed nodes globals lets begun q (done ++ i ∷ [])
+    pub pose_again : (j : ℕ) → Contains done j → form_at nodes j ≡ Some f → HasNoEdges globals lets f → Adds p q i (shared_added (root_in p j) (copy_in p j)) NoEdge → HavePosed nodes globals lets begun q (done ++ i ∷ [])
     pose_again j there same_form none adds =
-        let more : Extends p q = adds_extends p q i (shared_added (root_in p j)) NoEdge adds it.good is_new in
-        let root : root_in q i ≡ root_in q j = root_is p q i (shared_added (root_in p j)) NoEdge adds ∙ sym (root_stays p q more j (it.rooted j there)) in
+        let more : Extends p q = adds_extends p q i (shared_added (root_in p j) (copy_in p j)) NoEdge adds it.good is_new in
+        let root : root_in q i ≡ root_in q j = root_is p q i (shared_added (root_in p j) (copy_in p j)) NoEdge adds ∙ sym (root_stays p q more j (it.rooted j there)) in
+        let again : (n : ℕ) → get nat_cmp q.copies j ≡ Some n → get nat_cmp q.copies i ≡ Some n = noted_again p.copies q.copies i j adds.copies in
         posed_more p q done i f it form_is behind more (root_in p j) adds.roots
         (λ k n e. inl (ap (λ rs. get nat_cmp rs k) (sym adds.results) ∙ e))
         (shared_good p q i it.good is_new j (it.rooted j there) adds)
-        (used_again (known_in globals) (known_in lets) q i j root f (named globals lets f none)
+        (used_again (known_in globals) (known_in lets) q i j root again f (named globals lets f none)
         (posed_kept p q more it.good j (it.rooted j there) (known_in globals) (known_in lets) f (it.parts j f there same_form) (it.posed j f there same_form)))
-        (name_posed_at (known_in globals) (known_in lets) q i j root f (named globals lets f none))
+        (name_posed_at (known_in globals) (known_in lets) q i j root again f (named globals lets f none))
         (λ known over type bind types typed m.
         shared_model p it.good type bind m q i types nodes known globals lets over j f (it.rooted j there) none
         (typed j f (Contains-append_left done (i ∷ []) j there) same_form) (typed i f (Contains-push done i) form_is) adds)
@@ -213,7 +214,7 @@ module _ (nodes : List TermNode) (globals lets : BTreeMap ℕ Scheme) (begun : P
         → HavePosed nodes globals lets begun q (done ++ i ∷ []) × AreShared nodes globals lets (done ++ i ∷ []) after
     pose_either uses after are step binder can = (go step.adds, λ g j e. noted g j (step.notes g j e))
       where
-        go : ((j : ℕ) × (first_use uses f ≡ Some j) × Adds p q i (shared_added (root_in p j)) NoEdge) ⊎ AddsNode (known_in globals) (known_in lets) p q i f → HavePosed nodes globals lets begun q (done ++ i ∷ [])
+        go : ((j : ℕ) × (first_use uses f ≡ Some j) × Adds p q i (shared_added (root_in p j) (copy_in p j)) NoEdge) ⊎ AddsNode (known_in globals) (known_in lets) p q i f → HavePosed nodes globals lets begun q (done ++ i ∷ [])
         go (inl (j, first, adds)) = let at = are f j first in pose_again j at.0 at.1 at.2 adds
         go (inr adds) = pose_next adds binder can
 

@@ -4,7 +4,7 @@
 --     bound_added         a use of a binder
 --     three_goals         the goals of a conditional
 --     joined_choice       a conditional that shares the states of another one
-use Rattle.std.proofs.Common.{◌≡◌, ◌⊎◌, ◌↔◌, inl, inr, ℕ, suc, ◌+◌, List, [], ◌∷◌, ◌++◌, length, refl, sym, ap, ◌∙◌, subst, arith, Option, Some, length-append, Contains, get_or, ◌<◌}
+use Rattle.std.proofs.Common.{◌≡◌, ◌⊎◌, ◌↔◌, inl, inr, ℕ, suc, ◌+◌, List, [], ◌∷◌, ◌++◌, length, refl, sym, ap, ◌∙◌, subst, arith, Option, Some, None, length-append, Contains, get_or, ◌<◌}
 use Rattle.std.specs.BTreeMap.{Updates}
 use Rattle.std.specs.Ordering.{nat_cmp}
 use Rattle.std.proofs.Math.ListN.{get_or-append}
@@ -54,14 +54,15 @@ result_made p b d e h k root into is_h is_k is_b is_d is_root is_into same flows
       needs = refl;
       roots = refl;
       binders = refl;
+      copies = refl;
       results = refl;
     }
 
 pub result_added : (p m q : Posing) (i root : ℕ) (b : Automaton) (h k : Head) (goals : List Goal) (result : Option ℕ) → HasResult p m → root ≡ size p
     → b ≡ with_state m.automaton (negative h) → h ≡ k → q.automaton ≡ b → q.goals ≡ m.goals ++ goals → q.needs ≡ m.needs
-    → Updates nat_cmp m.roots q.roots i (Some root) → q.binders ≡ m.binders → IsNoted m.results q.results i result
-    → Adds p q i (record { states = positive empty_head ∷ negative empty_head ∷ negative k ∷ []; goals = goals; needs = no_needs; root = size p; result = result }) (OneEdge (suc (size p)) (size p))
-result_added p m q i root b h k goals result it is_root is_b is_h is_q goals_are needs_are updates binders_are noted =
+    → Updates nat_cmp m.roots q.roots i (Some root) → q.binders ≡ m.binders → q.copies ≡ m.copies → IsNoted m.results q.results i result
+    → Adds p q i (record { states = positive empty_head ∷ negative empty_head ∷ negative k ∷ []; goals = goals; needs = no_needs; root = size p; copy = None; result = result }) (OneEdge (suc (size p)) (size p))
+result_added p m q i root b h k goals result it is_root is_b is_h is_q goals_are needs_are updates binders_are copies_are noted =
     let q_is : q.automaton ≡ with_state m.automaton (negative k) = is_q ∙ (is_b ∙ ap (λ (x : Head). with_state m.automaton (negative x)) is_h) in
     record {
       states =
@@ -74,14 +75,15 @@ result_added p m q i root b h k goals result it is_root is_b is_h is_q goals_are
       needs = needs_are ∙ (it.needs ∙ sym (nil_behind p.needs));
       roots = subst (λ rs. Updates nat_cmp rs q.roots i (Some (size p))) it.roots (subst (λ r. Updates nat_cmp m.roots q.roots i (Some r)) is_root updates);
       binders = binders_are ∙ it.binders;
+      copies = copies_are ∙ it.copies;
       results = subst (λ rs. IsNoted rs q.results i result) it.results noted;
     }
 
 pub bound_added : (p q : Posing) (i state root : ℕ) (b : Automaton) (h : Head) → b ≡ with_state p.automaton (positive h) → h ≡ empty_head → root ≡ size p
     → q.automaton.states ≡ b.states → ((n s : ℕ) → HasFlow q.automaton n s ↔ (HasFlow b n s ⊎ ((n ≡ state) × (s ≡ root))))
-    → q.goals ≡ p.goals → q.needs ≡ p.needs → Updates nat_cmp p.roots q.roots i (Some root) → q.binders ≡ p.binders → q.results ≡ p.results
+    → q.goals ≡ p.goals → q.needs ≡ p.needs → Updates nat_cmp p.roots q.roots i (Some root) → q.binders ≡ p.binders → q.copies ≡ p.copies → q.results ≡ p.results
     → Adds p q i (literal_added (size p) empty_head) (OneEdge state (size p))
-bound_added p q i state root b h is_b is_h is_root same flows goals_are needs_are updates binders_are results_are =
+bound_added p q i state root b h is_b is_h is_root same flows goals_are needs_are updates binders_are copies_are results_are =
     let states_b : b.states ≡ p.automaton.states ++ positive empty_head ∷ [] = ap (λ (a : Automaton). a.states) is_b ∙ ap (λ (x : Head). p.automaton.states ++ positive x ∷ []) is_h in
     let flows_b : b.flows ≡ p.automaton.flows = ap (λ (a : Automaton). a.flows) is_b in
     record {
@@ -93,6 +95,7 @@ bound_added p q i state root b h is_b is_h is_root same flows goals_are needs_ar
       needs = needs_are ∙ sym (nil_behind p.needs);
       roots = subst (λ r. Updates nat_cmp p.roots q.roots i (Some r)) is_root updates;
       binders = binders_are;
+      copies = copies_are;
       results = results_are;
     }
 
@@ -134,9 +137,9 @@ three_goals p m n q condition first second bit into c f s is_c is_m is_f is_n is
 pub joined_choice : (p m q : Posing) (i condition first second bit root into : ℕ) (a : Automaton) (h : Head)
     → a ≡ with_state p.automaton (negative h) → h ≡ bool_head → bit ≡ size p
     → m ≡ record p { automaton = a; goals = p.goals ++ choice_goals (root_in p condition) (root_in p first) (root_in p second) bit into }
-    → q.automaton ≡ m.automaton → q.goals ≡ m.goals → q.needs ≡ m.needs → Updates nat_cmp m.roots q.roots i (Some root) → q.binders ≡ m.binders → Updates nat_cmp m.results q.results i (Some into)
+    → q.automaton ≡ m.automaton → q.goals ≡ m.goals → q.needs ≡ m.needs → Updates nat_cmp m.roots q.roots i (Some root) → q.binders ≡ m.binders → q.copies ≡ m.copies → Updates nat_cmp m.results q.results i (Some into)
     → Adds p q i (joined_choice_added (size p) (root_in p condition) (root_in p first) (root_in p second) root into) NoEdge
-joined_choice p m q i condition first second bit root into a h is_a is_h is_bit is_m automaton goals needs roots binders results =
+joined_choice p m q i condition first second bit root into a h is_a is_h is_bit is_m automaton goals needs roots binders copies results =
     let a_is : q.automaton ≡ with_state p.automaton (negative bool_head) =
     automaton ∙ (ap (λ (x : Posing). x.automaton) is_m ∙ (is_a ∙ ap (λ (x : Head). with_state p.automaton (negative x)) is_h)) in
     record {
@@ -154,6 +157,7 @@ joined_choice p m q i condition first second bit root into a h is_a is_h is_bit 
       needs = needs ∙ (ap (λ (x : Posing). x.needs) is_m ∙ sym (nil_behind p.needs));
       roots = subst (λ rs. Updates nat_cmp rs q.roots i (Some root)) (ap (λ (x : Posing). x.roots) is_m) roots;
       binders = binders ∙ ap (λ (x : Posing). x.binders) is_m;
+      copies = copies ∙ ap (λ (x : Posing). x.copies) is_m;
       results = subst (λ rs. Updates nat_cmp rs q.results i (Some into)) (ap (λ (x : Posing). x.results) is_m) results;
     }
 
@@ -166,6 +170,7 @@ no_edges p IsEdge none = record {
   needs = refl;
   roots = refl;
   binders = refl;
+  copies = refl;
   results = refl;
 }
 
@@ -195,6 +200,7 @@ edge_more p m a from to IsEdge IsLater it same flows later = record {
   needs = it.needs;
   roots = it.roots;
   binders = it.binders;
+  copies = it.copies;
   results = it.results;
 }
 

@@ -1,5 +1,7 @@
 -- Copies of known types in a constraint whose binders have what is needed of them.
-use Rattle.std.specs.Prelude.{◌≡◌, ℕ, Contains, Option, Some}
+use Rattle.std.specs.Prelude.{◌≡◌, ℕ, ◌<◌, ◌+◌, length, Contains, Option, Some}
+use Rattle.std.specs.BTreeMap.{BTreeMap, get}
+use Rattle.std.specs.Ordering.{nat_cmp}
 use Rattle.mls_automaton.specs.declared.scheme.EnvEntry.{EnvEntry}
 use Rattle.mls_automaton.specs.declared.scheme.Scheme.{Scheme}
 use Rattle.mls_automaton.specs.Automata.{Automaton, head_at, polarity_at, HasFlow}
@@ -28,12 +30,22 @@ pub record IsCopyMet (a : Automaton) (binder : ℕ → ℕ) (s : Scheme) (copy :
   pub flows : (k l : ℕ) → HasFlow s.automaton k l → HasFlow a (copy k) (copy l)
   pub bound : (entry : EnvEntry) → Contains s.env entry → copy entry.state.0 ≡ binder entry.binder
 
+-- Node `i` has a copy of the known type. The first state of the copy is noted, and each state that is that of no binder
+-- has its copy as far behind that one as its number says.
+pub record HasCopy (a : Automaton) (binder : ℕ → ℕ) (copies : BTreeMap ℕ ℕ) (i : ℕ) (s : Scheme) : Type 0 where
+  pub copy : ℕ → ℕ
+  pub met : IsCopyMet a binder s copy
+  pub first : ℕ
+  pub noted : get nat_cmp copies i ≡ Some first
+  pub stands : (k : ℕ) → k < length s.automaton.states → IsOfNoBinder s k → copy k ≡ first + k
+
 -- a name has a copy of its known type, of whose root the copy is its root, and a let one of that of its first part
-module _ (known_global known_let : ℕ → Option Scheme) (a : Automaton) (root binder : ℕ → ℕ) (i : ℕ) where
+module _ (known_global known_let : ℕ → Option Scheme) (a : Automaton) (root binder : ℕ → ℕ) (copies : BTreeMap ℕ ℕ)
+    (i : ℕ) where
   abbrev pub IsUseMet : TermForm → Type 0
-  IsUseMet (form.Inner k) = (s : Scheme) × (copy : ℕ → ℕ) × (known_let k ≡ Some s) × IsCopyMet a binder s copy
-      × (root i ≡ copy s.root.0)
-  IsUseMet (form.Global g) = (s : Scheme) × (copy : ℕ → ℕ) × (known_global g ≡ Some s) × IsCopyMet a binder s copy
-      × (root i ≡ copy s.root.0)
-  IsUseMet (form.Let k j l) = (s : Scheme) × (copy : ℕ → ℕ) × (known_let k ≡ Some s) × IsCopyMet a binder s copy
+  IsUseMet (form.Inner k) = (s : Scheme) × (known_let k ≡ Some s) × (has : HasCopy a binder copies i s)
+      × (root i ≡ has.copy s.root.0)
+  IsUseMet (form.Global g) = (s : Scheme) × (known_global g ≡ Some s) × (has : HasCopy a binder copies i s)
+      × (root i ≡ has.copy s.root.0)
+  IsUseMet (form.Let k j l) = (s : Scheme) × (known_let k ≡ Some s) × HasCopy a binder copies i s
   IsUseMet _ = ⊥

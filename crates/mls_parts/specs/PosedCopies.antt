@@ -24,7 +24,7 @@ pub record IsResult (p : Posing) (i n : ℕ) : Type 0 where
 
 -- All that heads and edges name is there, with the polarity of its place; goals go from positive to negative states;
 -- roots are positive; binders have negative states without a head; and what is needed of them names states that are
--- there. What is noted of a conditional is the state that its branches go into.
+-- there. Copies are noted of nodes with a root, and of a conditional the state that its branches go into.
 pub record IsGood (p : Posing) : Type 0 where
   pub closed : IsClosed p.automaton
   pub goals : (g : Goal) → Contains p.goals g → IsGoalOf p.automaton g
@@ -34,6 +34,7 @@ pub record IsGood (p : Posing) : Type 0 where
   pub needs : (need : Need) → Contains p.needs need → HasStatesIn (IsState p.automaton) Negative need.head
   pub labels : (need : Need) → Contains p.needs need → HasRisingLabels need.head.fields
   pub around : (need : Need) → Contains p.needs need → IsSome (get nat_cmp p.binders need.binder)
+  pub copies : (i n : ℕ) → get nat_cmp p.copies i ≡ Some n → IsSome (get nat_cmp p.roots i)
   pub results : (i n : ℕ) → get nat_cmp p.results i ≡ Some n → IsResult p i n
 
 -- the node has no root yet
@@ -49,6 +50,7 @@ pub record Extends (p q : Posing) : Type 0 where
   pub roots : (i s : ℕ) → get nat_cmp p.roots i ≡ Some s → get nat_cmp q.roots i ≡ Some s
   pub binders : q.binders ≡ p.binders
   pub needs : (need : Need) → Contains p.needs need → Contains q.needs need
+  pub copies : (i n : ℕ) → get nat_cmp p.copies i ≡ Some n → get nat_cmp q.copies i ≡ Some n
   pub results : (i n : ℕ) → get nat_cmp p.results i ≡ Some n → get nat_cmp q.results i ≡ Some n
 
 -- The states of the known type stand from n on, behind those of binders, with their heads and edges; the edges of its
@@ -63,14 +65,20 @@ pub record IsCopyAt (q : Posing) (s : Scheme) (n : ℕ) : Type 0 where
       → HasFlow q.automaton (binder_in q entry.binder) (n + l)
   pub needs : (entry : EnvEntry) → Contains s.env entry → Contains q.needs (copied_need n s entry)
 
+-- node `i` has a copy of the known type, whose first state is noted
+pub record HasCopyAt (q : Posing) (i : ℕ) (s : Scheme) : Type 0 where
+  pub first : ℕ
+  pub noted : get nat_cmp q.copies i ≡ Some first
+  pub stands : IsCopyAt q s first
+
 -- a name has a copy of its known type, in which its root is the root, and a let one of that of its first part
 module _ (known_global known_let : ℕ → Option Scheme) (q : Posing) (i : ℕ) where
   abbrev pub IsUsePosed : TermForm → Type 0
-  IsUsePosed (form.Inner k) = (s : Scheme) × (n : ℕ) × (known_let k ≡ Some s) × IsCopyAt q s n
-      × (root_in q i ≡ n + s.root.0)
-  IsUsePosed (form.Global g) = (s : Scheme) × (n : ℕ) × (known_global g ≡ Some s) × IsCopyAt q s n
-      × (root_in q i ≡ n + s.root.0)
-  IsUsePosed (form.Let k j l) = (s : Scheme) × (n : ℕ) × (known_let k ≡ Some s) × IsCopyAt q s n
+  IsUsePosed (form.Inner k) = (s : Scheme) × (known_let k ≡ Some s) × (has : HasCopyAt q i s)
+      × (root_in q i ≡ has.first + s.root.0)
+  IsUsePosed (form.Global g) = (s : Scheme) × (known_global g ≡ Some s) × (has : HasCopyAt q i s)
+      × (root_in q i ≡ has.first + s.root.0)
+  IsUsePosed (form.Let k j l) = (s : Scheme) × (known_let k ≡ Some s) × HasCopyAt q i s
   IsUsePosed _ = ⊥
 
 -- a binder is there

@@ -36,6 +36,7 @@ pub record AddsBinder (p q : Posing) (x : ℕ) : Type 0 where
   pub goals : q.goals ≡ p.goals
   pub needs : q.needs ≡ p.needs
   pub roots : q.roots ≡ p.roots
+  pub copies : q.copies ≡ p.copies
   pub results : q.results ≡ p.results
 
 -- A constraint with a negative state for each of these binders, and nothing else.
@@ -45,6 +46,7 @@ pub record IsBegun (binders : List ℕ) (p : Posing) : Type 0 where
   pub goals : p.goals ≡ []
   pub needs : p.needs ≡ []
   pub no_root : (i : ℕ) → get nat_cmp p.roots i ≡ None
+  pub no_copy : (i : ℕ) → get nat_cmp p.copies i ≡ None
   pub no_result : (i : ℕ) → get nat_cmp p.results i ≡ None
   pub there : (x : ℕ) → Contains binders x → IsSome (get nat_cmp p.binders x)
   pub back : (x s : ℕ) → get nat_cmp p.binders x ≡ Some s
@@ -110,8 +112,8 @@ ArePosable binders nodes part globals lets = (i : ℕ) (f : TermForm) → Contai
     → IsPosable binders globals lets f
 
 -- The constraint of a part: it is closed, its goals go from positive to negative states, each node of the part is posed
--- with copies of the types of its names, the states of its goals stand where its form says, and wherever the types of
--- nodes and binders are as the nodes ask, it has a model that gives them.
+-- with copies of the types of its names, whose first states are noted, the states of its goals stand where its form
+-- says, and wherever the types of nodes and binders are as the nodes ask, it has a model that gives them.
 pub record IsPartPosed (nodes : List TermNode) (globals lets : BTreeMap ℕ Scheme) (binders part : List ℕ) (p : Posing) :
     Type 0 where
   pub closed : IsClosed p.automaton
@@ -122,7 +124,7 @@ pub record IsPartPosed (nodes : List TermNode) (globals lets : BTreeMap ℕ Sche
   pub bound : (x : ℕ) → Contains binders x → get nat_cmp p.binders x ≡ Some (binder_in p x)
   pub posed : (i : ℕ) (f : TermForm) → Contains part i → form_at nodes i ≡ Some f
       → IsNodePosed p.automaton (IsGoal p.goals) (root_in p) (binder_in p)
-      (IsUseMet (known_in globals) (known_in lets) p.automaton (root_in p) (binder_in p)) i f
+      (IsUseMet (known_in globals) (known_in lets) p.automaton (root_in p) (binder_in p) p.copies) i f
   pub posed_at : (i : ℕ) (f : TermForm) → Contains part i → form_at nodes i ≡ Some f
       → IsPosedAt (constraint_of p) p f i
   pub models : (known : Known) → AreOver known globals lets → (type binder : ℕ → Predicate)

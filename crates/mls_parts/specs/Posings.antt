@@ -37,6 +37,10 @@ root_in p i = number_at p.roots i
 abbrev pub binder_in : Posing → ℕ → ℕ
 binder_in p x = number_at p.binders x
 
+-- the first state of the copy of a known type that a node has
+abbrev pub copy_in : Posing → ℕ → ℕ
+copy_in p i = number_at p.copies i
+
 -- how many states there are
 abbrev pub size : Posing → ℕ
 size p = length p.automaton.states
@@ -66,13 +70,14 @@ int_head = record empty_head { integer = true }
 abbrev pub goal : (positive negative : ℕ) → Goal
 goal p n = record { positive = record { 0 = p }; negative = record { 0 = n } }
 
--- What a node adds: states behind those that are there, goals, heads that binders need, its root, and of a conditional
--- the state that its branches go into.
+-- What a node adds: states behind those that are there, goals, heads that binders need, its root, the first state of the
+-- copy that a name or a let has, and of a conditional the state that its branches go into.
 pub record Added : Type 0 where
   pub states : List State
   pub goals : List Goal
   pub needs : List Need
   pub root : ℕ
+  pub copy : Option ℕ
   pub result : Option ℕ
 
 -- a state is noted for node `i`, or nothing is
@@ -88,6 +93,7 @@ pub record Adds (p q : Posing) (i : ℕ) (new : Added) (IsEdge : ℕ → ℕ →
   pub needs : q.needs ≡ p.needs ++ new.needs
   pub roots : Updates nat_cmp p.roots q.roots i (Some new.root)
   pub binders : q.binders ≡ p.binders
+  pub copies : IsNoted p.copies q.copies i new.copy
   pub results : IsNoted p.results q.results i new.result
 
 -- no edge, and one
@@ -100,7 +106,8 @@ OneEdge n s m r = (m ≡ n) × (r ≡ s)
 -- What each form adds, where there are `n` states so far: a number or a truth value, a use of a binder, a function, an
 -- application, a record, a projection, a conditional and a recursion.
 abbrev pub literal_added : ℕ → Head → Added
-literal_added n head = record { states = positive head ∷ []; goals = []; needs = []; root = n; result = None }
+literal_added n head =
+    record { states = positive head ∷ []; goals = []; needs = []; root = n; copy = None; result = None }
 
 abbrev pub fun_added : ℕ → (binder body : ℕ) → Added
 fun_added n binder body = literal_added n (function_head binder body)
@@ -111,6 +118,7 @@ apply_added n f a = record {
   goals = goal f (suc (suc n)) ∷ [];
   needs = [];
   root = n;
+  copy = None;
   result = None;
 }
 
@@ -120,6 +128,7 @@ project_added n body label = record {
   goals = goal body (suc (suc n)) ∷ [];
   needs = [];
   root = n;
+  copy = None;
   result = None;
 }
 
@@ -133,6 +142,7 @@ choice_added n c f s = record {
   goals = choice_goals c f s (suc (suc n)) (suc n);
   needs = [];
   root = n;
+  copy = None;
   result = Some (suc n);
 }
 
@@ -143,12 +153,13 @@ joined_choice_added n c f s root into = record {
   goals = choice_goals c f s n into;
   needs = [];
   root = root;
+  copy = None;
   result = Some into;
 }
 
 abbrev pub fix_added : (body binder : ℕ) → Added
 fix_added body binder =
-    record { states = []; goals = goal body binder ∷ []; needs = []; root = body; result = None }
+    record { states = []; goals = goal body binder ∷ []; needs = []; root = body; copy = None; result = None }
 
 -- the fields of a record: each label of a part has the root of that part
 pub record AreFieldsOf (root : ℕ → ℕ) (parts : List Part) (fields : List FieldSet) : Type 0 where
@@ -170,6 +181,7 @@ copy_added n s root = record {
   goals = [];
   needs = map (copied_need n s) s.env;
   root = root;
+  copy = Some n;
   result = None;
 }
 
@@ -205,6 +217,7 @@ pub record AddsCopy (p q : Posing) (n : ℕ) (known : Scheme) (env : List EnvEnt
   pub needs : q.needs ≡ p.needs ++ map (copied_need n known) env
   pub roots : q.roots ≡ p.roots
   pub binders : q.binders ≡ p.binders
+  pub copies : q.copies ≡ p.copies
   pub results : q.results ≡ p.results
 
 -- one of the branches of a conditional

@@ -19,7 +19,7 @@ ghost use Rattle.mls_parts.specs.Posings.{Adds, NoEdge, OneEdge, AreFieldsOf, nu
 ghost use Rattle.mls_parts.specs.Posings.{literal_added, fun_added, apply_added, project_added, choice_added, fix_added};
 ghost use Rattle.mls_parts.specs.Posings.{choice_goals, joined_choice_added};
 ghost use Rattle.mls_parts.specs.Posings.{bool_head, int_head, function_head, record_head, one_field, goal};
-ghost use Rattle.mls_parts.specs.Posings.{AddsCopy, IsCopiedEdge, IsKnownTo, copy_added};
+ghost use Rattle.mls_parts.specs.Posings.{AddsCopy, IsCopiedEdge, IsKnownTo, copy_added, copy_in};
 ghost use Rattle.mls_parts.specs.steps.Results.{AddsEdges, Binds, CanBind, HasResult};
 ghost use Rattle.mls_parts.specs.steps.Sharing.{PosesNext, shared_added};
 
@@ -236,7 +236,8 @@ impl Posing {
 
     // A use of a name that shares the copy of another one.
     fn pose_again(&mut self, node: usize, first: usize) -> Result<(), Memory>
-        ensures { OnOk result (Adds self.old self.new node (shared_added (root_in self.old first)) NoEdge) }
+        ensures { OnOk result (Adds self.old self.new node
+            (shared_added (root_in self.old first) (copy_in self.old first)) NoEdge) }
     {
         let root = self.root(first);
         self.roots.insert(node, root)?;

@@ -17,6 +17,7 @@ pub record HasResult (p q : Posing) : Type 0 where
   pub needs : q.needs ≡ p.needs
   pub roots : q.roots ≡ p.roots
   pub binders : q.binders ≡ p.binders
+  pub copies : q.copies ≡ p.copies
   pub results : q.results ≡ p.results
 
 -- The second constraint has these edges more.
@@ -27,6 +28,7 @@ pub record AddsEdges (p q : Posing) (IsEdge : ℕ → ℕ → Type 0) : Type 0 w
   pub needs : q.needs ≡ p.needs
   pub roots : q.roots ≡ p.roots
   pub binders : q.binders ≡ p.binders
+  pub copies : q.copies ≡ p.copies
   pub results : q.results ≡ p.results
 
 -- the copy of the known type stands from state n on, and the binder is around
@@ -46,4 +48,5 @@ pub record Binds (p q : Posing) (n : ℕ) (known : Scheme) (entry : EnvEntry) : 
   pub needs : q.needs ≡ p.needs ++ copied_need n known entry ∷ []
   pub roots : q.roots ≡ p.roots
   pub binders : q.binders ≡ p.binders
+  pub copies : q.copies ≡ p.copies
   pub results : q.results ≡ p.results

@@ -9,7 +9,7 @@ use Rattle.mls_term.specs.declared.term.TermNode.{TermNode}
 use Rattle.mls_deriv.specs.Steps.{form_at}
 use Rattle.mls_parts.specs.declared.pose.Posing.{Posing}
 use Rattle.mls_parts.specs.declared.shared.Shared.{Shared}
-use Rattle.mls_parts.specs.Posings.{Added, Adds, AddsNode, NoEdge, known_in, root_in}
+use Rattle.mls_parts.specs.Posings.{Added, Adds, AddsNode, NoEdge, copy_in, known_in, root_in}
 
 -- the type is known, and has no edges
 abbrev pub IsWithoutEdges : Option Scheme → Type 0
@@ -43,14 +43,16 @@ abbrev pub MayNote : (globals lets : BTreeMap ℕ Scheme) → (before after : Sh
 MayNote globals lets before after node f = (g : TermForm) (j : ℕ) → first_use after g ≡ Some j
     → (first_use before g ≡ Some j) ⊎ ((g ≡ f) × (j ≡ node) × HasNoEdges globals lets f)
 
--- a use that shares the copy of another one adds its own root alone
-abbrev pub shared_added : (root : ℕ) → Added
-shared_added root = record { states = []; goals = []; needs = []; root = root; result = None }
+-- a use that shares the copy of another one adds its own root alone, and notes that copy
+abbrev pub shared_added : (root copy : ℕ) → Added
+shared_added root copy =
+    record { states = []; goals = []; needs = []; root = root; copy = Some copy; result = None }
 
--- The node is posed: with the root of the first use of its name, or as its form says.
+-- The node is posed: with the root and the copy of the first use of its name, or as its form says.
 pub record PosesNext (globals lets : BTreeMap ℕ Scheme) (before after : Shared) (p q : Posing) (i : ℕ) (f : TermForm) :
     Type 0 where
-  pub adds : ((j : ℕ) × (first_use before f ≡ Some j) × Adds p q i (shared_added (root_in p j)) NoEdge)
+  pub adds : ((j : ℕ) × (first_use before f ≡ Some j)
+      × Adds p q i (shared_added (root_in p j) (copy_in p j)) NoEdge)
       ⊎ AddsNode (known_in globals) (known_in lets) p q i f
   pub notes : MayNote globals lets before after i f
 

@@ -12,4 +12,4 @@ returns c =
     let q : Posing = record { automaton = c.add_flow.new.self; goals = p.goals; roots = c.insert.new.self; binders = p.binders; needs = p.needs; copies = p.copies; results = p.results } in
     subst (λ (state : ℕ). Adds p q c.args.node (literal_added (size p) empty_head) (OneEdge state (size p))) state_is
     (bound_added p q c.args.node c.binder-state.result c.in_ok-root.root.0 c.state.new.self c.empty.result c.in_ok-root.ensures.ok c.empty.ensures c.in_ok-root.ensures.number
-    c.in_ok-add_flow.ensures.states c.in_ok-add_flow.ensures.flows refl refl c.in_ok-insert.ensures.updates refl refl)
+    c.in_ok-add_flow.ensures.states c.in_ok-add_flow.ensures.flows refl refl c.in_ok-insert.ensures.updates refl refl refl)

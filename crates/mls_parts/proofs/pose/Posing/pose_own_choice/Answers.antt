@@ -24,6 +24,6 @@ returns c =
     it c.in_ok-root.ensures.states.0 c.in_ok-bit.ensures.ok c.bool_head.ensures (ap (λ (q : Posing). q.automaton) posed)
     (ap (λ (q : Posing). q.goals) posed ∙ ap (λ gs. m.goals ++ gs) goals_are) (ap (λ (q : Posing). q.needs) posed)
     (subst (λ rs. Updates nat_cmp rs c.insert.new.self c.args.node (Some c.in_ok-root.root.0)) (ap (λ (q : Posing). q.roots) posed) c.in_ok-insert.ensures.updates)
-    (ap (λ (q : Posing). q.binders) posed)
+    (ap (λ (q : Posing). q.binders) posed) (ap (λ (q : Posing). q.copies) posed)
     (subst (λ n. Updates nat_cmp m.results c.insert-2.new.self c.args.node (Some n)) into_is
     (subst (λ rs. Updates nat_cmp rs c.insert-2.new.self c.args.node (Some c.in_ok-root.into.0)) (ap (λ (q : Posing). q.results) posed) c.in_ok-insert-2.ensures.updates))

@@ -23,4 +23,4 @@ returns c =
     it c.in_ok-root.ensures.states.0 c.in_ok-upper.ensures.ok head_is (ap (λ (q : Posing). q.automaton) posed)
     (ap (λ (q : Posing). q.goals) posed ∙ ap (λ (g : Goal). m.goals ++ g ∷ []) goal_is) (ap (λ (q : Posing). q.needs) posed)
     (subst (λ rs. Updates nat_cmp rs c.insert.new.self c.args.node (Some c.in_ok-root.root.0)) (ap (λ (q : Posing). q.roots) posed) c.in_ok-insert.ensures.updates)
-    (ap (λ (q : Posing). q.binders) posed) (ap (λ (q : Posing). q.results) posed)
+    (ap (λ (q : Posing). q.binders) posed) (ap (λ (q : Posing). q.copies) posed) (ap (λ (q : Posing). q.results) posed)
