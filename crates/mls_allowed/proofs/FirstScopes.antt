@@ -18,8 +18,8 @@ use Rattle.mls_layout.specs.PosedNodes.{IsNamed, IsRising}
 use Rattle.mls_parts.specs.NumberedNodes.{behind, IsNumbered, IsPlaced}
 use Rattle.mls_parts.proofs.NumberedNodes.{numbered_whole}
 use Rattle.mls_parts.proofs.TreeNodes.{kids, HasNodeWith, node_with, form_low, one_form}
-use Rattle.mls_emit.specs.LetScopes.{HasScopes, HaveScopes}
-use Rattle.mls_emit.proofs.RisingParts.{Around, AreAbove, rises, nothing_around}
+use Rattle.mls_allowed.specs.LetScopes.{HasScopes, HaveScopes}
+use Rattle.mls_allowed.proofs.RisingParts.{Around, AreAbove, rises, nothing_around}
 use Rattle.mls_allowed.proofs.DistinctLists.{AreDistinct, distinct_left, distinct_right, distinct_rest}
 
 module _ (nodes : List TermNode) (let_scope : ℕ → List ℕ) (globals : ℕ) where

@@ -10,7 +10,7 @@ use Rattle.mls_automaton.proofs.Lists.{Contains-cases, Contains-here, Contains-l
 use Rattle.mls_term.specs.declared.term.TermNode.{TermNode}
 use Rattle.mls_term.specs.Terms.{TermTree, TermFields, bound, inner, global, number, truth, fun, apply, make, project, choice, local, fix, no_field, a_field}
 use Rattle.mls_term.specs.WellFormed.{IsTerm, lets_of, field_lets_of}
-use Rattle.mls_emit.specs.LetScopes.{HasScopes, HaveScopes}
+use Rattle.mls_allowed.specs.LetScopes.{HasScopes, HaveScopes}
 use Rattle.mls_allowed.proofs.DistinctLists.{AreDistinct, distinct_first, distinct_rest}
 
 -- each let of a tree, with the binders around it, of which those of the scope are around the tree

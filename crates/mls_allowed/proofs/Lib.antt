@@ -1,4 +1,3 @@
-pub mod FrontLists
 pub mod MoreClaims
 pub mod Shown
 pub mod Trees
@@ -57,11 +56,11 @@ pub mod PartFields
 pub mod PartTypes
 pub mod FirstTypes
 pub mod LetScopes
+pub mod RisingParts
 pub mod FirstScopes
 pub mod SubsumedWalks
 pub mod AroundParts
 pub mod ReadyParts
-pub mod LaidParts
 pub mod PartLines
 pub mod ReadUses
 pub mod MadeTypes
@@ -70,6 +69,7 @@ pub mod ReadyTerms
 pub mod UseCopies
 pub mod ReadyFirsts
 pub mod ReadyLines
+pub mod SectionParts
 pub mod KnownBooks
 pub mod LetPuts
 pub mod GlobalPuts

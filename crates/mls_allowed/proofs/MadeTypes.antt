@@ -42,9 +42,9 @@ use Rattle.mls_parts.specs.SolvedTypes.{entries_of}
 use Rattle.mls_parts.specs.TermParts.{IsTermPart}
 use Rattle.mls_parts.specs.TreeNodes.{AreTreeNodes}
 use Rattle.mls_parts.proofs.TreeNodes.{form_low, one_form, tree_nodes}
-use Rattle.mls_emit.specs.LetScopes.{HasScopes, HaveScopes}
-use Rattle.mls_emit.specs.MadeFirsts as added
-use Rattle.mls_emit.specs.MadeFirsts.{around_states, AreAdded, IsFirstMade}
+use Rattle.mls_allowed.specs.LetScopes.{HasScopes, HaveScopes}
+use Rattle.mls_allowed.specs.MadeFirsts as added
+use Rattle.mls_allowed.specs.MadeFirsts.{around_states, AreAdded, IsFirstMade}
 use Rattle.mls_allowed.specs.FirstTypes.{AreFieldLetsIn, AreFirstsMade, AreLetsIn, HaveBooks, HaveFirstTypes, HaveOwnLets}
 use Rattle.mls_allowed.specs.PartTypes.{AreAround}
 use Rattle.mls_allowed.proofs.AroundParts.{part_around}

@@ -3,7 +3,9 @@
 --     type_binder         a binder of a type has the node of its state
 --     type_fits           the environment and the type of a part are there
 --     StandsIn            what is laid out for a part stands in a book, with the parts that its states had
+--     stands_in           it stands in each longer book that is closed
 --     can_write           the nodes of the part can be written over it
+--     type_places_low     the nodes of the type are nodes of its book
 --     part_lines          the lines of the part
 use Rattle.std.proofs.Common.{◌≡◌, ◌≢◌, ◌⊎◌, inl, inr, ℕ, ◌<◌, ◌==◌, Bool, true, false, List, [], ◌∷◌, ◌++◌, length, map, refl, sym, ap, ◌∙◌, subst, Contains, Option, Some, None}
 use Rattle.std.specs.Prelude.{IsTrue, cond, find, option_map}
@@ -34,6 +36,7 @@ use Rattle.mls_layout.specs.Parts.{IsLaidOut}
 use Rattle.mls_layout.specs.Plans.{planned_steps}
 use Rattle.mls_layout.specs.Rows.{Fits}
 use Rattle.mls_layout.specs.Scopes.{entry}
+use Rattle.mls_layout.proofs.LongerLayouts.{laid_out_kept}
 use Rattle.mls_parts.specs.declared.pose.Posing.{Posing}
 use Rattle.mls_parts.specs.PosedGoals.{constraint_of}
 use Rattle.mls_parts.specs.PosedParts.{IsPartList, IsPartPosed}
@@ -43,7 +46,7 @@ use Rattle.mls_lines.specs.declared.known.GlobalAt.{GlobalAt}
 use Rattle.mls_lines.specs.declared.steps.Steps.{Steps}
 use Rattle.mls_lines.specs.Conclusions.{IsBrought}
 use Rattle.mls_lines.specs.NodeLines.{NamesKnown}
-use Rattle.mls_lines.specs.PlainLines.{AreNamesOf, HaveRisingFirsts}
+use Rattle.mls_lines.specs.PlainLines.{AreNamesOf, HaveLowFirsts, HaveLowGlobals, HaveLowPlaces, HaveRisingFirsts}
 use Rattle.mls_lines.specs.PlainParts.{ArePutInAt, CanWritePart, WritesWhole, type_binders}
 use Rattle.mls_lines.specs.Stepping.{AreCounted}
 use Rattle.mls_lines.specs.Writings.{IsWriting}
@@ -104,19 +107,29 @@ module _ (old : List Node) (p : Posing) (found : Room) (pairs : List StatePair) 
   abbrev pub StandsIn : List Node → Type 0
   StandsIn book = (l : IsLaidOut book (constraint_of p) special pairs (place_of laid.places) (place_of places)) × (l.layout.parts ≡ own_parts)
 
-  pub can_write : (nodes : List TermNode) (globals lets : BTreeMap ℕ Scheme) (binders members : List ℕ) (begun : Steps) (firsts : BTreeMap ℕ known.FirstPart) → IsPartPosed nodes globals lets binders members p → IsPartList nodes members → AreCounted begun → HaveRisingFirsts firsts
-      → CanWritePart laid begun firsts (constraint_of p) p own_parts nodes members
-  can_write nodes globals lets binders members begun firsts posed list counted rising = record {
+  pub stands_in : (rest : List Node) → IsClosedBook (laid.book ++ rest) → StandsIn (laid.book ++ rest)
+  stands_in rest closed = laid_out_kept laid.book rest lays.closed (constraint_of p) special pairs (place_of laid.places) (place_of places) closed both.0
+
+  pub can_write : (nodes : List TermNode) (globals lets : BTreeMap ℕ Scheme) (binders members : List ℕ) (begun : Steps) (globals_at : BTreeMap ℕ GlobalAt) (firsts : BTreeMap ℕ known.FirstPart) → IsPartPosed nodes globals lets binders members p → IsPartList nodes members → AreCounted begun → HaveRisingFirsts firsts
+      → HaveLowFirsts (length laid.book) firsts → HaveLowGlobals (length laid.book) globals_at → CanWritePart laid begun globals_at firsts (constraint_of p) p own_parts nodes members
+  can_write nodes globals lets binders members begun globals_at firsts posed list counted rising low_firsts low_globals = record {
     list = list;
     counted = counted;
     own_parts = both.1;
     rising = rising;
+    closed = lays.closed;
+    places = both.0.places;
+    low_firsts = low_firsts;
+    low_globals = low_globals;
     posed = posed.posed_at;
   }
 
+  pub type_places_low : HaveLowPlaces (length laid.book) places
+  type_places_low = both.0.type_places
+
   -- its lines, in a book that begins with what was there when they were written
-  module _ (b : Before) (globals : BTreeMap ℕ GlobalAt) (firsts : BTreeMap ℕ known.FirstPart) (members : List ℕ) (begun new : Steps) (book : List Node) (number : ℕ)
-      (whole : WritesWhole globals firsts (constraint_of p) p own_parts b.term_nodes members laid begun new book (type_binders special places) (place_of places special.root.0) number) (longer : IsLonger book b.book) (stands : StandsIn b.book) (rise : BindersRise special.env)
+  module _ (b : Before) (globals : BTreeMap ℕ GlobalAt) (firsts : BTreeMap ℕ known.FirstPart) (known_lets : BTreeMap ℕ Scheme) (members : List ℕ) (begun new : Steps) (book : List Node) (number : ℕ)
+      (whole : WritesWhole globals firsts known_lets (constraint_of p) p own_parts b.term_nodes members laid begun new book (type_binders special places) (place_of places special.root.0) number) (longer : IsLonger book b.book) (stands : StandsIn b.book) (rise : BindersRise special.env)
       (names : NamesKnown) (are : AreNamesOf globals firsts names) (put_in : ArePutInAt whole.puts names members) where
     abbrev Writes : (ℕ → List ℕ) → Type 0
     Writes parts = (w : IsWriting b (constraint_of p) (record { root = root_in p; binder = binder_in p; place = place_of laid.places; parts = parts }) names (steps_of begun.lines) members) × (w.plan ≡ whole.plan) × (w.of ≡ whole.of)

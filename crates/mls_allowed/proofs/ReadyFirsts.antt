@@ -41,8 +41,8 @@ use Rattle.mls_parts.specs.SolvedTypes.{solved_scheme}
 use Rattle.mls_parts.specs.TermParts.{IsTermPart}
 use Rattle.mls_parts.proofs.NumberedNodes.{numbered_whole}
 use Rattle.mls_parts.proofs.TreeNodes.{kids, form_low, node_with, one_form, tree_nodes}
-use Rattle.mls_emit.specs.LetScopes.{HasScopes}
-use Rattle.mls_emit.specs.MadeFirsts.{around_states, IsFirstMade}
+use Rattle.mls_allowed.specs.LetScopes.{HasScopes}
+use Rattle.mls_allowed.specs.MadeFirsts.{around_states, IsFirstMade}
 use Rattle.mls_allowed.specs.FirstTypes.{AreFirstsMade, AreFieldLetsIn, AreLetsIn, HaveFirstTypes}
 use Rattle.mls_allowed.specs.PartTypes.{AreAround}
 use Rattle.mls_allowed.specs.ReadyParts.{IsPartReady}

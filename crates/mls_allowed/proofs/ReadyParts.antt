@@ -53,7 +53,7 @@ use Rattle.mls_parts.specs.TermParts.{IsTermPart}
 use Rattle.mls_parts.specs.TreeNodes.{AreTreeNodes}
 use Rattle.mls_parts.proofs.Owners.{node_low}
 use Rattle.mls_parts.proofs.SplitParts.{own_parts_in}
-use Rattle.mls_emit.specs.MadeFirsts.{around_states}
+use Rattle.mls_allowed.specs.MadeFirsts.{around_states}
 use Rattle.mls_allowed.specs.ReadyParts.{needed_by, IsPartReady, IsUseAround}
 use Rattle.mls_lines.specs.Writings as writings
 use Rattle.mls_allowed.proofs.AroundParts.{closed_part, rises_around}

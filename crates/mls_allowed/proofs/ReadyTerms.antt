@@ -40,10 +40,10 @@ use Rattle.mls_parts.specs.SolvedTypes.{entries_of, solved_scheme}
 use Rattle.mls_parts.specs.TermParts.{IsTermPart}
 use Rattle.mls_parts.proofs.NumberedNodes.{numbered_whole}
 use Rattle.mls_parts.proofs.TreeNodes.{tree_nodes}
-use Rattle.mls_emit.specs.LetScopes.{HasScopes}
+use Rattle.mls_allowed.specs.LetScopes.{HasScopes}
 use Rattle.mls_allowed.specs.FirstTypes.{AreFirstsMade, HaveBooks}
 use Rattle.mls_allowed.specs.PartTypes.{AreAround}
-use Rattle.mls_emit.specs.MadeFirsts.{around_states}
+use Rattle.mls_allowed.specs.MadeFirsts.{around_states}
 use Rattle.mls_allowed.specs.ReadyParts.{IsPartReady}
 use Rattle.mls_allowed.proofs.AroundParts.{part_around}
 use Rattle.mls_allowed.proofs.FirstScopes.{IsAround, whole_around, whole_scope}

@@ -25,7 +25,7 @@ use Rattle.mls_allowed.specs.PartTypes.{AreAround, solved_part}
 use Rattle.mls_parts.specs.PartBinders.{NeedsBinder}
 use Rattle.mls_parts.specs.PosedParts.{IsPartPosed}
 use Rattle.mls_parts.specs.Posings.{known_in}
-use Rattle.mls_emit.specs.MadeFirsts.{IsFirstMade}
+use Rattle.mls_allowed.specs.MadeFirsts.{IsFirstMade}
 
 -- The part of this tree, whose first node has the number n, has its constraint, which is solved; the type subsumes what
 -- it gives the part, and needs no binders but those around.

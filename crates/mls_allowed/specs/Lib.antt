@@ -1,3 +1,5 @@
+pub mod LetScopes
+pub mod MadeFirsts
 pub mod PartNodes
 pub mod Readings
 pub mod WrittenUses
@@ -5,3 +7,4 @@ pub mod WrittenParts
 pub mod PartTypes
 pub mod FirstTypes
 pub mod ReadyParts
+pub mod SectionParts

@@ -3,13 +3,13 @@
 --     read_type             a type that was read has no binders, so it may be copied everywhere
 --     no_name, one_name, same_name, name_form, no_form
 --                           what is known of no name, of one name more, of one that is known, and of a node
+--     at_key, at_own, at_other        what a map knows after a name was added
 --     all_before            binders before one of rising binders are below it
 --     globals_none, globals_more      what is known of the names of the environment, one node after another
 --     firsts_none           no first part stands before the first node
 --     firsts_same           where the root is that of no first part
 --     firsts_more           where the type of the first part with the root is known
 --     before_same, before_more      so with all that is known
---     first_made            the type of a first part was made of the part
 --     no_first              a root that is none of a part is that of no first part
 --     know_types            what a part needs to be known
 use Rattle.std.proofs.Common.{◌≡◌, ◌≢◌, ◌⊎◌, inl, inr, ℕ, zero, suc, ◌+◌, ◌<◌, Bool, true, false, List, [], ◌∷◌, length, refl, sym, ap, ◌∙◌, subst, arith, Contains, slice_get, get_or, take, Option, Some, None}
@@ -23,13 +23,9 @@ use Rattle.mls_book.proofs.LongerBooks.{below_or_more}
 use Rattle.mls_automaton.specs.declared.scheme.EnvEntry.{EnvEntry}
 use Rattle.mls_automaton.specs.declared.scheme.Scheme.{Scheme}
 use Rattle.mls_automaton.specs.Automata.{head_at, polarity_at, IsState}
-use Rattle.mls_automaton.specs.Environments.{BindersRise}
 use Rattle.mls_automaton.specs.Schemes.{IsScheme}
 use Rattle.mls_automaton.specs.Sets.{Rises}
 use Rattle.mls_automaton.proofs.Passing.{states_more}
-use Rattle.mls_solver.specs.Relations.{IsGoal, IsRelated}
-use Rattle.mls_solver.specs.Rooms.{Holds}
-use Rattle.mls_solver.proofs.SolvedRooms.{solved-same}
 use Rattle.mls_typetext.specs.declared.scheme.ReadScheme.{ReadScheme}
 use Rattle.mls_scheme.specs.ReadTypes.{IsReadFromBook}
 use Rattle.mls_term.specs.declared.term.ResolvedBinding.{ResolvedBinding}
@@ -48,14 +44,13 @@ use Rattle.mls_parts.specs.declared.split.TermPart.{TermPart}
 use Rattle.mls_parts.specs.MetCopies.{IsOfNoBinder}
 use Rattle.mls_parts.specs.PartUses.{HasOwnType, IsBehindFirst, KnowTypes, KnowsType}
 use Rattle.mls_parts.specs.PosedParts.{HasKnownType, IsKnownType}
-use Rattle.mls_parts.specs.Posings.{binder_in, known_in, root_in}
+use Rattle.mls_parts.specs.Posings.{binder_in, known_in}
 use Rattle.mls_parts.specs.SolvedTypes.{entries_of, entry_of}
 use Rattle.mls_parts.specs.TermParts.{AreTermParts, IsTermPart}
 use Rattle.mls_parts.specs.TreeNodes.{AreTreeNodes}
 use Rattle.mls_parts.proofs.SplitParts.{own_labels, behind_firsts, first_before_let, first_before_use}
 use Rattle.mls_parts.proofs.TreeNodes.{tree_nodes}
-use Rattle.mls_emit.specs.declared.derive.section.SolvedPart.{SolvedPart}
-use Rattle.mls_emit.specs.MadeFirsts.{around_states, same, more, IsFirstMade, IsFirstType, IsNoFirst, IsPartSolved}
+use Rattle.mls_allowed.specs.MadeFirsts.{around_states, same, more, IsFirstMade, IsNoFirst}
 use Rattle.mls_emit.specs.Drafts.{AreNameTypes, AreTermNodes, HaveNoBinders, KnowGlobals, KnowFirsts, KnowsBefore, KnowsForm, KnowsFirst, KnowsName}
 
 -- the nodes of a term, and of each term of a module
@@ -106,26 +101,26 @@ all_before p binders rises i low k d less =
     subst (λ x. x < get_or binders i 0) (sym at) (rises k i under low)
 
 -- what a map knows after a name was added
-at_key : (old new : BTreeMap ℕ Scheme) (k : ℕ) (s : Scheme) → Updates nat_cmp old new k (Some s) → (q : ℕ) → (known_in new q ≡ Some s) ⊎ ((k ≡ q → ⊥) × (known_in new q ≡ known_in old q))
+pub at_key : {X : Type 0} (old new : BTreeMap ℕ X) (k : ℕ) (s : X) → Updates nat_cmp old new k (Some s) → (q : ℕ) → (get nat_cmp new q ≡ Some s) ⊎ ((k ≡ q → ⊥) × (get nat_cmp new q ≡ get nat_cmp old q))
 at_key old new k s updates q = go (is_eq (nat_cmp k q)) refl
   where
-    go : (b : Bool) → is_eq (nat_cmp k q) ≡ b → (known_in new q ≡ Some s) ⊎ ((k ≡ q → ⊥) × (known_in new q ≡ known_in old q))
+    go : (b : Bool) → is_eq (nat_cmp k q) ≡ b → (get nat_cmp new q ≡ Some s) ⊎ ((k ≡ q → ⊥) × (get nat_cmp new q ≡ get nat_cmp old q))
     go true e = inl (updates.0 q ∙ (λ i. cond (e i) (Some s) (get nat_cmp old q)))
     go false e = inr (
       (λ same. absurd (let wrong : is_eq (nat_cmp k q) ≡ true = subst (λ x. is_eq (nat_cmp k x) ≡ true) same (number_self k) in cc)),
       updates.0 q ∙ (λ i. cond (e i) (Some s) (get nat_cmp old q)),
     )
 
-at_own : (old new : BTreeMap ℕ Scheme) (k : ℕ) (s : Scheme) → Updates nat_cmp old new k (Some s) → known_in new k ≡ Some s
+pub at_own : {X : Type 0} (old new : BTreeMap ℕ X) (k : ℕ) (s : X) → Updates nat_cmp old new k (Some s) → get nat_cmp new k ≡ Some s
 at_own old new k s updates =
     let e : is_eq (nat_cmp k k) ≡ true = number_self k in
     updates.0 k ∙ (λ i. cond (e i) (Some s) (get nat_cmp old k))
 
 -- the other names are known as before
-at_other : (old new : BTreeMap ℕ Scheme) (k : ℕ) (s : Scheme) → Updates nat_cmp old new k (Some s) → (q : ℕ) → (q ≢ k) → known_in new q ≡ known_in old q
+pub at_other : {X : Type 0} (old new : BTreeMap ℕ X) (k : ℕ) (s : X) → Updates nat_cmp old new k (Some s) → (q : ℕ) → (q ≢ k) → get nat_cmp new q ≡ get nat_cmp old q
 at_other old new k s updates q apart = go (is_eq (nat_cmp k q)) refl
   where
-    go : (b : Bool) → is_eq (nat_cmp k q) ≡ b → known_in new q ≡ known_in old q
+    go : (b : Bool) → is_eq (nat_cmp k q) ≡ b → get nat_cmp new q ≡ get nat_cmp old q
     go true e = absurd (apart (sym (number_same k q e)))
     go false e = updates.0 q ∙ (λ i. cond (e i) (Some s) (get nat_cmp old q))
 
@@ -267,29 +262,3 @@ know_types nodes term known r before part it i f there e = by_form f e
     by_form (form.If j k l) e = tt
     by_form (form.Let k j l) e = before.firsts i k j l e (first_before_let nodes term.tree r i k j l it.root (it.only i there).1 e)
     by_form (form.Rec x j) e = tt
-
--- the type of a first part was made of the part
-pub first_made : (nodes : List TermNode) → AreTermNodes nodes → (known : KnownTypes) (r : ℕ) → KnowsBefore nodes known r → (part : TermPart) → IsTermPart nodes r part → (solved : SolvedPart) → IsPartSolved nodes known part.nodes solved → (own : Scheme)
-    → IsFirstType solved.solution.automaton (root_in solved.posing r) (around_states solved.posing solved.around) own → BindersRise own.env → IsFirstMade nodes known.globals known.lets r own
-first_made nodes term known r before part is_part solved it own type rise = record {
-  part = part;
-  is_part = is_part;
-  know = know_types nodes term known r before part is_part;
-  binders = it.binders;
-  are_binders = it.are_binders;
-  posing = solved.posing;
-  posed = it.posed;
-  solved = solved.solution.automaton;
-  is_solved = solved-same solved.posing.automaton (Holds solved.solution.found) (IsRelated solved.posing.automaton (IsGoal solved.posing.goals)) it.related solved.solution.automaton it.solved;
-  closed = it.closed;
-  is = own_type.is;
-  rise = rise;
-  single = own_type.single;
-  all = own_type.all;
-  same = own_type.same;
-  subsumes = own_type.subsumes;
-  subsumed = own_type.subsumed;
-}
-  where
-    own_type : IsFirstType solved.solution.automaton (root_in solved.posing r) (around_states solved.posing it.binders.around) own
-    own_type = subst (λ (xs : List ℕ). IsFirstType solved.solution.automaton (root_in solved.posing r) (around_states solved.posing xs) own) it.around type

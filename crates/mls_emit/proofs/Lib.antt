@@ -1,2 +1,4 @@
 pub mod KnownNames
-pub mod RisingParts
+pub mod PlacedNames
+pub mod KeptDrafts
+pub mod AddedParts

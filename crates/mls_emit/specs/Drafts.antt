@@ -1,11 +1,13 @@
 -- What is known of the names of a term while its section is written, part by part.
-use Rattle.std.specs.Prelude.{◌≡◌, ◌⊎◌, ℕ, ◌<◌, List, [], ◌++◌, length, map, slice_get, IsSome, Some}
-use Rattle.std.specs.BTreeMap.{BTreeMap, Updates}
+use Rattle.std.specs.Prelude.{◌≡◌, ◌⊎◌, ℕ, ◌<◌, ◌≤◌, List, [], ◌++◌, length, map, slice_get, IsSome, Some}
+use Rattle.std.specs.BTreeMap.{BTreeMap, Updates, get}
 use Rattle.std.specs.Ordering.{nat_cmp}
+use Rattle.mls_book.specs.declared.book.Node.{Node}
 use Rattle.mls_automaton.specs.declared.scheme.Scheme.{Scheme}
 use Rattle.mls_automaton.specs.Environments.{BindersRise}
 use Rattle.mls_typetext.specs.declared.scheme.ReadScheme.{ReadScheme}
 use Rattle.mls_scheme.specs.ReadTypes.{IsReadFromBook}
+use Rattle.mls_iface.specs.Matches.{IsRead}
 use Rattle.mls_iface.specs.declared.signature.SigEntry.{SigEntry}
 use Rattle.mls_term.specs.declared.term.TermForm.{TermForm}
 use Rattle.mls_term.specs.declared.term.TermForm.TheVariants as form
@@ -16,7 +18,9 @@ use Rattle.mls_parts.specs.PartUses.{AreBehindFirsts, HasOwnType, HaveOwnLabels}
 use Rattle.mls_parts.specs.PosedParts.{IsKnownType}
 use Rattle.mls_parts.specs.Posings.{known_in}
 use Rattle.mls_parts.specs.TreeNodes.{AreTreeNodes}
-use Rattle.mls_emit.specs.MadeFirsts.{AreAdded}
+use Rattle.mls_lines.specs.declared.known.GlobalAt.{GlobalAt}
+use Rattle.mls_lines.specs.Globals.{IsGlobalAt}
+use Rattle.mls_allowed.specs.MadeFirsts.{AreAdded}
 
 -- Nodes of one tree, in which no record has a label twice, and each use of a let's name stands behind the let's first
 -- part.
@@ -74,6 +78,32 @@ pub record KnowsForm (reads : List ReadScheme) (old new : BTreeMap ℕ Scheme) (
   pub types : AreNameTypes reads new
   pub there : (g : ℕ) → f ≡ form.Global g → IsSome (known_in new g)
   pub kept : (h : ℕ) → IsSome (known_in old h) → IsSome (known_in new h)
+
+-- The type of name g stands in the book, and its variables are below this number.
+pub record IsGlobalIn (reads : List ReadScheme) (book : List Node) (next g : ℕ) (global : GlobalAt) : Type 0 where
+  pub read : ReadScheme
+  pub is : slice_get reads g ≡ Some read
+  pub is_read : IsRead read
+  pub at : IsGlobalAt book read global
+  pub below : read.vars ≤ next
+
+-- so do the types of all names of the environment that have places
+abbrev pub AreGlobalsIn : List ReadScheme → List Node → (next : ℕ) → BTreeMap ℕ GlobalAt → Type 0
+AreGlobalsIn reads book next globals =
+    (g : ℕ) (global : GlobalAt) → get nat_cmp globals g ≡ Some global → IsGlobalIn reads book next g global
+
+-- the names of the environment that stand among the first n nodes have places
+abbrev pub HavePlaces : List TermNode → BTreeMap ℕ GlobalAt → ℕ → Type 0
+HavePlaces nodes globals n =
+    (i g : ℕ) → i < n → form_at nodes i ≡ Some (form.Global g) → IsSome (get nat_cmp globals g)
+
+-- The second map has a place for each name that has one in the first, and for that of a node of this form, if it is one
+-- of the environment.
+pub record PlacesForm (reads : List ReadScheme) (book : List Node) (next : ℕ) (old new : BTreeMap ℕ GlobalAt)
+    (f : TermForm) : Type 0 where
+  pub globals : AreGlobalsIn reads book next new
+  pub there : (g : ℕ) → f ≡ form.Global g → IsSome (get nat_cmp new g)
+  pub kept : (h : ℕ) → IsSome (get nat_cmp old h) → IsSome (get nat_cmp new h)
 
 -- The second map knows this type of the first part of let k besides.
 pub record KnowsFirst (old new : BTreeMap ℕ Scheme) (k : ℕ) (scheme : Scheme) : Type 0 where

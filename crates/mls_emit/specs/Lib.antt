@@ -1,4 +1,3 @@
 pub mod Derived
-pub mod MadeFirsts
 pub mod Drafts
-pub mod LetScopes
+pub mod PlainSections

@@ -2,7 +2,7 @@
 --     type_kept           the nodes of a type
 --     type_laid_kept      those that are laid out with variables for its edges
 --     layout_kept         the nodes of the states of a constraint
---     laid_out_kept       where all of them stand in the book
+--     laid_out_kept       where all of them stand in the book, with the same parts of heads
 use Rattle.std.proofs.Common.{◌≡◌, ◌⊎◌, inl, inr, ℕ, ◌+◌, ◌<◌, List, ◌++◌, length, Contains, refl, sym, ap, ◌∙◌, subst, arith, append_assoc, length-append, Option, Some, None}
 use Rattle.std.proofs.Math.ListN.{get_or-append}
 use Rattle.std.proofs.lemmas.List.{get_or_past}
@@ -131,13 +131,16 @@ module _ (nodes more : List Node) (closed : IsClosedBook nodes) where
   wider i low = let all : length longer ≡ length nodes + length more = length-append nodes more in omega (arith, low, all)
 
   pub laid_out_kept : (c : Constraint) (special : Scheme) (walked : List StatePair) (place type_place : ℕ → ℕ) → IsClosedBook longer
-      → IsLaidOut nodes c special walked place type_place → IsLaidOut longer c special walked place type_place
+      → (it : IsLaidOut nodes c special walked place type_place) → (now : IsLaidOut longer c special walked place type_place) × (now.layout.parts ≡ it.layout.parts)
   unfolding layout_kept
-  laid_out_kept c special walked place type_place closed_longer it = record {
-    closed = closed_longer;
-    layout = layout_kept c.automaton special.automaton (IsRelatedIn c) (IsIn walked) place type_place it.places it.type_places it.layout it.values;
-    parts = λ s i there. wider i (it.parts s i there);
-    values = λ n. wider (it.layout.value n) (it.values n);
-    places = λ s. wider (place s) (it.places s);
-    type_places = λ s. wider (type_place s) (it.type_places s);
-  }
+  laid_out_kept c special walked place type_place closed_longer it = (
+    record {
+      closed = closed_longer;
+      layout = layout_kept c.automaton special.automaton (IsRelatedIn c) (IsIn walked) place type_place it.places it.type_places it.layout it.values;
+      parts = λ s i there. wider i (it.parts s i there);
+      values = λ n. wider (it.layout.value n) (it.values n);
+      places = λ s. wider (place s) (it.places s);
+      type_places = λ s. wider (type_place s) (it.type_places s);
+    },
+    refl,
+  )

@@ -1,5 +1,6 @@
 -- A part that is laid out: its leaves, then the functions and records, and then the planned trees.
 --     trees_closed        trees name nodes that are there
+--     closed_with         a closed book with trees behind it is closed
 --     leaves_book         the leaves keep it a book
 --     closed_made         the book is closed
 --     places_below        places stand before the end of what is planned
@@ -66,6 +67,18 @@ trees_closed nodes more book are k d low =
     let all : length (nodes ++ more) ≡ length nodes + length more = length-append nodes more in
     tree_children (length nodes + k) (length (nodes ++ more)) (get_or more k d) (omega (arith, all, low)) (are k d low)
     (subst (IsOrdered (length nodes + k)) (get_or-append-add nodes more k node.Bot ∙ get_or_default more k node.Bot d low) (book (length nodes + k)))
+
+-- a closed book with trees behind it is closed
+pub closed_with : (nodes more : List Node) → IsClosedBook nodes → IsBook (nodes ++ more) → All IsOfTree more → IsClosedBook (nodes ++ more)
+closed_with nodes more closed book are =
+    let all : length (nodes ++ more) ≡ length nodes + length more = length-append nodes more in
+    record {
+      book = book;
+      closed =
+          All-append (HasChildrenBelow (length (nodes ++ more))) nodes more
+          (all_children_more (length nodes) (length (nodes ++ more)) (omega (arith, all)) nodes closed.closed)
+          (trees_closed nodes more book are);
+    }
 
 -- the leaves keep it a book
 pub leaves_book : (old : List Node) → IsBook old → IsBook (old ++ node.Bool ∷ node.Int ∷ node.Bot ∷ [])

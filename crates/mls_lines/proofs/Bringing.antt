@@ -1,21 +1,26 @@
 -- The lines that bring what a node concludes to an environment and a type, as the writer adds them.
 --     planned_append              the steps of one plan after another
---     lines_joined, adds_then     their lines
+--     lines_joined, adds_none, adds_then  their lines
 --     step_stands                 the step that was added last
+--     adapted_adds                the lines that bring a conclusion to an environment and a type
 --     bound_taken, step_taken     the step of a node
 --     taken_brings                brought to an environment and a type
-use Rattle.std.proofs.Common.{◌≡◌, ℕ, suc, List, [], ◌∷◌, ◌++◌, length, refl, sym, ap, ◌∙◌, subst, append-nil, append_assoc, slice_get, Some}
-use Rattle.std.specs.Prelude.{option_map}
+use Rattle.std.proofs.Common.{◌≡◌, ℕ, suc, ◌<◌, List, [], ◌∷◌, ◌++◌, length, refl, sym, ap, ◌∙◌, subst, append-nil, append_assoc, slice_get, Some}
+use Rattle.std.specs.Prelude.{All, option_map}
+use Rattle.std.proofs.lemmas.List.Elements.{All-nil}
 use Rattle.std.specs.BTreeMap.{get}
 use Rattle.std.specs.Ordering.{nat_cmp}
 use Rattle.mls_book.specs.declared.book.Node.{Node}
 use Rattle.mls_book.specs.declared.book.NodeId.{NodeId}
+use Rattle.mls_book.specs.Books.{IsClosedBook}
 use Rattle.mls_deriv.specs.declared.derivation.BinderNode.{BinderNode}
 use Rattle.mls_deriv.specs.declared.derivation.SectionLine.{SectionLine}
 use Rattle.mls_deriv.specs.declared.derivation.SectionLine.TheVariants as line
 use Rattle.mls_deriv.specs.declared.derivation.StepLine.{StepLine}
 use Rattle.mls_deriv.specs.declared.derivation.StepRule.TheVariants as rule
 use Rattle.mls_deriv.specs.Sections.{steps_of}
+use Rattle.mls_deriv.specs.Steps.{IsRising}
+use Rattle.mls_pairs.specs.PairLists.{IsInside}
 use Rattle.mls_layout.specs.Plans.{PlannedLine, a_step_with, a_let, planned_steps, AreLinesOf}
 use Rattle.mls_layout.specs.Runs.{a_step, lines_of}
 use Rattle.mls_layout.specs.Scopes.{entry}
@@ -24,8 +29,10 @@ use Rattle.mls_lines.specs.declared.steps.Steps.{Steps}
 use Rattle.mls_lines.specs.declared.writer.Concluded.TheVariants.{Bound, Step}
 use Rattle.mls_lines.specs.declared.writer.Writer as state
 use Rattle.mls_lines.specs.Conclusions.{Conclusion, Concluded, a_binder, by_step, IsAdapted, IsBrought}
-use Rattle.mls_lines.specs.Stepping.{conclusion_of, AddsStep, Adds, AreCounted, Stands, AddsAdapted}
-use Rattle.mls_lines.specs.Writer.{concluded_of, IsTaken, ConcludesNoMore, TakesStep, BringsNode}
+use Rattle.mls_lines.specs.Stepping.{conclusion_of, pairs_over, AddsStep, Adds, AreCounted, Stands, AddsAdapted}
+use Rattle.mls_lines.specs.Writer.{concluded_of, IsTaken, ConcludesNoMore, TakesStep, BringsNode, HasLowEnv, HasLowNodes}
+use Rattle.mls_lines.specs.PlainLines.{IsSound}
+use Rattle.mls_lines.proofs.LowNodes.{entry_low, pairs_low, step_low}
 use Rattle.mls_lines.proofs.Runs.{no_steps, steps_append, last_found}
 use Rattle.mls_lines.proofs.Stepping.{step_adds}
 
@@ -60,15 +67,19 @@ lines_steps book (a_let k number ∷ plan) steps lines (rest, is, are) = ap step
 
 pub adds_steps : (book : List Node) (old new : Steps) (plan : List PlannedLine) → Adds book old new plan → steps_of new.lines ≡ steps_of old.lines ++ planned_steps plan
 adds_steps book old new plan it =
-    ap steps_of it.lines ∙ (steps_append old.lines it.more ∙ ap (λ (l : List StepLine). steps_of old.lines ++ l) (lines_steps book plan (steps_of old.lines) it.more it.are))
+    ap steps_of it.lines ∙ (steps_append old.lines it.more ∙ ap (λ (l : List StepLine). steps_of old.lines ++ l) (lines_steps (book ++ []) plan (steps_of old.lines) it.more (it.are [])))
+
+pub adds_none : (book : List Node) (s : Steps) → AreCounted s → Adds book s s []
+adds_none book s counted = record { more = []; lines = sym (append-nil s.lines); are = λ later. refl; counted = counted }
 
 pub adds_then : (book : List Node) (old now new : Steps) (plan more : List PlannedLine) → Adds book old now plan → Adds book now new more → Adds book old new (plan ++ more)
 adds_then book old now new plan more first second = record {
   more = first.more ++ second.more;
   lines = second.lines ∙ (ap (λ (l : List SectionLine). l ++ second.more) first.lines ∙ append_assoc old.lines first.more second.more);
   are =
-      lines_joined book more second.more plan (steps_of old.lines) first.more first.are
-      (subst (λ (s : List StepLine). AreLinesOf book s more second.more) (adds_steps book old now plan first) second.are);
+      λ later.
+      lines_joined (book ++ later) more second.more plan (steps_of old.lines) first.more (first.are later)
+      (subst (λ (s : List StepLine). AreLinesOf (book ++ later) s more second.more) (adds_steps book old now plan first) (second.are later));
   counted = second.counted;
 }
 
@@ -84,8 +95,22 @@ step_stands old new step c counted it = record {
   root = sym it.root;
 }
 
-module _ (old now new : state.Writer) (i : ℕ) (u : NodeId) (from : written.Conclusion) (counted : AreCounted old.steps) (same_steps : now.steps ≡ old.steps) (same_laid : now.laid ≡ old.laid)
-    (fewer : ConcludesNoMore old now) where
+-- the lines that bring a conclusion to an environment and a type: their lists of pairs last
+pub adapted_adds : (now book : List Node) (old new : Steps) (i : ℕ) (from : written.Conclusion) (d : List BinderNode) (u : NodeId) (to : written.Conclusion) → now ≡ book → IsClosedBook book → IsRising from.env
+    → HasLowNodes (length book) from → HasLowEnv (length book) d → u.0 < length book → (it : AddsAdapted now old new i from d u to) → Adds book old new it.plan
+adapted_adds now book old new i from d u to same closed rising low d_low u_low it = record {
+  more = it.more;
+  lines = it.lines;
+  are =
+      λ later.
+      subst (λ (b : List Node). AreLinesOf (b ++ later) (steps_of old.lines) it.plan it.more) same
+      (it.lasting (subst IsClosedBook (sym same) closed) (λ x m found. subst (λ (b : List Node). m < length b) (sym same) (low.puts x m found))
+      (subst (λ (b : List Node). All (IsInside (length b)) (pairs_over from.env d from.root.0 u.0)) (sym same) (pairs_low (length book) d d_low from.env from.root.0 u.0 rising low.env low.root u_low)) later);
+  counted = it.counted;
+}
+
+module _ (old now new : state.Writer) (i : ℕ) (u : NodeId) (from : written.Conclusion) (sound : IsSound old) (u_low : u.0 < length old.laid.book) (same_steps : now.steps ≡ old.steps)
+    (same_laid : now.laid ≡ old.laid) (fewer : ConcludesNoMore old now) where
   pub bound_taken : (x : ℕ) → get nat_cmp old.concluded i ≡ Some (Bound x) → new.laid ≡ now.laid → new.concluded ≡ now.concluded
       → AddsStep now.steps new.steps (a_step i rule.Var (entry x u.0 ∷ []) u.0) from → TakesStep old new i u from
   bound_taken x found laid concluded adds =
@@ -95,15 +120,17 @@ module _ (old now new : state.Writer) (i : ℕ) (u : NodeId) (from : written.Con
         own = a_binder x;
         known = ap (option_map concluded_of) found;
         plan = a_step_with step [] ∷ [];
-        taken = (refl, λ n. record { number = (it.number ∙ counted) n; type = (it.root n).0; env = it.env n; puts = it.puts n });
-        adds = step_adds old.laid.book old.steps new.steps step from refl counted it;
-        stands = step_stands old.steps new.steps step from counted it;
+        taken = (refl, λ n. record { number = (it.number ∙ sound.counted) n; type = (it.root n).0; env = it.env n; puts = it.puts n });
+        adds = step_adds old.laid.book old.steps new.steps step from refl sound.counted it;
+        stands = step_stands old.steps new.steps step from sound.counted it;
+        rising = subst IsRising (sym it.env) (All-nil (λ (later : BinderNode). x < later.binder), tt);
+        low = step_low (length old.laid.book) old.steps new.steps step from it u_low (entry_low (length old.laid.book) x u.0 u_low);
         laid = laid ∙ same_laid;
         fewer = λ j own known. fewer j own (sym (ap (λ m. get nat_cmp m j) concluded) ∙ known);
       }
 
-  pub step_taken : get nat_cmp old.concluded i ≡ Some (Step from) → Stands (steps_of old.steps.lines) from → TakesStep old now i u from
-  step_taken found stands = record {
+  pub step_taken : get nat_cmp old.concluded i ≡ Some (Step from) → TakesStep old now i u from
+  step_taken found = record {
     own = by_step (conclusion_of from);
     known = ap (option_map concluded_of) found;
     plan = [];
@@ -111,30 +138,27 @@ module _ (old now new : state.Writer) (i : ℕ) (u : NodeId) (from : written.Con
     adds = record {
       more = [];
       lines = (λ n. (same_steps n).lines) ∙ sym (append-nil old.steps.lines);
-      are = refl;
-      counted = subst AreCounted (sym same_steps) counted;
+      are = λ later. refl;
+      counted = subst AreCounted (sym same_steps) sound.counted;
     };
-    stands = subst (λ (s : Steps). Stands (steps_of s.lines) from) (sym same_steps) stands;
+    stands = subst (λ (s : Steps). Stands (steps_of s.lines) from) (sym same_steps) (sound.have i from found);
+    rising = sound.rising i from found;
+    low = sound.low i from found;
     laid = same_laid;
     fewer = fewer;
   }
 
 -- behind the step of a node, the lines that bring it to an environment and a type
-pub taken_brings : (old now new : state.Writer) (i : ℕ) (d : List BinderNode) (u : NodeId) (from to : written.Conclusion) → TakesStep old now i u from
-    → AddsAdapted now.laid.book now.steps new.steps i from d u to → new.laid ≡ now.laid → new.concluded ≡ now.concluded → BringsNode old new i d u to.step
-taken_brings old now new i d u from to it adapts laid concluded = record {
+pub taken_brings : (old now new : state.Writer) (i : ℕ) (d : List BinderNode) (u : NodeId) (from to : written.Conclusion) → IsSound old → HasLowEnv (length old.laid.book) d → u.0 < length old.laid.book
+    → TakesStep old now i u from → AddsAdapted now.laid.book now.steps new.steps i from d u to → new.laid ≡ now.laid → new.concluded ≡ now.concluded → BringsNode old new i d u to.step
+taken_brings old now new i d u from to sound d_low u_low it adapts laid concluded = record {
   own = it.own;
   known = it.known;
   plan = it.plan ++ adapts.plan;
   brought = by_own it.own it.plan it.taken (adds_steps old.laid.book old.steps now.steps it.plan it.adds);
   adds =
       adds_then old.laid.book old.steps now.steps new.steps it.plan adapts.plan it.adds
-      (record {
-        more = adapts.more;
-        lines = adapts.lines;
-        are = subst (λ (book : List Node). AreLinesOf book (steps_of now.steps.lines) adapts.plan adapts.more) (λ n. (it.laid n).book) adapts.are;
-        counted = adapts.counted;
-      });
+      (adapted_adds now.laid.book old.laid.book now.steps new.steps i from d u to (λ n. (it.laid n).book) sound.closed it.rising it.low d_low u_low adapts);
   laid = laid ∙ it.laid;
   fewer = λ j own known. it.fewer j own (sym (ap (λ m. get nat_cmp m j) concluded) ∙ known);
 }

@@ -3,22 +3,25 @@
 --     goes_nowhere, goes_then, grown_on, brought_on, same_on  the writer goes on
 --     found_kept, sound_grown, sound_added, sound_brought     it stays sound
 --     offered_rising          what a node is offered rises
---     begins, brings_more, ends, continues    lines that are added one after the other
+--     begins, brings_more, ends   lines that are added one after the other
 --     brought_first, brought_at, step_own     what they tell
 --     joined_stays            joined environments in a longer book
-use Rattle.std.proofs.Common.{◌≡◌, inl, inr, ℕ, zero, suc, List, [], ◌∷◌, ◌++◌, length, refl, sym, ap, ◌∙◌, subst, slice_get, append-nil, append_assoc, Option, Some, None}
+use Rattle.std.proofs.Common.{◌≡◌, inl, inr, ℕ, zero, suc, ◌<◌, List, [], ◌∷◌, ◌++◌, length, refl, sym, ap, ◌∙◌, subst, slice_get, append-nil, append_assoc, Option, Some, None}
 use Rattle.std.specs.Prelude.{option_map}
 use Rattle.std.specs.BTreeMap.{get}
 use Rattle.std.specs.Ordering.{nat_cmp}
 use Rattle.std.specs.FinMap as env
 use Rattle.mls_book.specs.declared.book.Node.{Node}
 use Rattle.mls_book.specs.declared.book.Node.TheVariants as node
+use Rattle.mls_book.specs.Books.{IsClosedBook}
 use Rattle.mls_book.specs.declared.book.NodeId.{NodeId}
 use Rattle.mls_deriv.specs.declared.derivation.BinderNode.{BinderNode}
 use Rattle.mls_deriv.specs.declared.derivation.StepLine.{StepLine}
 use Rattle.mls_deriv.specs.Sections.{steps_of}
 use Rattle.mls_deriv.specs.Steps.{env_of, IsRising}
+use Rattle.mls_layout.specs.declared.layout.Places.{Places}
 use Rattle.mls_layout.specs.Emitted.{asked_at}
+use Rattle.mls_layout.specs.LaidOut.{place_of, IsLonger}
 use Rattle.mls_layout.specs.Plans.{PlannedLine, a_step_with, planned_steps}
 use Rattle.mls_lines.specs.declared.steps.Conclusion as conclusion
 use Rattle.mls_lines.specs.declared.steps.Steps.{Steps}
@@ -29,9 +32,10 @@ use Rattle.mls_lines.specs.Conclusions.{Conclusion, Concluded, by_step, IsBrough
 use Rattle.mls_lines.specs.NodeLines.{by_rule}
 use Rattle.mls_lines.specs.Stepping.{conclusion_of, AddsStep, Adds, AreCounted, Stands}
 use Rattle.mls_lines.specs.Writer.{concluded_of, concluded_in, ConcludesNoMore, BringsNode, Grows}
-use Rattle.mls_lines.specs.PlainLines.{AreConclusionsOf, IsSound, GoesOn, AddsLines, Continues}
+use Rattle.mls_lines.specs.PlainLines.{AreConclusionsOf, HaveLowPlaces, IsSound, GoesOn, AddsLines}
 use Rattle.mls_lines.proofs.Bringing.{adds_steps, adds_then, step_stands}
 use Rattle.mls_lines.proofs.JoinedEnvironments.{meet_stays}
+use Rattle.mls_lines.proofs.LowNodes.{below_longer, nodes_more}
 use Rattle.mls_lines.proofs.Stepping.{step_adds}
 
 pub concluded_before : (old new : state.Writer) → ConcludesNoMore old new → (i : ℕ) (own : Concluded) → concluded_in new i ≡ Some own → concluded_in old i ≡ Some own
@@ -46,6 +50,7 @@ pub goes_nowhere : (w : state.Writer) → GoesOn w w
 goes_nowhere w = record {
   more = [];
   book = sym (append-nil w.laid.book);
+  closed = λ is. is;
   places = refl;
   own = refl;
   boolean = refl;
@@ -57,6 +62,7 @@ pub goes_then : (first second third : state.Writer) → GoesOn first second → 
 goes_then first second third it later = record {
   more = it.more ++ later.more;
   book = later.book ∙ (ap (λ (l : List Node). l ++ later.more) it.book ∙ append_assoc first.laid.book it.more later.more);
+  closed = λ is. later.closed (it.closed is);
   places = later.places ∙ it.places;
   own = later.own ∙ it.own;
   boolean = later.boolean ∙ it.boolean;
@@ -68,6 +74,7 @@ pub grown_on : (old new : state.Writer) → Grows old new → GoesOn old new
 grown_on old new it = record {
   more = it.more;
   book = it.book;
+  closed = it.closed;
   places = it.places;
   own = it.own;
   boolean = it.boolean;
@@ -79,6 +86,7 @@ pub same_on : (old new : state.Writer) → new.laid ≡ old.laid → ConcludesNo
 same_on old new laid fewer = record {
   more = [];
   book = (λ n. (laid n).book) ∙ sym (append-nil old.laid.book);
+  closed = λ is. subst IsClosedBook (sym (λ n. (laid n).book)) is;
   places = λ n. (laid n).places;
   own = λ n. (laid n).own;
   boolean = λ n. (laid n).boolean;
@@ -98,25 +106,37 @@ found_kept (first ∷ steps) more found (suc n) e = found_kept steps more found 
 pub stands_kept : (steps more : List StepLine) (c : conclusion.Conclusion) → Stands steps c → Stands (steps ++ more) c
 stands_kept steps more c it = record { step = it.step; found = found_kept steps more it.step c.step it.found; env = it.env; root = it.root }
 
+-- the nodes of states are nodes of a longer book
+places_grown : (old new : state.Writer) → IsLonger old.laid.book new.laid.book → new.laid.places ≡ old.laid.places → HaveLowPlaces (length old.laid.book) old.laid.places
+    → HaveLowPlaces (length new.laid.book) new.laid.places
+places_grown old new longer same low = λ s.
+    subst (λ (places : Places). place_of places s < length new.laid.book) (sym same) (below_longer old.laid.book new.laid.book (place_of old.laid.places s) longer (low s))
+
 pub sound_grown : (old new : state.Writer) → Grows old new → IsSound old → IsSound new
 sound_grown old new it sound = record {
   counted = subst AreCounted (sym it.steps) sound.counted;
   have = λ i c known. subst (λ (s : Steps). Stands (steps_of s.lines) c) (sym it.steps) (sound.have i c (sym (ap (λ m. get nat_cmp m i) it.concluded) ∙ known));
   rising = λ i c known. sound.rising i c (sym (ap (λ m. get nat_cmp m i) it.concluded) ∙ known);
+  closed = it.closed sound.closed;
+  places = places_grown old new (it.more, it.book) it.places sound.places;
+  low = λ i c known. nodes_more (length old.laid.book) (length new.laid.book) (λ n. below_longer old.laid.book new.laid.book n (it.more, it.book)) c (sound.low i c (sym (ap (λ m. get nat_cmp m i) it.concluded) ∙ known));
 }
 
-pub sound_added : (book : List Node) (old new : state.Writer) (plan : List PlannedLine) → Adds book old.steps new.steps plan → ConcludesNoMore old new → IsSound old → IsSound new
-sound_added book old new plan it fewer sound = record {
+pub sound_added : (book : List Node) (old new : state.Writer) (plan : List PlannedLine) → Adds book old.steps new.steps plan → GoesOn old new → IsSound old → IsSound new
+sound_added book old new plan it goes sound = record {
   counted = it.counted;
   have =
       λ i c known.
       subst (λ (s : List StepLine). Stands s c) (sym (adds_steps book old.steps new.steps plan it))
-      (stands_kept (steps_of old.steps.lines) (planned_steps plan) c (sound.have i c (fewer i (Step c) known)));
-  rising = λ i c known. sound.rising i c (fewer i (Step c) known);
+      (stands_kept (steps_of old.steps.lines) (planned_steps plan) c (sound.have i c (goes.fewer i (Step c) known)));
+  rising = λ i c known. sound.rising i c (goes.fewer i (Step c) known);
+  closed = goes.closed sound.closed;
+  places = places_grown old new (goes.more, goes.book) goes.places sound.places;
+  low = λ i c known. nodes_more (length old.laid.book) (length new.laid.book) (λ n. below_longer old.laid.book new.laid.book n (goes.more, goes.book)) c (sound.low i c (goes.fewer i (Step c) known));
 }
 
 pub sound_brought : (old new : state.Writer) (i : ℕ) (d : List BinderNode) (u : NodeId) (number : ℕ) → BringsNode old new i d u number → IsSound old → IsSound new
-sound_brought old new i d u number it sound = sound_added old.laid.book old new it.plan it.adds it.fewer sound
+sound_brought old new i d u number it sound = sound_added old.laid.book old new it.plan it.adds (brought_on old new i d u number it) sound
 
 -- what a node is offered rises
 pub offered_rising : (node_of : ℕ → ℕ) (c : Conclusion) (u : ℕ) (d : List BinderNode) → IsRising c.env → IsOffered node_of (by_step c) u d → IsRising d
@@ -131,7 +151,7 @@ begins old now it sound = record {
   adds = record {
     more = [];
     lines = (λ n. (it.steps n).lines) ∙ sym (append-nil old.steps.lines);
-    are = refl;
+    are = λ later. refl;
     counted = subst AreCounted (sym it.steps) sound.counted;
   };
 }
@@ -153,7 +173,7 @@ module _ (old now new : state.Writer) (plan : List PlannedLine) (step : StepLine
       let adds = step_adds now.laid.book now.steps new.steps step own none so_far.sound.counted it in
       record {
         goes_on = goes_then old now new so_far.goes_on (same_on now new laid fewer);
-        sound = sound_added now.laid.book now new (a_step_with step [] ∷ []) adds fewer so_far.sound;
+        sound = sound_added now.laid.book now new (a_step_with step [] ∷ []) adds (same_on now new laid fewer) so_far.sound;
         adds =
             subst (λ (book : List Node). Adds book old.steps new.steps (plan ++ a_step_with step [] ∷ [])) (sym (λ n. (laid n).book))
             (adds_then now.laid.book old.steps now.steps new.steps plan (a_step_with step [] ∷ []) so_far.adds adds);
@@ -167,16 +187,6 @@ module _ (old now new : state.Writer) (plan : List PlannedLine) (step : StepLine
 
   pub own_stands : Stands (steps_of new.steps.lines) own
   own_stands = step_stands now.steps new.steps step own so_far.sound.counted it
-
-pub continues : (old new : state.Writer) (plan : List PlannedLine) → AddsLines old new plan → Continues old new plan
-continues old new plan it = record {
-  goes_on = it.goes_on;
-  sound = it.sound;
-  made = new.laid.book;
-  rest = [];
-  longer = sym (append-nil new.laid.book);
-  adds = it.adds;
-}
 
 -- what they tell
 module _ (old now new : state.Writer) (of : ℕ → Concluded) (agree : AreConclusionsOf old of) (i : ℕ) (d : List BinderNode) (u : NodeId) (number : ℕ) (it : BringsNode now new i d u number) where

@@ -6,7 +6,7 @@
 use Rattle.std.proofs.Common.{◌≡◌, ℕ, List, [], ◌∷◌, ◌++◌, length, refl, sym, ap, ◌∙◌, subst, append-nil, append_assoc}
 use Rattle.mls_book.specs.declared.book.Node.{Node}
 use Rattle.mls_book.specs.declared.book.NodeId.{NodeId}
-use Rattle.mls_book.specs.Books.{node_at}
+use Rattle.mls_book.specs.Books.{node_at, IsClosedBook}
 use Rattle.mls_deriv.specs.declared.derivation.BinderNode.{BinderNode}
 use Rattle.mls_layout.specs.declared.layout.Places.{Places}
 use Rattle.mls_layout.specs.LaidOut.{place_of, IsLonger}
@@ -30,6 +30,7 @@ pub grows_itself : (w : state.Writer) → Grows w w
 grows_itself w = record {
   more = [];
   book = sym (append-nil w.laid.book);
+  closed = λ is. is;
   places = refl;
   own = refl;
   boolean = refl;
@@ -42,6 +43,7 @@ pub grows_then : (first second third : state.Writer) → Grows first second → 
 grows_then first second third it later = record {
   more = it.more ++ later.more;
   book = later.book ∙ (ap (λ (l : List Node). l ++ later.more) it.book ∙ append_assoc first.laid.book it.more later.more);
+  closed = λ is. later.closed (it.closed is);
   places = later.places ∙ it.places;
   own = later.own ∙ it.own;
   boolean = later.boolean ∙ it.boolean;
@@ -55,6 +57,7 @@ pub grows_laid : (old now new : state.Writer) → Grows old now → new.laid ≡
 grows_laid old now new it laid steps concluded = record {
   more = it.more;
   book = (λ n. (laid n).book) ∙ it.book;
+  closed = λ is. subst IsClosedBook (sym (λ n. (laid n).book)) (it.closed is);
   places = (λ n. (laid n).places) ∙ it.places;
   own = (λ n. (laid n).own) ∙ it.own;
   boolean = (λ n. (laid n).boolean) ∙ it.boolean;

@@ -2,6 +2,7 @@
 --     lengthens_itself, lengthens_then, lengthens_kept, lengthens_on, lengthens_grown, lengthens_book   the nodes of states stay
 --     stepped_long, stepped_kept  so they do for a step as what a node concludes
 --     longer_from             the nodes of another book stay where they are
+--     global_kept             so does the type of a name of the environment
 --     copied_more, copied_from    copies of nodes, one after the other
 use Rattle.std.proofs.Common.{◌≡◌, ℕ, ◌+◌, ◌<◌, ◌≤◌, List, [], ◌∷◌, ◌++◌, map, take, length, refl, sym, ap, ◌∙◌, subst, arith, append_assoc, length-append}
 use Rattle.std.specs.Prelude.{IfOk, Ok, OnOk, Result}
@@ -18,6 +19,9 @@ use Rattle.mls_lines.specs.declared.steps.Conclusion as conclusion
 use Rattle.mls_lines.specs.declared.writer.Concluded as written
 use Rattle.mls_lines.specs.declared.writer.Concluded.TheVariants.{Step}
 use Rattle.mls_lines.specs.declared.writer.Writer as state
+use Rattle.mls_typetext.specs.declared.scheme.ReadScheme.{ReadScheme}
+use Rattle.mls_lines.specs.declared.known.GlobalAt.{GlobalAt}
+use Rattle.mls_lines.specs.Globals.{IsGlobalAt}
 use Rattle.mls_lines.specs.Writer.{Grows, Lengthens}
 use Rattle.mls_lines.proofs.Growing.{longer_itself, longer_then}
 use Rattle.mls_lines.proofs.PlainForms.{stepped_is}
@@ -67,6 +71,15 @@ longer_from old new other n (more, is) from = record {
       let within : n + length other ≤ length old = from.within in
       let here : n + i < length old = omega (arith, low, within) in
       ap (λ (xs : List Node). node_at xs (n + i)) is ∙ (get_or-append old more node.Bot (n + i) here ∙ from.nodes i low);
+}
+
+-- the type of a name of the environment stays in its place
+pub global_kept : (old new : List Node) (read : ReadScheme) (global : GlobalAt) → IsLonger old new → IsGlobalAt old read global → IsGlobalAt new read global
+global_kept old new read global longer it = record {
+  from = longer_from old new read.book global.first longer it.from;
+  root = it.root;
+  variables = it.variables;
+  showing = it.showing;
 }
 
 -- one node more is copied

@@ -10,10 +10,11 @@ pub mod PlainForms
 pub mod Lengthening
 pub mod ToldForms
 pub mod PlainRecords
-pub mod WithinLines
 pub mod WrittenNodes
 pub mod WholeParts
 pub mod PutLists
 pub mod PlainLets
 pub mod JoinedPuts
 pub mod ShownTops
+pub mod FrontLists
+pub mod LowNodes

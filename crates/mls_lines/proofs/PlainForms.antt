@@ -3,7 +3,7 @@
 --     fun_writes, rec_writes, project_writes, apply_writes, choice_writes, global_writes, inner_writes
 --     number_writes, truth_writes, bound_writes
 --     stepped_is              a step as what a node concludes
-use Rattle.std.proofs.Common.{◌≡◌, inl, inr, ℕ, suc, Bool, List, [], ◌∷◌, ◌++◌, length, refl, sym, ap, ◌∙◌, subst, Some, None}
+use Rattle.std.proofs.Common.{◌≡◌, inl, inr, ℕ, suc, ◌<◌, Bool, List, [], ◌∷◌, ◌++◌, length, refl, sym, ap, ◌∙◌, subst, Some, None}
 use Rattle.std.specs.Prelude.{Contains, Err, IfOk, IsSome, Ok, OnOk, Result}
 use Rattle.std.proofs.lemmas.Result.{IfOk-at_ok, IfOk-weaker}
 use Rattle.std.specs.BTreeMap.{BTreeMap, get}
@@ -12,13 +12,16 @@ use Rattle.mls_book.specs.declared.book.Field.{Field}
 use Rattle.mls_book.specs.declared.book.Node.{Node}
 use Rattle.mls_book.specs.declared.book.Node.TheVariants as node
 use Rattle.mls_book.specs.declared.book.NodeId.{NodeId}
-use Rattle.mls_book.specs.Books.{node_at, field_at}
+use Rattle.mls_book.specs.Books.{node_at, field_at, IsClosedBook}
 use Rattle.mls_term.specs.declared.term.TermForm.TheVariants as form
 use Rattle.mls_deriv.specs.declared.claim.Put.{Put}
 use Rattle.mls_deriv.specs.declared.derivation.BinderNode.{BinderNode}
+use Rattle.mls_deriv.specs.declared.derivation.StepLine.{StepLine}
 use Rattle.mls_deriv.specs.declared.derivation.StepRule.TheVariants as rule
+use Rattle.mls_deriv.specs.Pairs.{put_at}
 use Rattle.mls_deriv.specs.Sections.{steps_of}
 use Rattle.mls_deriv.specs.Steps.{IsRising}
+use Rattle.mls_layout.specs.declared.layout.LaidOut.{LaidOut}
 use Rattle.mls_layout.specs.LaidOut.{place_of}
 use Rattle.mls_layout.specs.Parts.{Constraint}
 use Rattle.mls_layout.specs.Plans.{PlannedLine, a_step_with, planned_steps}
@@ -26,6 +29,7 @@ use Rattle.mls_layout.specs.Runs.{a_step, id}
 use Rattle.mls_parts.specs.declared.pose.Posing.{Posing}
 use Rattle.mls_parts.specs.PosedGoals.{IsPosedAt}
 use Rattle.mls_parts.specs.Posings.{or_zero, root_in}
+use Rattle.mls_automaton.specs.declared.scheme.Scheme.{Scheme}
 use Rattle.mls_lines.specs.declared.known.FirstPart.{FirstPart}
 use Rattle.mls_lines.specs.declared.known.GlobalAt.{GlobalAt}
 use Rattle.mls_lines.specs.declared.steps.Conclusion as conclusion
@@ -37,11 +41,13 @@ use Rattle.mls_lines.specs.Conclusions.{Concluded, by_step, IsBrought, IsWith, I
 use Rattle.mls_lines.specs.NodeLines.{IsLeafWritten, NamesKnown, by_rule}
 use Rattle.mls_lines.specs.Writings.{IsPartOf}
 use Rattle.mls_lines.specs.Stepping.{AddsStep, conclusion_of}
-use Rattle.mls_lines.specs.Writer.{concluded_in, own_node, BringsNode, Grows, Offers}
-use Rattle.mls_lines.specs.PlainLines.{AreConclusionsOf, HasOwnParts, IsSound, IsSoundOwn, AddsLines, Continues, JoinsThree, WritesNode, standing}
+use Rattle.mls_lines.specs.Writer.{concluded_in, own_node, BringsNode, Grows, HasLowEnv, HasLowNodes, Offers}
+use Rattle.mls_lines.specs.PlainLines.{AreConclusionsOf, HasOwnParts, IsSound, IsSoundOwn, AddsLines, HaveLowFirsts, HaveLowGlobals, JoinsThree, WritesNode, standing}
+use Rattle.mls_lines.specs.Puts.{ArePutsOfFirst, ArePutsOfGlobal}
 use Rattle.mls_lines.proofs.Growing.{grows_itself}
-use Rattle.mls_lines.proofs.GoingOn.{begins, brings_more, ends, step_own, own_stands, continues, brought_first, brought_at}
+use Rattle.mls_lines.proofs.GoingOn.{begins, brings_more, ends, step_own, own_stands, brought_first, brought_at}
 use Rattle.mls_lines.proofs.JoinedEnvironments.{meet_stays}
+use Rattle.mls_lines.proofs.LowNodes.{arrow_low, field_low, none_low, offers_low, step_low, there_low, three_low, two_low, up, with_puts_low, without_low}
 
 -- a node whose conclusion is known
 pub is_known : (w : state.Writer) (i : ℕ) (own : Concluded) → concluded_in w i ≡ Some own → IsSome (concluded_in w i)
@@ -51,7 +57,7 @@ is_known w i own known = subst IsSome (sym known) refl
 pub offered_of : (w : state.Writer) (p : Posing) (of : ℕ → Concluded) (i u : ℕ) (d : List BinderNode) → AreConclusionsOf w of → Offers w p i u d → IsOffered (own_node w p) (of i) u d
 offered_of w p of i u d agree it = subst (λ (o : Concluded). IsOffered (own_node w p) o u d) (sym (agree i it.own it.known)) it.offers
 
-module _ (globals : BTreeMap ℕ GlobalAt) (firsts : BTreeMap ℕ FirstPart) (c : Constraint) (p : Posing) (parts : ℕ → List ℕ) (i : ℕ) (old : state.Writer) (sound : IsSound old) where
+module _ (globals : BTreeMap ℕ GlobalAt) (firsts : BTreeMap ℕ FirstPart) (lets : BTreeMap ℕ Scheme) (c : Constraint) (p : Posing) (parts : ℕ → List ℕ) (i : ℕ) (old : state.Writer) (sound : IsSound old) where
   -- one part, which is brought to a type and an environment, and the step of the node
   module _ (now new : state.Writer) (j : ℕ) (inner : List BinderNode) (u : NodeId) (number : ℕ) (it : BringsNode old now j inner u number) (own : conclusion.Conclusion) (same : new.laid ≡ now.laid)
       (kept : new.concluded ≡ now.concluded) where
@@ -61,14 +67,20 @@ module _ (globals : BTreeMap ℕ GlobalAt) (firsts : BTreeMap ℕ FirstPart) (c 
     so_far : AddsLines old now it.plan
     so_far = brings_more old old now [] j inner u number (begins old old (grows_itself old) sound) it
 
+    low_own : (step : StepLine) → AddsStep now.steps new.steps step own → step.root.0 < length old.laid.book → HasLowEnv (length old.laid.book) step.env → HasLowNodes (length new.laid.book) own
+    low_own step adds root env =
+        subst (λ (book : List Node). HasLowNodes (length book) own) (sym book_is) (step_low (length old.laid.book) now.steps new.steps step own adds root env)
+
     used_part : (m : ℕ) → j ≡ m → IsSome (concluded_in old m)
     used_part m is = subst (λ k. IsSome (concluded_in old k)) is (is_known old j it.own it.known)
 
     pub fun_writes : (x : ℕ) (arrow from : NodeId) (offered outer : List BinderNode) → Contains (parts (root_in p i)) arrow.0 → node_at old.laid.book arrow.0 ≡ node.Arrow from u
         → Offers old p j u.0 offered → IsWith offered x from.0 inner → IsWithout offered x outer
-        → AddsStep now.steps new.steps (a_step i (rule.Fun number) outer arrow.0) own → WritesNode globals firsts c p parts i (form.Fun x j) old new (Step own)
+        → AddsStep now.steps new.steps (a_step i (rule.Fun number) outer arrow.0) own → WritesNode globals firsts lets c p parts i (form.Fun x j) old new (Step own)
     fun_writes x arrow from offered outer there is offers longer shorter adds =
         let step = a_step i (rule.Fun number) outer arrow.0 in
+        let all = arrow_low old.laid.book sound.closed arrow.0 from u is in
+        let outer_low = without_low (length old.laid.book) offered outer x shorter (offers_low old p sound j u.0 offered all.2 offers) in
         record {
           puts = None;
           plan = it.plan ++ a_step_with step [] ∷ [];
@@ -89,15 +101,17 @@ module _ (globals : BTreeMap ℕ GlobalAt) (firsts : BTreeMap ℕ FirstPart) (c 
             plan_is = refl;
             own_is = ap by_step (step_own old now new it.plan step own so_far adds);
           };
+          puts_are = λ closed. refl;
           used = used_part;
-          continues = continues old new (it.plan ++ a_step_with step [] ∷ []) (ends old now new it.plan step own so_far adds refl same kept);
-          sound_own = (own_stands old now new it.plan step own so_far adds, subst IsRising (sym adds.env) shorter.rising);
+          continues = ends old now new it.plan step own so_far adds refl same kept;
+          sound_own = (own_stands old now new it.plan step own so_far adds, subst IsRising (sym adds.env) shorter.rising, low_own step adds all.0 outer_low);
         }
 
     pub rec_writes : (x : ℕ) (offered outer : List BinderNode) → u.0 ≡ (standing old p parts).place (root_in p j) → Offers old p j u.0 offered → IsWith offered x u.0 inner
-        → IsWithout offered x outer → AddsStep now.steps new.steps (a_step i (rule.Rec number) outer u.0) own → WritesNode globals firsts c p parts i (form.Rec x j) old new (Step own)
+        → IsWithout offered x outer → AddsStep now.steps new.steps (a_step i (rule.Rec number) outer u.0) own → WritesNode globals firsts lets c p parts i (form.Rec x j) old new (Step own)
     rec_writes x offered outer place offers longer shorter adds =
         let step = a_step i (rule.Rec number) outer u.0 in
+        let root_low : u.0 < length old.laid.book = subst (λ n. n < length old.laid.book) (sym place) (sound.places (root_in p j)) in
         record {
           puts = None;
           plan = it.plan ++ a_step_with step [] ∷ [];
@@ -118,16 +132,19 @@ module _ (globals : BTreeMap ℕ GlobalAt) (firsts : BTreeMap ℕ FirstPart) (c 
                     ap by_step (step_own old now new it.plan step own so_far adds)
                     ∙ ap (λ t. by_step (by_rule (length (steps_of old.steps.lines ++ planned_steps it.plan)) (a_step i (rule.Rec number) outer t))) place;
               };
+          puts_are = λ closed. refl;
           used = used_part;
-          continues = continues old new (it.plan ++ a_step_with step [] ∷ []) (ends old now new it.plan step own so_far adds refl same kept);
-          sound_own = (own_stands old now new it.plan step own so_far adds, subst IsRising (sym adds.env) shorter.rising);
+          continues = ends old now new it.plan step own so_far adds refl same kept;
+          sound_own = (own_stands old now new it.plan step own so_far adds, subst IsRising (sym adds.env) shorter.rising, low_own step adds root_low (without_low (length old.laid.book) offered outer x shorter (offers_low old p sound j u.0 offered root_low offers)));
         }
 
     pub project_writes : (label : List ℕ) (others : List Field) (to : NodeId) → IsPosedAt c p (form.Project j label) i → Contains (parts (suc (suc (root_in p i)))) u.0
         → node_at old.laid.book u.0 ≡ node.Rcd others → field_at label others ≡ Some to → Offers old p j u.0 inner
-        → AddsStep now.steps new.steps (a_step i (rule.Proj number) inner to.0) own → WritesNode globals firsts c p parts i (form.Project j label) old new (Step own)
+        → AddsStep now.steps new.steps (a_step i (rule.Proj number) inner to.0) own → WritesNode globals firsts lets c p parts i (form.Project j label) old new (Step own)
     project_writes label others to (fields, is_goal, flows) there is found offers adds =
         let step = a_step i (rule.Proj number) inner to.0 in
+        let rcd_low : u.0 < length old.laid.book = there_low old.laid.book u.0 (node.Rcd others) (λ no. absurd (cc)) is in
+        let to_low : to.0 < length old.laid.book = field_low old.laid.book sound.closed u.0 others label to is found in
         record {
           puts = None;
           plan = it.plan ++ a_step_with step [] ∷ [];
@@ -151,9 +168,10 @@ module _ (globals : BTreeMap ℕ GlobalAt) (firsts : BTreeMap ℕ FirstPart) (c 
             plan_is = refl;
             own_is = ap by_step (step_own old now new it.plan step own so_far adds);
           };
+          puts_are = λ closed. refl;
           used = used_part;
-          continues = continues old new (it.plan ++ a_step_with step [] ∷ []) (ends old now new it.plan step own so_far adds refl same kept);
-          sound_own = (own_stands old now new it.plan step own so_far adds, subst IsRising (sym adds.env) offers.rising);
+          continues = ends old now new it.plan step own so_far adds refl same kept;
+          sound_own = (own_stands old now new it.plan step own so_far adds, subst IsRising (sym adds.env) offers.rising, low_own step adds to_low (offers_low old p sound j u.0 inner rcd_low offers));
         }
 
   -- an application
@@ -162,13 +180,16 @@ module _ (globals : BTreeMap ℕ GlobalAt) (firsts : BTreeMap ℕ FirstPart) (c 
       (kept : new.concluded ≡ second.concluded) where
     pub apply_writes : (left right : List BinderNode) → IsPosedAt c p (form.Apply j k) i → Contains (parts (suc (suc (root_in p i)))) arrow.0 → node_at old.laid.book arrow.0 ≡ node.Arrow from to
         → Offers old p j arrow.0 left → Offers old p k from.0 right → IsJoined (own_node old p) grown.laid.book left right outer
-        → AddsStep second.steps new.steps (a_step i (rule.App number other) outer to.0) own → WritesNode globals firsts c p parts i (form.Apply j k) old new (Step own)
+        → AddsStep second.steps new.steps (a_step i (rule.App number other) outer to.0) own → WritesNode globals firsts lets c p parts i (form.Apply j k) old new (Step own)
     apply_writes left right (arms, is_goal, flows) there is offers others joins adds =
         let step = a_step i (rule.App number other) outer to.0 in
         let start = begins old grown grows sound in
         let once = brings_more old grown first [] j outer arrow number start it in
         let twice = brings_more old first second it.plan k outer from other once later in
         let book_is : new.laid.book ≡ grown.laid.book = (λ n. (same n).book) ∙ ((λ n. (later.laid n).book) ∙ (λ n. (it.laid n).book)) in
+        let all = arrow_low old.laid.book sound.closed arrow.0 from to is in
+        let outer_low = two_low old grown p sound grows j k arrow.0 from.0 left right outer offers others all.0 all.1 joins in
+        let low = step_low (length grown.laid.book) second.steps new.steps step own adds (up old grown p sound grows to.0 all.2) outer_low in
         record {
           puts = None;
           plan = (it.plan ++ later.plan) ++ a_step_with step [] ∷ [];
@@ -202,9 +223,10 @@ module _ (globals : BTreeMap ℕ GlobalAt) (firsts : BTreeMap ℕ FirstPart) (c 
             plan_is = refl;
             own_is = ap by_step (step_own old second new (it.plan ++ later.plan) step own twice adds);
           };
+          puts_are = λ closed. refl;
           used = λ m is. by_part m is;
-          continues = continues old new ((it.plan ++ later.plan) ++ a_step_with step [] ∷ []) (ends old second new (it.plan ++ later.plan) step own twice adds refl same kept);
-          sound_own = (own_stands old second new (it.plan ++ later.plan) step own twice adds, subst IsRising (sym adds.env) joins.rising);
+          continues = ends old second new (it.plan ++ later.plan) step own twice adds refl same kept;
+          sound_own = (own_stands old second new (it.plan ++ later.plan) step own twice adds, subst IsRising (sym adds.env) joins.rising, subst (λ (book : List Node). HasLowNodes (length book) own) (sym book_is) low);
         }
       where
         by_part : (m : ℕ) → IsPartOf (form.Apply j k) m → IsSome (concluded_in old m)
@@ -217,7 +239,7 @@ module _ (globals : BTreeMap ℕ GlobalAt) (firsts : BTreeMap ℕ FirstPart) (c 
       (same : new.laid ≡ third.laid) (kept : new.concluded ≡ third.concluded) where
     pub choice_writes : (into : ℕ) → IsPosedAt c p (form.If j k l) i → get nat_cmp p.results i ≡ Some into → HasOwnParts old c.automaton parts → truth ≡ old.laid.boolean
         → top.0 ≡ place_of old.laid.places into → JoinsThree old grown p j k l truth.0 top.0 outer → AddsStep third.steps new.steps (a_step i (rule.If number other last) outer top.0) own
-        → WritesNode globals firsts c p parts i (form.If j k l) old new (Step own)
+        → WritesNode globals firsts lets c p parts i (form.If j k l) old new (Step own)
     choice_writes into (bit, noted, found, is_bit, goal_first, goal_second, goal_third, flows) result have truth_is place joined adds =
         let step = a_step i (rule.If number other last) outer top.0 in
         let start = begins old grown grows sound in
@@ -227,6 +249,11 @@ module _ (globals : BTreeMap ℕ GlobalAt) (firsts : BTreeMap ℕ FirstPart) (c 
         let lines : List PlannedLine = (it.plan ++ later.plan) ++ latest.plan in
         let book_is : new.laid.book ≡ grown.laid.book = (λ n. (same n).book) ∙ ((λ n. (latest.laid n).book) ∙ ((λ n. (later.laid n).book) ∙ (λ n. (it.laid n).book))) in
         let into_is : noted ≡ into = ap or_zero (sym found ∙ result) in
+        let truth_low : truth.0 < length old.laid.book =
+        subst (λ (n : NodeId). n.0 < length old.laid.book) (sym truth_is) (there_low old.laid.book old.laid.boolean.0 node.Bool (λ no. absurd (cc)) have.is_boolean) in
+        let top_low : top.0 < length old.laid.book = subst (λ n. n < length old.laid.book) (sym place) (sound.places into) in
+        let outer_low = three_low old grown p sound grows j k l truth.0 top.0 outer joined truth_low top_low in
+        let low = step_low (length grown.laid.book) third.steps new.steps step own adds (up old grown p sound grows top.0 top_low) outer_low in
         let place_is : top.0 ≡ place_of old.laid.places noted = place ∙ ap (place_of old.laid.places) (sym into_is) in
         record {
           puts = None;
@@ -269,9 +296,10 @@ module _ (globals : BTreeMap ℕ GlobalAt) (firsts : BTreeMap ℕ FirstPart) (c 
                     ap by_step (step_own old third new lines step own thrice adds)
                     ∙ ap (λ t. by_step (by_rule (length (steps_of old.steps.lines ++ planned_steps lines)) (a_step i (rule.If number other last) outer t))) place_is;
               };
+          puts_are = λ closed. refl;
           used = λ m is. by_part m joined is;
-          continues = continues old new (lines ++ a_step_with step [] ∷ []) (ends old third new lines step own thrice adds refl same kept);
-          sound_own = (own_stands old third new lines step own thrice adds, subst IsRising (sym adds.env) joined.joins.rising);
+          continues = ends old third new lines step own thrice adds refl same kept;
+          sound_own = (own_stands old third new lines step own thrice adds, subst IsRising (sym adds.env) joined.joins.rising, subst (λ (book : List Node). HasLowNodes (length book) own) (sym book_is) low);
         }
       where
         by_part : (m : ℕ) → JoinsThree old grown p j k l truth.0 top.0 outer → IsPartOf (form.If j k l) m → IsSome (concluded_in old m)
@@ -280,14 +308,16 @@ module _ (globals : BTreeMap ℕ GlobalAt) (firsts : BTreeMap ℕ FirstPart) (c 
         by_part m joined (inr (inr is)) = subst (λ n. IsSome (concluded_in old n)) is (is_known old l joined.offers_right.own joined.offers_right.known)
 
   -- a name of the environment
-  pub global_writes : (g : ℕ) (grown new : state.Writer) (known : GlobalAt) (own : conclusion.Conclusion) (puts : List Put) → get nat_cmp globals g ≡ Some known → Grows old grown
-      → new.laid ≡ grown.laid → new.concluded ≡ grown.concluded → AddsStep grown.steps new.steps (a_step i (rule.Name (id known.first)) [] known.root.0) own
-      → WritesNode globals firsts c p parts i (form.Global g) old new (Step (record own { puts = puts }))
-  global_writes g grown new known own puts found grows same kept adds =
+  pub global_writes : (g : ℕ) (grown new : state.Writer) (known : GlobalAt) (own : conclusion.Conclusion) (puts : List Put) → HaveLowGlobals (length old.laid.book) globals
+      → ((x m : ℕ) → put_at puts x ≡ Some m → m < length grown.laid.book) → get nat_cmp globals g ≡ Some known → Grows old grown → new.laid ≡ grown.laid → new.concluded ≡ grown.concluded → AddsStep grown.steps new.steps (a_step i (rule.Name (id known.first)) [] known.root.0) own
+      → (IsClosedBook old.laid.book → ArePutsOfGlobal grown.laid.book old.laid.places p i known puts) → WritesNode globals firsts lets c p parts i (form.Global g) old new (Step (record own { puts = puts }))
+  global_writes g grown new known own puts globals_low puts_are_low found grows same kept adds are =
       let step = a_step i (rule.Name (id known.first)) [] known.root.0 in
       let start = begins old grown grows sound in
       let stands = own_stands old grown new [] step own start adds in
       let number : own.step ≡ length (steps_of old.steps.lines) = adds.number ∙ (start.sound.counted ∙ ap (λ (s : Steps). length (steps_of s.lines)) grows.steps) in
+      let low = with_puts_low (length grown.laid.book) own puts
+      (step_low (length grown.laid.book) grown.steps new.steps step own adds (up old grown p sound grows known.root.0 (globals_low g known found)) (none_low (length grown.laid.book))) puts_are_low in
       record {
         puts = Some puts;
         plan = a_step_with step [] ∷ [];
@@ -299,20 +329,34 @@ module _ (globals : BTreeMap ℕ GlobalAt) (firsts : BTreeMap ℕ FirstPart) (c 
               plan_is = λ n. a_step_with (a_step i (rule.Name (id (from_is n))) [] (type_is n)) [] ∷ [];
               own_is = λ n. by_step (record { number = number n; type = own_type n; env = adds.env n; puts = sym puts_is n });
             };
+        puts_are = λ closed. record {
+          own = puts;
+          is = refl;
+          global = known;
+          known = found;
+          are = subst (λ (l : LaidOut). ArePutsOfGlobal l.book old.laid.places p i known puts) (sym same) (are closed);
+        };
         used = λ m no. absurd no;
-        continues = continues old new (a_step_with step [] ∷ []) (ends old grown new [] step own start adds refl same kept);
-        sound_own = (record { step = stands.step; found = stands.found; env = stands.env; root = stands.root }, subst IsRising (sym adds.env) tt);
+        continues = ends old grown new [] step own start adds refl same kept;
+        sound_own = (
+          record { step = stands.step; found = stands.found; env = stands.env; root = stands.root },
+          subst IsRising (sym adds.env) tt,
+          subst (λ (book : List Node). HasLowNodes (length book) (record own { puts = puts })) (sym (λ n. (same n).book)) low,
+        );
       }
 
   -- a let-bound name
-  pub inner_writes : (k : ℕ) (new : state.Writer) (part : FirstPart) (own : conclusion.Conclusion) (puts : List Put) → get nat_cmp firsts k ≡ Some part → IsRising part.env → new.laid ≡ old.laid
+  pub inner_writes : (k : ℕ) (new : state.Writer) (part : FirstPart) (own : conclusion.Conclusion) (puts : List Put) → HaveLowFirsts (length old.laid.book) firsts
+      → ((x m : ℕ) → put_at puts x ≡ Some m → m < length old.laid.book) → get nat_cmp firsts k ≡ Some part → IsRising part.env → new.laid ≡ old.laid
       → new.concluded ≡ old.concluded → AddsStep old.steps new.steps (a_step i (rule.Use part.step) part.env part.root.0) own
-      → WritesNode globals firsts c p parts i (form.Inner k) old new (Step (record own { puts = puts }))
-  inner_writes k new part own puts found rising same kept adds =
+      → ArePutsOfFirst old.laid.places p lets i k part.variable puts → WritesNode globals firsts lets c p parts i (form.Inner k) old new (Step (record own { puts = puts }))
+  inner_writes k new part own puts firsts_low puts_are_low found rising same kept adds are =
       let step = a_step i (rule.Use part.step) part.env part.root.0 in
       let start = begins old old (grows_itself old) sound in
       let stands = own_stands old old new [] step own start adds in
       let number : own.step ≡ length (steps_of old.steps.lines) = adds.number ∙ sound.counted in
+      let part_low = firsts_low k part found in
+      let low = with_puts_low (length old.laid.book) own puts (step_low (length old.laid.book) old.steps new.steps step own adds part_low.0 part_low.1) puts_are_low in
       record {
         puts = Some puts;
         plan = a_step_with step [] ∷ [];
@@ -326,9 +370,14 @@ module _ (globals : BTreeMap ℕ GlobalAt) (firsts : BTreeMap ℕ FirstPart) (c 
               plan_is = λ n. a_step_with (a_step i (rule.Use (step_is n)) (env_is n) (type_is n)) [] ∷ [];
               own_is = λ n. by_step (record { number = number n; type = own_type n; env = own_env n; puts = sym puts_is n });
             };
+        puts_are = λ closed. record { part = part; known = found; first = record { own = puts; is = refl; are = are } };
         used = λ m no. absurd no;
-        continues = continues old new (a_step_with step [] ∷ []) (ends old old new [] step own start adds refl same kept);
-        sound_own = (record { step = stands.step; found = stands.found; env = stands.env; root = stands.root }, subst IsRising (sym adds.env) rising);
+        continues = ends old old new [] step own start adds refl same kept;
+        sound_own = (
+          record { step = stands.step; found = stands.found; env = stands.env; root = stands.root },
+          subst IsRising (sym adds.env) rising,
+          subst (λ (book : List Node). HasLowNodes (length book) (record own { puts = puts })) (sym (λ n. (same n).book)) low,
+        );
       }
 
   -- a number, a truth value and a use of a binder
@@ -347,39 +396,47 @@ module _ (globals : BTreeMap ℕ GlobalAt) (firsts : BTreeMap ℕ FirstPart) (c 
       own_is = λ n. by_step (record { number = (adds.number ∙ sound.counted) n; type = (adds.root n).0; env = adds.env n; puts = adds.puts n });
     }
 
-    leaf_continues : Continues old new leaf_plan
-    leaf_continues = continues old new leaf_plan (ends old old new [] (a_step i rule.Lit [] root.0) own (begins old old (grows_itself old) sound) adds refl same kept)
+    leaf_continues : AddsLines old new leaf_plan
+    leaf_continues = ends old old new [] (a_step i rule.Lit [] root.0) own (begins old old (grows_itself old) sound) adds refl same kept
 
-    leaf_sound : IsSoundOwn (steps_of new.steps.lines) (Step own)
-    leaf_sound = (own_stands old old new [] (a_step i rule.Lit [] root.0) own (begins old old (grows_itself old) sound) adds, subst IsRising (sym adds.env) tt)
+    leaf_sound : (leaf : Node) → (leaf ≡ node.Bot → ⊥) → node_at old.laid.book root.0 ≡ leaf → IsSoundOwn new.laid.book (steps_of new.steps.lines) (Step own)
+    leaf_sound leaf other is = (
+      own_stands old old new [] (a_step i rule.Lit [] root.0) own (begins old old (grows_itself old) sound) adds,
+      subst IsRising (sym adds.env) tt,
+      subst (λ (book : List Node). HasLowNodes (length book) own) (sym (λ n. (same n).book))
+          (step_low (length old.laid.book) old.steps new.steps (a_step i rule.Lit [] root.0) own adds (there_low old.laid.book root.0 leaf other is) (none_low (length old.laid.book))),
+    )
 
-    pub number_writes : (value : ℕ) → node_at old.laid.book root.0 ≡ node.Int → WritesNode globals firsts c p parts i (form.Number value) old new (Step own)
+    pub number_writes : (value : ℕ) → node_at old.laid.book root.0 ≡ node.Int → WritesNode globals firsts lets c p parts i (form.Number value) old new (Step own)
     number_writes value is = record {
       puts = None;
       plan = leaf_plan;
       tells = λ names are_names puts of agree. leaf_told node.Int is names of;
+      puts_are = λ closed. refl;
       used = λ m no. absurd no;
       continues = leaf_continues;
-      sound_own = leaf_sound;
+      sound_own = leaf_sound node.Int (λ no. absurd (cc)) is;
     }
 
-    pub truth_writes : (value : Bool) → node_at old.laid.book root.0 ≡ node.Bool → WritesNode globals firsts c p parts i (form.Truth value) old new (Step own)
+    pub truth_writes : (value : Bool) → node_at old.laid.book root.0 ≡ node.Bool → WritesNode globals firsts lets c p parts i (form.Truth value) old new (Step own)
     truth_writes value is = record {
       puts = None;
       plan = leaf_plan;
       tells = λ names are_names puts of agree. leaf_told node.Bool is names of;
+      puts_are = λ closed. refl;
       used = λ m no. absurd no;
       continues = leaf_continues;
-      sound_own = leaf_sound;
+      sound_own = leaf_sound node.Bool (λ no. absurd (cc)) is;
     }
 
-  pub bound_writes : (x : ℕ) → WritesNode globals firsts c p parts i (form.Bound x) old old (Bound x)
+  pub bound_writes : (x : ℕ) → WritesNode globals firsts lets c p parts i (form.Bound x) old old (Bound x)
   bound_writes x = record {
     puts = None;
     plan = [];
     tells = λ names are_names puts of agree. (refl, refl);
+    puts_are = λ closed. refl;
     used = λ m no. absurd no;
-    continues = continues old old [] (begins old old (grows_itself old) sound);
+    continues = begins old old (grows_itself old) sound;
     sound_own = tt;
   }
 

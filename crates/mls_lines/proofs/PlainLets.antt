@@ -2,7 +2,7 @@
 --     bound_own, step_own_taken       the step of a node is taken out, whatever its type is
 --     settled_as_is, settled_put_in   the second part by a step of its own
 --     let_writes                      a let
-use Rattle.std.proofs.Common.{◌≡◌, ◌⊎◌, inl, inr, ℕ, ◌<◌, List, [], ◌∷◌, ◌++◌, length, refl, sym, ap, ◌∙◌, subst, append-nil, Option, Some, None}
+use Rattle.std.proofs.Common.{◌≡◌, ◌≢◌, ◌⊎◌, inl, inr, ℕ, ◌<◌, List, [], ◌∷◌, ◌++◌, length, refl, sym, ap, ◌∙◌, subst, append-nil, Option, Some, None}
 use Rattle.std.specs.Prelude.{IsSome, option_map}
 use Rattle.std.proofs.lemmas.List.Elements.{All-nil}
 use Rattle.std.specs.BTreeMap.{BTreeMap, get}
@@ -24,11 +24,12 @@ use Rattle.mls_deriv.specs.Steps.{env_of, IsRising}
 use Rattle.mls_layout.specs.declared.layout.LaidOut.{LaidOut}
 use Rattle.mls_layout.specs.LaidOut.{place_of}
 use Rattle.mls_layout.specs.Parts.{Constraint}
-use Rattle.mls_layout.specs.Plans.{PlannedLine, a_step_with, planned_steps, AreLinesOf}
+use Rattle.mls_layout.specs.Plans.{PlannedLine, a_step_with, planned_steps}
 use Rattle.mls_layout.specs.Runs.{a_step}
 use Rattle.mls_layout.specs.Scopes.{entry}
 use Rattle.mls_parts.specs.declared.pose.Posing.{Posing}
 use Rattle.mls_parts.specs.Posings.{binder_in, root_in}
+use Rattle.mls_automaton.specs.declared.scheme.Scheme.{Scheme}
 use Rattle.mls_lines.specs.declared.known.FirstPart.{FirstPart}
 use Rattle.mls_lines.specs.declared.known.GlobalAt.{GlobalAt}
 use Rattle.mls_lines.specs.declared.steps.Conclusion as conclusion
@@ -37,13 +38,14 @@ use Rattle.mls_lines.specs.declared.writer.Concluded.TheVariants.{Bound, Step}
 use Rattle.mls_lines.specs.declared.writer.Writer as state
 use Rattle.mls_lines.specs.Conclusions.{Conclusion, Concluded, a_binder, by_step, bound_as, IsAdapted, IsPlaced, IsSettled, a_bound, settled, put_in}
 use Rattle.mls_lines.specs.Environments.{IsMetIn}
-use Rattle.mls_lines.specs.PlainLines.{ArePutIn, IsSound, SettlesNode, TakesOwn, WritesNode}
-use Rattle.mls_lines.specs.Puts.{ShareVariable}
+use Rattle.mls_lines.specs.PlainLines.{ArePutIn, HaveLowFirsts, IsSound, SettlesNode, TakesOwn, WritesNode}
+use Rattle.mls_lines.specs.Puts.{ArePutsOfFirst, PutsFirst, ShareVariable}
 use Rattle.mls_lines.specs.Stepping.{conclusion_of, Adds, AddsAdapted, AddsStep, AreCounted, Stands}
-use Rattle.mls_lines.specs.Writer.{concluded_in, concluded_of, own_node, ConcludesNoMore, Grows}
-use Rattle.mls_lines.proofs.Bringing.{adds_steps, adds_then, step_stands}
+use Rattle.mls_lines.specs.Writer.{concluded_in, concluded_of, own_node, ConcludesNoMore, Grows, HasLowEnv, HasLowNodes}
+use Rattle.mls_lines.proofs.Bringing.{adapted_adds, adds_steps, adds_then, step_stands}
 use Rattle.mls_lines.proofs.GoingOn.{goes_then, grown_on, same_on, sound_added}
-use Rattle.mls_lines.proofs.Stepping.{step_adds}
+use Rattle.mls_lines.proofs.LowNodes.{below_longer, entry_low, env_more, met_low, placed_low, puts_joined_low, puts_low, step_low, with_puts_low}
+use Rattle.mls_lines.proofs.Stepping.{adds_longer, step_adds}
 
 -- the step of a node is taken out, whatever its type is
 module _ (old now new : state.Writer) (p : Posing) (i : ℕ) (from : conclusion.Conclusion) (sound : IsSound old) (same_steps : now.steps ≡ old.steps) (same_laid : now.laid ≡ old.laid) (fewer : ConcludesNoMore old now) where
@@ -53,6 +55,7 @@ module _ (old now new : state.Writer) (p : Posing) (i : ℕ) (from : conclusion.
       let step = a_step i rule.Var (entry x u.0 ∷ []) u.0 in
       let count : ℕ = length (steps_of old.steps.lines) in
       let it = subst (λ (s : Steps). AddsStep s new.steps step from) same_steps adds in
+      let u_low : u.0 < length old.laid.book = subst (λ n. n < length old.laid.book) (sym place) (sound.places (binder_in p x)) in
       let is : conclusion_of from ≡ bound_as x u.0 count = λ n. record { number = (it.number ∙ sound.counted) n; type = (it.root n).0; env = it.env n; puts = it.puts n } in
       record {
         own = a_binder x;
@@ -65,6 +68,7 @@ module _ (old now new : state.Writer) (p : Posing) (i : ℕ) (from : conclusion.
         adds = step_adds old.laid.book old.steps new.steps step from refl sound.counted it;
         stands = step_stands old.steps new.steps step from sound.counted it;
         rising = subst IsRising (sym it.env) (All-nil (λ (later : BinderNode). x < later.binder), tt);
+        low = step_low (length old.laid.book) old.steps new.steps step from it u_low (entry_low (length old.laid.book) x u.0 u_low);
         laid = laid ∙ same_laid;
         fewer = λ j own known. fewer j own (sym (ap (λ m. get nat_cmp m j) concluded) ∙ known);
       }
@@ -78,11 +82,12 @@ module _ (old now new : state.Writer) (p : Posing) (i : ℕ) (from : conclusion.
     adds = record {
       more = [];
       lines = (λ n. (same_steps n).lines) ∙ sym (append-nil old.steps.lines);
-      are = refl;
+      are = λ later. refl;
       counted = subst AreCounted (sym same_steps) sound.counted;
     };
     stands = subst (λ (s : Steps). Stands (steps_of s.lines) from) (sym same_steps) (sound.have i from found);
     rising = sound.rising i from found;
+    low = sound.low i from found;
     laid = same_laid;
     fewer = fewer;
   }
@@ -97,6 +102,7 @@ settled_as_is old now p i from puts it apart = record {
   settles = it.settles (place_of old.laid.places (root_in p i));
   adds = it.adds;
   rising = it.rising;
+  low = it.low;
   apart = apart;
   laid = it.laid;
   fewer = it.fewer;
@@ -111,10 +117,10 @@ put_in_behind node_of steps i top own plan more c placed number settled some is_
     put_in placed more number is_placed (subst (λ (l : List StepLine). IsAdapted c (length l) i placed top more number) (append-nil steps) adapts)
 put_in_behind node_of steps i top own plan more c placed number (put_in other lines last is_other adapted) some is_placed adapts = absurd (some refl)
 
-pub settled_put_in : (old now new : state.Writer) (p : Posing) (i : ℕ) (from to : conclusion.Conclusion) (puts : List Put) (placed : List BinderNode) (u : NodeId) → TakesOwn old now p i from
+pub settled_put_in : (old now new : state.Writer) (p : Posing) (i : ℕ) (from to : conclusion.Conclusion) (puts : List Put) (placed : List BinderNode) (u : NodeId) → IsSound old → TakesOwn old now p i from
     → ShareVariable from.puts puts → IsPlaced (own_node now p) from.env placed → u.0 ≡ place_of now.laid.places (root_in p i)
     → AddsAdapted now.laid.book now.steps new.steps i from placed u to → new.laid ≡ now.laid → new.concluded ≡ now.concluded → SettlesNode old new p i puts to
-settled_put_in old now new p i from to puts placed u it (x, m, n, one, two) is_placed place adapts laid concluded =
+settled_put_in old now new p i from to puts placed u sound it (x, m, n, one, two) is_placed place adapts laid concluded =
     let steps : List StepLine = steps_of old.steps.lines in
     let top : ℕ = place_of old.laid.places (root_in p i) in
     let root_is : u.0 ≡ top = place ∙ (λ k. place_of (it.laid k).places (root_in p i)) in
@@ -124,6 +130,8 @@ settled_put_in old now new p i from to puts placed u it (x, m, n, one, two) is_p
     let is : conclusion_of to ≡ record { number = to.step; type = top; env = placed; puts = [] } =
     λ k. record { number = to.step; type = ((λ h. (adapts.root h).0) ∙ root_is) k; env = adapts.env k; puts = adapts.puts k } in
     let placed_before = subst (λ (l : LaidOut). IsPlaced (λ y. place_of l.places (binder_in p y)) from.env placed) it.laid is_placed in
+    let root_low : u.0 < length old.laid.book = subst (λ k. k < length old.laid.book) (sym root_is) (sound.places (root_in p i)) in
+    let env_low = placed_low (own_node old p) (length old.laid.book) (λ y. sound.places (binder_in p y)) from.env placed placed_before in
     let adapted = subst (λ t. IsAdapted (conclusion_of from) (length (steps ++ planned_steps it.plan)) i placed t adapts.plan to.step) root_is
     (subst (λ k. IsAdapted (conclusion_of from) k i placed u.0 adapts.plan to.step) count adapts.adapts) in
     record {
@@ -135,13 +143,13 @@ settled_put_in old now new p i from to puts placed u it (x, m, n, one, two) is_p
           (put_in_behind (own_node old p) steps i top it.own it.plan adapts.plan (conclusion_of from) placed to.step (it.settles top) some placed_before adapted);
       adds =
           adds_then old.laid.book old.steps now.steps new.steps it.plan adapts.plan it.adds
-          (record {
-            more = adapts.more;
-            lines = adapts.lines;
-            are = subst (λ (book : List Node). AreLinesOf book (steps_of now.steps.lines) adapts.plan adapts.more) (λ k. (it.laid k).book) adapts.are;
-            counted = adapts.counted;
-          });
+          (adapted_adds now.laid.book old.laid.book now.steps new.steps i from placed u to (λ k. (it.laid k).book) sound.closed it.rising it.low env_low root_low adapts);
       rising = subst IsRising (sym adapts.env) is_placed.rising;
+      low = record {
+        root = subst (λ (r : NodeId). r.0 < length old.laid.book) (sym adapts.root) root_low;
+        env = subst (HasLowEnv (length old.laid.book)) (sym adapts.env) env_low;
+        puts = puts_low (length old.laid.book) to.puts adapts.puts;
+      };
       apart = λ y k e. ap (λ (l : List Put). put_at l y) adapts.puts;
       laid = laid ∙ it.laid;
       fewer = λ j own known. it.fewer j own (sym (ap (λ m. get nat_cmp m j) concluded) ∙ known);
@@ -153,11 +161,13 @@ noted [] puts = None
 noted (first ∷ rest) puts = Some puts
 
 -- a let
-module _ (globals : BTreeMap ℕ GlobalAt) (firsts : BTreeMap ℕ FirstPart) (c : Constraint) (p : Posing) (parts : ℕ → List ℕ) (i : ℕ) (old : state.Writer) (sound : IsSound old) where
-  pub let_writes : (k j l : ℕ) (now grown new : state.Writer) (part : FirstPart) (puts : List Put) (second own : conclusion.Conclusion) (met : List BinderNode) → get nat_cmp firsts k ≡ Some part → (part.env ≡ [] → puts ≡ [])
+module _ (globals : BTreeMap ℕ GlobalAt) (firsts : BTreeMap ℕ FirstPart) (lets : BTreeMap ℕ Scheme) (c : Constraint) (p : Posing) (parts : ℕ → List ℕ) (i : ℕ) (old : state.Writer) (sound : IsSound old) where
+  pub let_writes : (k j l : ℕ) (now grown new : state.Writer) (part : FirstPart) (puts : List Put) (second own : conclusion.Conclusion) (met : List BinderNode) → HaveLowFirsts (length old.laid.book) firsts
+      → ((x m : ℕ) → put_at puts x ≡ Some m → m < length old.laid.book) → get nat_cmp firsts k ≡ Some part → (part.env ≡ [] → puts ≡ [])
+      → (part.env ≢ [] → ArePutsOfFirst old.laid.places p lets i k part.variable puts)
       → SettlesNode old now p l puts second → Grows now grown → IsMetIn grown.laid.book part.env second.env met → new.laid ≡ grown.laid → new.concluded ≡ grown.concluded
-      → AddsStep grown.steps new.steps (a_step i (rule.Let part.step second.step) met second.root.0) own → WritesNode globals firsts c p parts i (form.Let k j l) old new (Step (record own { puts = second.puts ++ puts }))
-  let_writes k j l now grown new part puts second own met found none it grows met_in same kept adds =
+      → AddsStep grown.steps new.steps (a_step i (rule.Let part.step second.step) met second.root.0) own → WritesNode globals firsts lets c p parts i (form.Let k j l) old new (Step (record own { puts = second.puts ++ puts }))
+  let_writes k j l now grown new part puts second own met firsts_low puts_are_low found none edges it grows met_in same kept adds =
       let steps : List StepLine = steps_of old.steps.lines in
       let step = a_step i (rule.Let part.step second.step) met second.root.0 in
       let plan : List PlannedLine = it.plan ++ a_step_with step [] ∷ [] in
@@ -170,6 +180,13 @@ module _ (globals : BTreeMap ℕ GlobalAt) (firsts : BTreeMap ℕ FirstPart) (c 
       adds.number ∙ (counted ∙ ap (λ (s : List StepLine). length s) (adds_steps old.laid.book old.steps grown.steps it.plan so_far)) in
       let stands = step_stands grown.steps new.steps step own counted adds in
       let book_is : new.laid.book ≡ grown.laid.book = λ n. (same n).book in
+      let grown_is : grown.laid.book ≡ old.laid.book ++ grows.more = grows.book ∙ ap (λ (book : List Node). book ++ grows.more) (λ n. (it.laid n).book) in
+      let up : (n : ℕ) → n < length old.laid.book → n < length grown.laid.book = λ n. below_longer old.laid.book grown.laid.book n (grows.more, grown_is) in
+      let met_is_low = met_low grown.laid.book part.env second.env met met_in (env_more (length old.laid.book) (length grown.laid.book) up part.env (firsts_low k part found).1)
+      (env_more (length old.laid.book) (length grown.laid.book) up second.env it.low.env) in
+      let low = with_puts_low (length grown.laid.book) own (second.puts ++ puts)
+      (step_low (length grown.laid.book) grown.steps new.steps step own adds (up second.root.0 it.low.root) met_is_low)
+      (λ x m at. up m (puts_joined_low (length old.laid.book) second.puts puts x m (it.low.puts x m) (puts_are_low x m) at)) in
       record {
         puts = noted part.env puts;
         plan = plan;
@@ -191,18 +208,24 @@ module _ (globals : BTreeMap ℕ GlobalAt) (firsts : BTreeMap ℕ FirstPart) (c 
               plan_is = λ n. it.plan ++ a_step_with (a_step i (rule.Let (step_is n) second.step) met second.root.0) [] ∷ [];
               own_is = λ n. by_step (record { number = number n; type = (adds.root n).0; env = adds.env n; puts = second.puts ++ puts });
             };
+        puts_are = λ closed. record { part = part; known = found; first = puts_first part.env refl };
         used = λ m is. subst (λ n. IsSome (concluded_in old n)) is (subst IsSome (sym it.known) refl);
         continues = record {
           goes_on = goes;
-          sound = sound_added old.laid.book old new plan added goes.fewer sound;
-          made = old.laid.book;
-          rest = grows.more;
-          longer = book_is ∙ (grows.book ∙ ap (λ (book : List Node). book ++ grows.more) (λ n. (it.laid n).book));
-          adds = added;
+          sound = sound_added old.laid.book old new plan added goes sound;
+          adds = subst (λ (book : List Node). Adds book old.steps new.steps plan) (sym (book_is ∙ grown_is)) (adds_longer old.laid.book grows.more old.steps new.steps plan added);
         };
-        sound_own = (record { step = stands.step; found = stands.found; env = stands.env; root = stands.root }, subst IsRising (sym adds.env) met_in.rising);
+        sound_own = (
+          record { step = stands.step; found = stands.found; env = stands.env; root = stands.root },
+          subst IsRising (sym adds.env) met_in.rising,
+          subst (λ (book : List Node). HasLowNodes (length book) (record own { puts = second.puts ++ puts })) (sym book_is) low,
+        );
       }
     where
+      puts_first : (d : List BinderNode) → part.env ≡ d → ((part.env ≡ []) × (noted part.env puts ≡ None)) ⊎ PutsFirst old.laid.places p lets i k part (noted part.env puts)
+      puts_first [] is = inl (is, ap (λ (d : List BinderNode). noted d puts) is)
+      puts_first (first ∷ rest) is = inr (record { own = puts; is = ap (λ (d : List BinderNode). noted d puts) is; are = edges (λ none. absurd (cc)) })
+
       are_put_in : (d : List BinderNode) → part.env ≡ d → (e : Env) → e ≡ env_of part.env → (own_puts : List Put) → ArePutIn (noted d puts) own_puts → (puts ≡ own_puts) ⊎ ((puts ≡ []) × ((x : ℕ) → env.get e x ≡ None))
       are_put_in [] is e env_is own_puts are = inr (none is, λ x. ap (λ (d : Env). env.get d x) (env_is ∙ ap env_of is) ∙ get-empty nat_cmp x)
       are_put_in (first ∷ rest) is e env_is own_puts are = inl (sym are)

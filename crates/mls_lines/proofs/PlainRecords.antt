@@ -28,6 +28,7 @@ use Rattle.mls_layout.specs.Plans.{PlannedLine, a_step_with, planned_steps}
 use Rattle.mls_layout.specs.Runs.{a_step}
 use Rattle.mls_parts.specs.declared.pose.Posing.{Posing}
 use Rattle.mls_parts.specs.Posings.{binder_in, root_in}
+use Rattle.mls_automaton.specs.declared.scheme.Scheme.{Scheme}
 use Rattle.mls_lines.specs.declared.known.FirstPart.{FirstPart}
 use Rattle.mls_lines.specs.declared.known.GlobalAt.{GlobalAt}
 use Rattle.mls_lines.specs.declared.steps.Conclusion as conclusion
@@ -42,8 +43,9 @@ use Rattle.mls_lines.specs.PlainLines.{AddsLines, AreConclusionsOf, IsSound, Wri
 use Rattle.mls_lines.specs.PlainRecords.{AreFieldsOf, BringsParts, JoinsParts, OfferAll}
 use Rattle.mls_lines.proofs.Bringing.{planned_append}
 use Rattle.mls_lines.proofs.Growing.{grows_itself}
-use Rattle.mls_lines.proofs.GoingOn.{begins, brings_more, brought_at, concluded_before, continues, ends, goes_then, grown_on, own_stands, same_on, step_own}
+use Rattle.mls_lines.proofs.GoingOn.{begins, brings_more, brought_at, concluded_before, ends, goes_then, grown_on, own_stands, same_on, step_own}
 use Rattle.mls_lines.proofs.JoinedEnvironments.{meet_stays}
+use Rattle.mls_lines.proofs.LowNodes.{below_longer, nodes_more, parts_low, step_low, there_low, up}
 use Rattle.mls_lines.proofs.PlainForms.{is_known, offered_of}
 use Rattle.mls_lines.proofs.ToldForms.{all_joined_stay}
 
@@ -185,15 +187,17 @@ adds_grown old grown new plan grows it = record {
 }
 
 -- a record
-module _ (globals : BTreeMap ℕ GlobalAt) (firsts : BTreeMap ℕ FirstPart) (c : Constraint) (p : Posing) (places : ℕ → List ℕ) (i : ℕ) (old grown now new : state.Writer) (grows : Grows old grown)
+module _ (globals : BTreeMap ℕ GlobalAt) (firsts : BTreeMap ℕ FirstPart) (lets : BTreeMap ℕ Scheme) (c : Constraint) (p : Posing) (places : ℕ → List ℕ) (i : ℕ) (old grown now new : state.Writer) (grows : Grows old grown)
     (fields : List Field) (parts : List Part) (outer : List BinderNode) (numbers : List ℕ) (joined : JoinsParts old grown p fields parts outer)
     (it : BringsParts grown now outer fields parts numbers) (own : conclusion.Conclusion) (same : new.laid ≡ now.laid) (kept : new.concluded ≡ now.concluded) where
-  pub make_writes : (id : NodeId) → Contains (places (root_in p i)) id.0 → node_at old.laid.book id.0 ≡ node.Rcd fields
-      → AddsStep now.steps new.steps (a_step i (rule.Make numbers) outer id.0) own → WritesNode globals firsts c p places i (form.Make parts) old new (Step own)
-  make_writes id there is adds =
+  pub make_writes : (id : NodeId) → IsSound old → Contains (places (root_in p i)) id.0 → node_at old.laid.book id.0 ≡ node.Rcd fields
+      → AddsStep now.steps new.steps (a_step i (rule.Make numbers) outer id.0) own → WritesNode globals firsts lets c p places i (form.Make parts) old new (Step own)
+  make_writes id sound there is adds =
       let step = a_step i (rule.Make numbers) outer id.0 in
       let so_far = adds_grown old grown now it.plan grows it.adds in
       let later = goes_then grown now new it.adds.goes_on (same_on now new same (λ j known found. sym (ap (λ m. get nat_cmp m j) kept) ∙ found)) in
+      let low = step_low (length grown.laid.book) now.steps new.steps step own adds
+      (up old grown p sound grows id.0 (there_low old.laid.book id.0 (node.Rcd fields) (λ no. absurd (cc)) is)) (parts_low old grown p sound grows id.0 fields parts outer is joined) in
       record {
         puts = None;
         plan = it.plan ++ a_step_with step [] ∷ [];
@@ -219,7 +223,12 @@ module _ (globals : BTreeMap ℕ GlobalAt) (firsts : BTreeMap ℕ FirstPart) (c 
           plan_is = refl;
           own_is = ap by_step (step_own old now new it.plan step own so_far adds);
         };
+        puts_are = λ closed. refl;
         used = λ m part. subst (λ n. IsSome (concluded_in old n)) part.2 (offers_known old p fields parts joined.offered joined.offers part.0 part.1);
-        continues = continues old new (it.plan ++ a_step_with step [] ∷ []) (ends old now new it.plan step own so_far adds refl same kept);
-        sound_own = (own_stands old now new it.plan step own so_far adds, subst IsRising (sym adds.env) (all_joined_rising (own_node old p) grown.laid.book [] outer joined.offered joined.joins tt));
+        continues = ends old now new it.plan step own so_far adds refl same kept;
+        sound_own = (
+          own_stands old now new it.plan step own so_far adds,
+          subst IsRising (sym adds.env) (all_joined_rising (own_node old p) grown.laid.book [] outer joined.offered joined.joins tt),
+          nodes_more (length grown.laid.book) (length new.laid.book) (λ n. below_longer grown.laid.book new.laid.book n (later.more, later.book)) own low,
+        );
       }

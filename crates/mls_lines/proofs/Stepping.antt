@@ -1,9 +1,9 @@
 -- Steps that are written bring a conclusion to an environment and a type.
---     pair_written        a pair line of a step by pairs is of its list
 --     stays_adapted       no line
 --     sub_adapted         a step by pairs
 --     step_adds           a step that asks for no pair
-use Rattle.std.proofs.Common.{◌≡◌, ◌⊎◌, inl, inr, ℕ, suc, ◌<◌, List, [], ◌∷◌, ◌++◌, length, refl, sym, ap, ◌∙◌, subst, arith, append-nil, Option}
+--     adds_longer         lines that are added last in a longer book
+use Rattle.std.proofs.Common.{◌≡◌, ◌⊎◌, inl, inr, ℕ, suc, ◌<◌, List, [], ◌∷◌, ◌++◌, length, refl, sym, ap, ◌∙◌, subst, arith, append-nil, append_assoc, Option}
 use Rattle.std.specs.Prelude.{Contains}
 use Rattle.std.proofs.lemmas.List.Elements.{All-nil, All-contains, Contains-append_right}
 use Rattle.mls_book.specs.declared.book.Node.{Node}
@@ -24,9 +24,10 @@ use Rattle.mls_layout.specs.Emitted.{asked_at, asked_after}
 use Rattle.mls_deriv.proofs.ScopedNames.{first_or_later}
 use Rattle.mls_pairs.specs.Lines.{pair_line, pair_lines, put_lines}
 use Rattle.mls_pairs.specs.PairLists.{pair_of, IsInside, IsPairList}
-use Rattle.mls_layout.specs.Plans.{a_step_with}
+use Rattle.mls_layout.specs.Plans.{PlannedLine, AreLinesOf, a_step_with}
 use Rattle.mls_layout.specs.Runs.{a_step, lines_of}
 use Rattle.mls_lines.specs.Stepping.{conclusion_of, pairs_over, AddsStep, Adds, AddsSub, AreCounted, Stands, AddsAdapted}
+use Rattle.mls_lines.proofs.FrontLists.{front_list}
 use Rattle.mls_lines.proofs.Runs.{no_steps, steps_append}
 
 -- a step by pairs asks for the pairs that go over from the step before
@@ -53,7 +54,7 @@ pub step_adds : (book : List Node) (old new : Steps) (step : StepLine) (c : writ
 step_adds book old new step c none counted it = record {
   more = line.Step step ∷ [];
   lines = it.lines;
-  are = ([], [], subst (λ (l : List Pair). IsPairList book [] l []) (sym none) (no_pairs book []), refl, refl);
+  are = λ later. ([], [], subst (λ (l : List Pair). IsPairList (book ++ later) [] l []) (sym none) (no_pairs (book ++ later) []), refl, refl);
   counted =
       it.count
       ∙ (ap suc counted
@@ -61,35 +62,14 @@ step_adds book old new step c none counted it = record {
       ∙ ap (λ (l : List StepLine). length l) (sym (ap steps_of it.lines ∙ steps_append old.lines (line.Step step ∷ [])))));
 }
 
--- the pair of a line, if it has one
-abbrev pair_in : Pair → SectionLine → Pair
-pair_in other (line.Pair mode i j) = pair_of mode i.0 j.0
-pair_in other _ = other
-
--- a pair line of a list is of a pair of it
-pair_of_line : (pairs : List Pair) (pair : Pair) → Contains (pair_lines pairs) (pair_line pair) → Contains pairs pair
-pair_of_line [] pair there = absurd (let low : there.0 < 0 = there.1 in omega arith)
-pair_of_line (first ∷ rest) pair there = go (first_or_later (pair_line first) (pair_lines rest) (pair_line pair) there) (pair_of_line rest pair)
-  where
-    go : (pair_line first ≡ pair_line pair) ⊎ Contains (pair_lines rest) (pair_line pair) → (Contains (pair_lines rest) (pair_line pair) → Contains rest pair) → Contains (first ∷ rest) pair
-    go (inl e) later = (0, omega arith, ap (pair_in first) e)
-    go (inr h) later = Contains-append_right (first ∷ []) rest pair (later h)
-
-behind_puts : (puts : List Put) (pairs : List Pair) (pair : Pair) → Contains (put_lines puts ++ pair_lines pairs) (pair_line pair) → Contains pairs pair
-behind_puts [] pairs pair there = pair_of_line pairs pair there
-behind_puts (put ∷ puts) pairs pair there = go (first_or_later (line.Put put.variable (record { 0 = put.node })) (put_lines puts ++ pair_lines pairs) (pair_line pair) there) (behind_puts puts pairs pair)
-  where
-    go : (line.Put put.variable (record { 0 = put.node }) ≡ pair_line pair) ⊎ Contains (put_lines puts ++ pair_lines pairs) (pair_line pair)
-        → (Contains (put_lines puts ++ pair_lines pairs) (pair_line pair) → Contains pairs pair) → Contains pairs pair
-    go (inl e) later = absurd (cc)
-    go (inr h) later = later h
-
-pub pair_written : (step : StepLine) (puts : List Put) (pairs : List Pair) (pair : Pair) → Contains (lines_of step puts pairs) (pair_line pair) → Contains pairs pair
-pair_written step puts pairs pair there = go (first_or_later (line.Step step) (put_lines puts ++ pair_lines pairs) (pair_line pair) there)
-  where
-    go : (line.Step step ≡ pair_line pair) ⊎ Contains (put_lines puts ++ pair_lines pairs) (pair_line pair) → Contains pairs pair
-    go (inl e) = absurd (cc)
-    go (inr h) = behind_puts puts pairs pair h
+-- lines that are added last in a longer book
+pub adds_longer : (book more : List Node) (old new : Steps) (plan : List PlannedLine) → Adds book old new plan → Adds (book ++ more) old new plan
+adds_longer book more old new plan it = record {
+  more = it.more;
+  lines = it.lines;
+  are = λ later. subst (λ (b : List Node). AreLinesOf b (steps_of old.lines) plan it.more) (sym (append_assoc book more later)) (it.are (more ++ later));
+  counted = it.counted;
+}
 
 module _ (book : List Node) (old : Steps) (node : ℕ) (from : written.Conclusion) (d : List BinderNode) (u : NodeId) where
   pub stays_adapted : AreCounted old → from.puts ≡ [] → from.root ≡ u → from.env ≡ d → AddsAdapted book old old node from d u from
@@ -98,8 +78,7 @@ module _ (book : List Node) (old : Steps) (node : ℕ) (from : written.Conclusio
     adapts = as_it_is none (λ n. (same_root n).0) same_env;
     more = [];
     lines = sym (append-nil old.lines);
-    are = refl;
-    inside = λ closed low asked pair there. absurd (let none : there.0 < 0 = there.1 in omega arith);
+    lasting = λ closed low asked later. refl;
     counted = counted;
     root = same_root;
     env = same_env;
@@ -115,14 +94,14 @@ module _ (book : List Node) (old : Steps) (node : ℕ) (from : written.Conclusio
         adapts = subst (λ z. IsAdapted (conclusion_of from) old.count node d u.0 (a_step_with step from.puts ∷ []) z) (sym it.number) by_pairs;
         more = own;
         lines = it.lines;
-        are = (
+        lasting = λ closed low asked later. (
           it.pairs,
           [],
-          subst (λ (l : List Pair). IsPairList book from.puts l it.pairs) (sym (asked_is (steps_of old.lines) node from d u stands)) it.list,
+          subst (λ (l : List Pair). IsPairList (book ++ later) from.puts l it.pairs) (sym (asked_is (steps_of old.lines) node from d u stands))
+              (front_list book later closed from.puts low (pairs_over from.env d from.root.0 u.0) it.pairs asked (it.inside closed.closed low asked) it.list),
           sym (append-nil own),
           refl,
         );
-        inside = λ closed low asked pair there. All-contains (IsInside (length book)) it.pairs pair (it.inside closed low asked) (pair_written step from.puts it.pairs pair there);
         counted =
             it.count
             ∙ (ap suc counted

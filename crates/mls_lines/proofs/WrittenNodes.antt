@@ -15,7 +15,7 @@ use Rattle.mls_automaton.proofs.Lists.{Contains-cases, Contains-here, Contains-l
 use Rattle.mls_book.specs.declared.book.Node.{Node}
 use Rattle.mls_book.specs.declared.book.Node.TheVariants as node
 use Rattle.mls_book.specs.declared.book.NodeId.{NodeId}
-use Rattle.mls_book.specs.Books.{node_at}
+use Rattle.mls_book.specs.Books.{node_at, IsClosedBook}
 use Rattle.mls_automaton.specs.Automata.{Automaton}
 use Rattle.mls_term.specs.declared.term.TermForm.{TermForm}
 use Rattle.mls_term.specs.declared.term.TermForm.TheVariants as form
@@ -24,6 +24,7 @@ use Rattle.mls_deriv.specs.declared.claim.Put.{Put}
 use Rattle.mls_deriv.specs.declared.derivation.StepLine.{StepLine}
 use Rattle.mls_deriv.specs.Sections.{steps_of}
 use Rattle.mls_deriv.specs.Steps.{form_at, IsRising}
+use Rattle.mls_layout.specs.declared.layout.LaidOut.{LaidOut}
 use Rattle.mls_layout.specs.declared.layout.Places.{Places}
 use Rattle.mls_layout.specs.declared.layout.numbers.Owned.{Owned}
 use Rattle.mls_layout.specs.LaidOut.{place_of}
@@ -33,6 +34,7 @@ use Rattle.mls_layout.proofs.KeySets.{number_same, number_self}
 use Rattle.mls_parts.specs.declared.pose.Posing.{Posing}
 use Rattle.mls_parts.specs.Posings.{binder_in, root_in}
 use Rattle.mls_parts.proofs.PosedParts.{not_before}
+use Rattle.mls_automaton.specs.declared.scheme.Scheme.{Scheme}
 use Rattle.mls_lines.specs.declared.known.FirstPart.{FirstPart}
 use Rattle.mls_lines.specs.declared.known.GlobalAt.{GlobalAt}
 use Rattle.mls_lines.specs.declared.steps.Conclusion as conclusion
@@ -43,19 +45,22 @@ use Rattle.mls_lines.specs.declared.writer.Writer as state
 use Rattle.mls_lines.specs.Conclusions.{Concluded, a_binder}
 use Rattle.mls_lines.specs.NodeLines.{NamesKnown, IsWrittenAs}
 use Rattle.mls_lines.specs.Writings.{AreInOrder, AreWrittenBefore, IsBefore, IsPartOf}
-use Rattle.mls_lines.specs.Stepping.{AreCounted, Stands}
+use Rattle.mls_lines.specs.Puts.{ArePutsAt}
+use Rattle.mls_lines.specs.Stepping.{Adds, AreCounted, Stands}
 use Rattle.mls_layout.specs.LaidOut.{IsLonger}
-use Rattle.mls_lines.specs.Writer.{concluded_in, concluded_of, Lengthens}
-use Rattle.mls_lines.specs.PlainLines.{AreConclusionsOf, AreNamesOf, ArePutIn, GoesOn, HasOwnParts, HaveRisingFirsts, IsSound, IsSoundOwn, WritesNode, standing}
+use Rattle.mls_lines.specs.Writer.{concluded_in, concluded_of, HasLowNodes, Lengthens}
+use Rattle.mls_lines.specs.PlainLines.{AreConclusionsOf, AreNamesOf, ArePutIn, GoesOn, HasOwnParts, HaveLowFirsts, HaveLowGlobals, HaveLowPlaces, HaveRisingFirsts, IsSound, IsSoundOwn, WritesNode, standing}
 use Rattle.mls_parts.specs.PosedGoals.{IsPosedAt}
 use Rattle.mls_lines.proofs.Lengthening.{lengthens_itself, lengthens_kept, lengthens_then}
-use Rattle.mls_lines.specs.PlainParts.{AddsWithin, ArePutInAt, CanWritePart, WritesPart}
-use Rattle.mls_lines.proofs.Bringing.{planned_append}
+use Rattle.mls_lines.specs.PlainParts.{ArePutInAt, CanWritePart, WritesPart}
+use Rattle.mls_lines.proofs.Bringing.{adds_none, adds_steps, adds_then, planned_append}
 use Rattle.mls_lines.proofs.GoingOn.{concluded_before}
 use Rattle.mls_lines.proofs.Growing.{longer_itself, longer_then}
 use Rattle.mls_lines.proofs.JoinedEnvironments.{meet_stays}
+use Rattle.mls_lines.proofs.JoinedPuts.{puts_at_kept}
 use Rattle.mls_lines.proofs.ToldForms.{told_stays}
-use Rattle.mls_lines.proofs.WithinLines.{adds_within_none, adds_within_steps, adds_within_then}
+use Rattle.mls_lines.proofs.LowNodes.{below_longer, firsts_more, globals_more}
+use Rattle.mls_lines.proofs.Stepping.{adds_longer}
 
 some_is : {X : Type 0} {x y : X} → Some x ≡ Some y → x ≡ y
 some_is e = cc
@@ -161,7 +166,7 @@ parts_before IsNode Stands i (form.Let k j l) each = each l refl
 parts_before IsNode Stands i (form.Rec x j) each = each j refl
 
 -- The nodes so far are written: each has its own steps, lines and conclusion.
-pub record HaveWritten (globals : BTreeMap ℕ GlobalAt) (firsts : BTreeMap ℕ FirstPart) (c : Constraint) (p : Posing) (parts : ℕ → List ℕ) (nodes : List TermNode) (old now : state.Writer)
+pub record HaveWritten (globals : BTreeMap ℕ GlobalAt) (firsts : BTreeMap ℕ FirstPart) (lets : BTreeMap ℕ Scheme) (c : Constraint) (p : Posing) (parts : ℕ → List ℕ) (nodes : List TermNode) (old now : state.Writer)
     (done : List ℕ) : Type 0 where
   pub puts : ℕ → Option (List Put)
   pub steps : ℕ → List StepLine
@@ -169,7 +174,9 @@ pub record HaveWritten (globals : BTreeMap ℕ GlobalAt) (firsts : BTreeMap ℕ 
   pub own : ℕ → Concluded
   pub keeps : Lengthens old.laid now.laid
   pub sound : IsSound now
-  pub adds : AddsWithin now.laid.book old.steps now.steps (flat_map plan done)
+  pub adds : Adds now.laid.book old.steps now.steps (flat_map plan done)
+  pub closed : IsClosedBook old.laid.book → IsClosedBook now.laid.book
+  pub puts_are : IsClosedBook old.laid.book → (i : ℕ) (f : TermForm) → Contains done i → form_at nodes i ≡ Some f → ArePutsAt now.laid.book old.laid.places p globals firsts lets i f (puts i)
   pub concluded : (i : ℕ) (o : Concluded) → concluded_in now i ≡ Some o → Contains done i × (own i ≡ o)
   pub in_order : AreInOrder steps plan (steps_of old.steps.lines) done
   pub told : (names : NamesKnown) → AreNamesOf globals firsts names → ArePutInAt puts names done → (of : ℕ → Concluded) → ((m : ℕ) → Contains done m → of m ≡ own m)
@@ -177,9 +184,9 @@ pub record HaveWritten (globals : BTreeMap ℕ GlobalAt) (firsts : BTreeMap ℕ 
       → IsWrittenAs now.laid.book c (standing old p parts) names of f i (steps i) (plan i) (own i)
   pub before : (i m : ℕ) (f : TermForm) → Contains done i → form_at nodes i ≡ Some f → IsPartOf f m → Contains done m × IsBefore steps plan m i
 
-module _ (globals : BTreeMap ℕ GlobalAt) (firsts : BTreeMap ℕ FirstPart) (c : Constraint) (p : Posing) (parts : ℕ → List ℕ) (nodes : List TermNode) (old : state.Writer) where
-  pub writes_none : AreCounted old.steps → ((i : ℕ) → get nat_cmp old.concluded i ≡ None) → HaveWritten globals firsts c p parts nodes old old []
-  writes_none counted nothing = record {
+module _ (globals : BTreeMap ℕ GlobalAt) (firsts : BTreeMap ℕ FirstPart) (lets : BTreeMap ℕ Scheme) (c : Constraint) (p : Posing) (parts : ℕ → List ℕ) (nodes : List TermNode) (old : state.Writer) where
+  pub writes_none : AreCounted old.steps → IsClosedBook old.laid.book → HaveLowPlaces (length old.laid.book) old.laid.places → ((i : ℕ) → get nat_cmp old.concluded i ≡ None) → HaveWritten globals firsts lets c p parts nodes old old []
+  writes_none counted closed places nothing = record {
     puts = λ i. None;
     steps = λ i. [];
     plan = λ i. [];
@@ -189,8 +196,13 @@ module _ (globals : BTreeMap ℕ GlobalAt) (firsts : BTreeMap ℕ FirstPart) (c 
       counted = counted;
       have = λ i own known. let none : get nat_cmp old.concluded i ≡ None = nothing i in absurd (cc);
       rising = λ i own known. let none : get nat_cmp old.concluded i ≡ None = nothing i in absurd (cc);
+      closed = closed;
+      places = places;
+      low = λ i own known. let none : get nat_cmp old.concluded i ≡ None = nothing i in absurd (cc);
     };
-    adds = adds_within_none old.laid.book old.steps counted;
+    adds = adds_none old.laid.book old.steps counted;
+    closed = λ is. is;
+    puts_are = λ is i f there. let low : there.0 < 0 = there.1 in absurd (omega (arith, low));
     concluded = λ i o known. let none : concluded_in old i ≡ None = ap (option_map concluded_of) (nothing i) in absurd (cc);
     in_order = tt;
     told = λ names are_names put_in of agree i f there. let low : there.0 < 0 = there.1 in absurd (omega (arith, low));
@@ -198,8 +210,8 @@ module _ (globals : BTreeMap ℕ GlobalAt) (firsts : BTreeMap ℕ FirstPart) (c 
   }
 
   -- one node more, whose conclusion is put down
-  module _ (now mid new : state.Writer) (done : List ℕ) (i : ℕ) (f : TermForm) (own : written.Concluded) (it : HaveWritten globals firsts c p parts nodes old now done) (fresh : Contains done i → ⊥)
-      (form_is : form_at nodes i ≡ Some f) (writes : WritesNode globals firsts c p parts i f now mid own) (same : new.laid ≡ mid.laid) (same_steps : new.steps ≡ mid.steps)
+  module _ (now mid new : state.Writer) (done : List ℕ) (i : ℕ) (f : TermForm) (own : written.Concluded) (it : HaveWritten globals firsts lets c p parts nodes old now done) (fresh : Contains done i → ⊥)
+      (form_is : form_at nodes i ≡ Some f) (writes : WritesNode globals firsts lets c p parts i f now mid own) (same : new.laid ≡ mid.laid) (same_steps : new.steps ≡ mid.steps)
       (updates : Updates nat_cmp mid.concluded new.concluded i (Some own)) where
     abbrev all : List ℕ
     all = done ++ i ∷ []
@@ -220,7 +232,7 @@ module _ (globals : BTreeMap ℕ GlobalAt) (firsts : BTreeMap ℕ FirstPart) (c 
     other j there is = fresh (subst (Contains done) (sym is) there)
 
     steps_are : steps_of now.steps.lines ≡ steps_of old.steps.lines ++ planned_steps (flat_map it.plan done)
-    steps_are = adds_within_steps now.laid.book old.steps now.steps (flat_map it.plan done) it.adds
+    steps_are = adds_steps now.laid.book old.steps now.steps (flat_map it.plan done) it.adds
 
     flat_is : flat_map plan_now all ≡ flat_map it.plan done ++ writes.plan
     flat_is =
@@ -234,12 +246,35 @@ module _ (globals : BTreeMap ℕ GlobalAt) (firsts : BTreeMap ℕ FirstPart) (c 
     longer_now : IsLonger now.laid.book new.laid.book
     longer_now = (writes.continues.goes_on.more, (λ n. (same n).book) ∙ writes.continues.goes_on.book)
 
-    adds_now : AddsWithin new.laid.book old.steps new.steps (flat_map plan_now all)
+    adds_now : Adds new.laid.book old.steps new.steps (flat_map plan_now all)
     adds_now =
-        subst (AddsWithin new.laid.book old.steps new.steps) (sym flat_is)
-        (subst (λ (s : Steps). AddsWithin new.laid.book old.steps s (flat_map it.plan done ++ writes.plan)) (sym same_steps)
-        (adds_within_then now.laid.book writes.continues.made new.laid.book old.steps now.steps mid.steps (flat_map it.plan done) writes.plan longer_now
-        (writes.continues.rest, (λ n. (same n).book) ∙ writes.continues.longer) it.adds writes.continues.adds))
+        let before = subst (λ (book : List Node). Adds book old.steps now.steps (flat_map it.plan done)) (sym longer_now.1) (adds_longer now.laid.book longer_now.0 old.steps now.steps (flat_map it.plan done) it.adds) in
+        let behind = subst (λ (book : List Node). Adds book now.steps mid.steps writes.plan) (sym (λ n. (same n).book)) writes.continues.adds in
+        subst (Adds new.laid.book old.steps new.steps) (sym flat_is)
+        (subst (λ (s : Steps). Adds new.laid.book old.steps s (flat_map it.plan done ++ writes.plan)) (sym same_steps)
+        (adds_then new.laid.book old.steps now.steps mid.steps (flat_map it.plan done) writes.plan before behind))
+
+    closed_now : IsClosedBook old.laid.book → IsClosedBook new.laid.book
+    closed_now is = subst IsClosedBook (sym (λ n. (same n).book)) (writes.continues.goes_on.closed (it.closed is))
+
+    puts_are_now : IsClosedBook old.laid.book → (j : ℕ) (g : TermForm) → Contains all j → form_at nodes j ≡ Some g → ArePutsAt new.laid.book old.laid.places p globals firsts lets j g (puts_now j)
+    puts_are_now closed j g there form_there = by_place (Contains-push_cases done i j there)
+      where
+        earlier_puts : Contains done j → ArePutsAt new.laid.book old.laid.places p globals firsts lets j g (it.puts j)
+        earlier_puts earlier = puts_at_kept now.laid.book new.laid.book old.laid.places p globals firsts lets j g (it.puts j) (it.closed closed).book longer_now (it.puts_are closed j g earlier form_there)
+
+        own_puts : ArePutsAt new.laid.book old.laid.places p globals firsts lets i f writes.puts
+        own_puts =
+            subst (λ (book : List Node). ArePutsAt book old.laid.places p globals firsts lets i f writes.puts) (sym (λ n. (same n).book))
+            (subst (λ (places : Places). ArePutsAt mid.laid.book places p globals firsts lets i f writes.puts) it.keeps.places (writes.puts_are (it.closed closed)))
+
+        by_place : Contains done j ⊎ (i ≡ j) → ArePutsAt new.laid.book old.laid.places p globals firsts lets j g (puts_now j)
+        by_place (inl earlier) = subst (ArePutsAt new.laid.book old.laid.places p globals firsts lets j g) (sym (at_other i j writes.puts it.puts (other j earlier))) (earlier_puts earlier)
+        by_place (inr own_place) =
+            let f_is : f ≡ g = some_is (sym form_is ∙ (ap (form_at nodes) own_place ∙ form_there)) in
+            subst (λ k. ArePutsAt new.laid.book old.laid.places p globals firsts lets k g (puts_now k)) own_place
+            (subst (λ h. ArePutsAt new.laid.book old.laid.places p globals firsts lets i h (puts_now i)) f_is
+            (subst (ArePutsAt new.laid.book old.laid.places p globals firsts lets i f) (sym (at_itself i writes.puts it.puts)) own_puts))
 
     sound_now : IsSound new
     sound_now = record {
@@ -249,11 +284,14 @@ module _ (globals : BTreeMap ℕ GlobalAt) (firsts : BTreeMap ℕ FirstPart) (c 
           subst (λ (s : Steps). Stands (steps_of s.lines) o) (sym same_steps)
           (by_key j o (is_eq (nat_cmp i j)) (sym (updates.0 j) ∙ known)).0;
       rising = λ j o known. (by_key j o (is_eq (nat_cmp i j)) (sym (updates.0 j) ∙ known)).1;
+      closed = subst IsClosedBook (sym (λ n. (same n).book)) writes.continues.sound.closed;
+      places = λ s. subst (λ (l : LaidOut). place_of l.places s < length l.book) (sym same) (writes.continues.sound.places s);
+      low = λ j o known. subst (λ (l : LaidOut). HasLowNodes (length l.book) o) (sym same) (by_key j o (is_eq (nat_cmp i j)) (sym (updates.0 j) ∙ known)).2;
     }
       where
-        by_key : (j : ℕ) (o : conclusion.Conclusion) (b : Bool) → cond b (Some own) (get nat_cmp mid.concluded j) ≡ Some (Step o) → Stands (steps_of mid.steps.lines) o × IsRising o.env
-        by_key j o true known = subst (IsSoundOwn (steps_of mid.steps.lines)) (some_is known) writes.sound_own
-        by_key j o false known = (writes.continues.sound.have j o known, writes.continues.sound.rising j o known)
+        by_key : (j : ℕ) (o : conclusion.Conclusion) (b : Bool) → cond b (Some own) (get nat_cmp mid.concluded j) ≡ Some (Step o) → Stands (steps_of mid.steps.lines) o × IsRising o.env × HasLowNodes (length mid.laid.book) o
+        by_key j o true known = subst (IsSoundOwn mid.laid.book (steps_of mid.steps.lines)) (some_is known) writes.sound_own
+        by_key j o false known = (writes.continues.sound.have j o known, writes.continues.sound.rising j o known, writes.continues.sound.low j o known)
 
     concluded_now : (j : ℕ) (o : Concluded) → concluded_in new j ≡ Some o → Contains all j × (own_now j ≡ o)
     concluded_now j o known = by_key (is_eq (nat_cmp i j)) refl (sym (ap (option_map concluded_of) (updates.0 j)) ∙ known)
@@ -339,7 +377,7 @@ module _ (globals : BTreeMap ℕ GlobalAt) (firsts : BTreeMap ℕ FirstPart) (c 
               subst (λ k. IsWrittenAs new.laid.book c (standing old p parts) names of g k (steps_now k) (plan_now k) (own_now k)) own_place
               (subst (λ h. IsWrittenAs new.laid.book c (standing old p parts) names of h i (steps_now i) (plan_now i) (own_now i)) f_is told_own)
 
-    pub writes_next : HaveWritten globals firsts c p parts nodes old new (done ++ i ∷ [])
+    pub writes_next : HaveWritten globals firsts lets c p parts nodes old new (done ++ i ∷ [])
     writes_next = record {
       puts = puts_now;
       steps = steps_now;
@@ -348,6 +386,8 @@ module _ (globals : BTreeMap ℕ GlobalAt) (firsts : BTreeMap ℕ FirstPart) (c 
       keeps = keeps_now;
       sound = sound_now;
       adds = adds_now;
+      closed = closed_now;
+      puts_are = puts_are_now;
       concluded = concluded_now;
       in_order = in_order_now;
       told = told_now;
@@ -355,19 +395,21 @@ module _ (globals : BTreeMap ℕ GlobalAt) (firsts : BTreeMap ℕ FirstPart) (c 
     }
 
   -- the next node of the list
-  pub writes_at : (members : List ℕ) (n : ℕ) (now mid new : state.Writer) (f : TermForm) (own : written.Concluded) → CanWritePart old.laid old.steps firsts c p parts nodes members → n < length members
-      → HaveWritten globals firsts c p parts nodes old now (take n members) → form_at nodes (get_or members n 0) ≡ Some f
-      → (IsSound now → HasOwnParts now c.automaton parts → HaveRisingFirsts firsts → IsPosedAt c p f (get_or members n 0) → WritesNode globals firsts c p parts (get_or members n 0) f now mid own)
+  pub writes_at : (members : List ℕ) (n : ℕ) (now mid new : state.Writer) (f : TermForm) (own : written.Concluded) → CanWritePart old.laid old.steps globals firsts c p parts nodes members → n < length members
+      → HaveWritten globals firsts lets c p parts nodes old now (take n members) → form_at nodes (get_or members n 0) ≡ Some f
+      → (IsSound now → HasOwnParts now c.automaton parts → HaveRisingFirsts firsts → HaveLowFirsts (length now.laid.book) firsts → HaveLowGlobals (length now.laid.book) globals → IsPosedAt c p f (get_or members n 0) → WritesNode globals firsts lets c p parts (get_or members n 0) f now mid own)
       → new.laid ≡ mid.laid → new.steps ≡ mid.steps → Updates nat_cmp mid.concluded new.concluded (get_or members n 0) (Some own)
-      → HaveWritten globals firsts c p parts nodes old new (take (n + 1) members)
+      → HaveWritten globals firsts lets c p parts nodes old new (take (n + 1) members)
   writes_at members n now mid new f own can low it form_is writes same same_steps updates =
       let i : ℕ = get_or members n 0 in
       let there : Contains members i = Contains-get_or members n 0 low in
-      subst (λ (done : List ℕ). HaveWritten globals firsts c p parts nodes old new done) (sym (take_more members n 0 low))
+      let up : (k : ℕ) → k < length old.laid.book → k < length now.laid.book = λ k. below_longer old.laid.book now.laid.book k it.keeps.book in
+      subst (λ (done : List ℕ). HaveWritten globals firsts lets c p parts nodes old new done) (sym (take_more members n 0 low))
       (writes_next now mid new (take n members) i f own it (not_before members n 0 can.list.once low) form_is
-      (writes it.sound (own_parts_kept old now c.automaton parts it.keeps can.own_parts) can.rising (can.posed i f there form_is)) same same_steps updates)
+      (writes it.sound (own_parts_kept old now c.automaton parts it.keeps can.own_parts) can.rising (firsts_more (length old.laid.book) (length now.laid.book) up firsts can.low_firsts)
+      (globals_more (length old.laid.book) (length now.laid.book) up globals can.low_globals) (can.posed i f there form_is)) same same_steps updates)
 
-  pub writes_part : (new : state.Writer) (members : List ℕ) → HaveWritten globals firsts c p parts nodes old new members → WritesPart globals firsts c p parts nodes members old new
+  pub writes_part : (new : state.Writer) (members : List ℕ) → HaveWritten globals firsts lets c p parts nodes old new members → WritesPart globals firsts lets c p parts nodes members old new
   writes_part new members it = record {
     puts = it.puts;
     plan = it.plan;
@@ -390,6 +432,8 @@ module _ (globals : BTreeMap ℕ GlobalAt) (firsts : BTreeMap ℕ FirstPart) (c 
       refl,
       refl,
     );
+    puts_are = it.puts_are;
+    closed = it.closed;
     concluded = it.concluded;
     keeps = it.keeps;
     sound = it.sound;

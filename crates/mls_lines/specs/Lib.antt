@@ -9,4 +9,5 @@ pub mod PlainLines
 pub mod PlainRecords
 pub mod PlainParts
 pub mod Showing
+pub mod Globals
 pub mod Puts

@@ -1,10 +1,12 @@
 -- What is written plainly for a node of a part: the lines that are told of its form, over the nodes that were laid out
 -- for the states of the constraint.
-use Rattle.std.specs.Prelude.{◌≡◌, ℕ, List, [], ◌++◌, length, IsSome, Option, Some, None}
+use Rattle.std.specs.Prelude.{◌≡◌, ℕ, ◌<◌, List, [], ◌++◌, length, IsSome, Option, Some, None}
 use Rattle.std.specs.BTreeMap.{BTreeMap, get}
 use Rattle.std.specs.Ordering.{nat_cmp}
 use Rattle.mls_book.specs.declared.book.Node.{Node}
+use Rattle.mls_book.specs.Books.{IsClosedBook}
 use Rattle.mls_automaton.specs.Automata.{Automaton}
+use Rattle.mls_automaton.specs.declared.scheme.Scheme.{Scheme}
 use Rattle.mls_term.specs.declared.term.TermForm.{TermForm}
 use Rattle.mls_term.specs.declared.term.TermForm.TheVariants as form
 use Rattle.mls_deriv.specs.declared.claim.Put.{Put}
@@ -13,6 +15,7 @@ use Rattle.mls_deriv.specs.declared.derivation.StepLine.{StepLine}
 use Rattle.mls_deriv.specs.Pairs.{put_at}
 use Rattle.mls_deriv.specs.Sections.{steps_of}
 use Rattle.mls_deriv.specs.Steps.{env_of, IsRising}
+use Rattle.mls_layout.specs.declared.layout.Places.{Places}
 use Rattle.mls_layout.specs.LaidOut as layout
 use Rattle.mls_layout.specs.LaidOut.{place_of}
 use Rattle.mls_layout.specs.Parts.{Constraint}
@@ -27,9 +30,11 @@ use Rattle.mls_lines.specs.declared.writer.Concluded.TheVariants.{Bound, Step}
 use Rattle.mls_lines.specs.declared.writer.Writer as state
 use Rattle.mls_lines.specs.Conclusions.{Concluded, IsJoined, IsSettled}
 use Rattle.mls_lines.specs.NodeLines.{Standing, NamesKnown, IsWrittenAs}
+use Rattle.mls_lines.specs.Puts.{ArePutsAt}
 use Rattle.mls_lines.specs.Writings.{IsPartOf}
 use Rattle.mls_lines.specs.Stepping.{Adds, AreCounted, Stands, conclusion_of}
-use Rattle.mls_lines.specs.Writer.{ConcludesNoMore, HaveRisingSteps, HaveSteps, Offers}
+use Rattle.mls_lines.specs.Writer.{ConcludesNoMore, HasLowEnv, HasLowNodes, HaveLowSteps, HaveRisingSteps, HaveSteps}
+use Rattle.mls_lines.specs.Writer.{Offers}
 use Rattle.mls_lines.specs.Writer.{concluded_in, concluded_of, own_node}
 
 -- where the states of a part stand whose heads have these parts
@@ -61,21 +66,39 @@ HaveRisingFirsts firsts = (k : ℕ) (part : FirstPart) → get nat_cmp firsts k 
 abbrev pub AreConclusionsOf : state.Writer → (ℕ → Concluded) → Type 0
 AreConclusionsOf w of = (i : ℕ) (own : Concluded) → concluded_in w i ≡ Some own → of i ≡ own
 
--- The steps are counted, and each conclusion is that of a step, whose environment rises.
+-- the types and the binders of first parts have nodes below this number
+abbrev pub HaveLowFirsts : ℕ → BTreeMap ℕ FirstPart → Type 0
+HaveLowFirsts n firsts = (k : ℕ) (part : FirstPart) → get nat_cmp firsts k ≡ Some part
+    → (part.root.0 < n) × HasLowEnv n part.env
+
+-- so have the types of the names of the environment
+abbrev pub HaveLowGlobals : ℕ → BTreeMap ℕ GlobalAt → Type 0
+HaveLowGlobals n globals = (g : ℕ) (known : GlobalAt) → get nat_cmp globals g ≡ Some known → known.root.0 < n
+
+-- the nodes of states are below this number
+abbrev pub HaveLowPlaces : ℕ → Places → Type 0
+HaveLowPlaces n places = (s : ℕ) → place_of places s < n
+
+-- The steps are counted, and each conclusion is that of a step, whose environment rises. The book is closed, and the nodes
+-- of states and those of conclusions are nodes of it.
 pub record IsSound (w : state.Writer) : Type 0 where
   pub counted : AreCounted w.steps
   pub have : HaveSteps w
   pub rising : HaveRisingSteps w
+  pub closed : IsClosedBook w.laid.book
+  pub places : HaveLowPlaces (length w.laid.book) w.laid.places
+  pub low : HaveLowSteps w
 
--- the same for what a node concludes behind these steps
-abbrev pub IsSoundOwn : List StepLine → written.Concluded → Type 0
-IsSoundOwn steps (Bound x) = Unit {0}
-IsSoundOwn steps (Step c) = Stands steps c × IsRising c.env
+-- the same for what a node concludes behind these steps, over this book
+abbrev pub IsSoundOwn : List Node → List StepLine → written.Concluded → Type 0
+IsSoundOwn book steps (Bound x) = Unit {0}
+IsSoundOwn book steps (Step c) = Stands steps c × IsRising c.env × HasLowNodes (length book) c
 
--- The book has more nodes, what was laid out is as it was, and no node concludes anything more.
+-- The book has more nodes, and is closed if it was, what was laid out is as it was, and no node concludes anything more.
 pub record GoesOn (old new : state.Writer) : Type 0 where
   pub more : List Node
   pub book : new.laid.book ≡ old.laid.book ++ more
+  pub closed : IsClosedBook old.laid.book → IsClosedBook new.laid.book
   pub places : new.laid.places ≡ old.laid.places
   pub own : new.laid.own ≡ old.laid.own
   pub boolean : new.laid.boolean ≡ old.laid.boolean
@@ -105,6 +128,7 @@ pub record TakesOwn (old new : state.Writer) (p : Posing) (i : ℕ) (from : conc
   pub adds : Adds old.laid.book old.steps new.steps plan
   pub stands : Stands (steps_of new.steps.lines) from
   pub rising : IsRising from.env
+  pub low : HasLowNodes (length old.laid.book) from
   pub laid : new.laid ≡ old.laid
   pub fewer : ConcludesNoMore old new
 
@@ -118,24 +142,16 @@ pub record SettlesNode (old new : state.Writer) (p : Posing) (i : ℕ) (puts : L
       own plan (conclusion_of second)
   pub adds : Adds old.laid.book old.steps new.steps plan
   pub rising : IsRising second.env
+  pub low : HasLowNodes (length old.laid.book) second
   pub apart : (x n : ℕ) → put_at puts x ≡ Some n → put_at second.puts x ≡ None
   pub laid : new.laid ≡ old.laid
   pub fewer : ConcludesNoMore old new
 
--- Lines of a plan are added, with lists of pairs over the book.
+-- Lines of a plan are added, with lists of pairs over the book and each longer one.
 pub record AddsLines (old new : state.Writer) (plan : List PlannedLine) : Type 0 where
   pub goes_on : GoesOn old new
   pub sound : IsSound new
   pub adds : Adds new.laid.book old.steps new.steps plan
-
--- The lines of a plan are added, with lists of pairs over a front of the book.
-pub record Continues (old new : state.Writer) (plan : List PlannedLine) : Type 0 where
-  pub goes_on : GoesOn old new
-  pub sound : IsSound new
-  pub made : List Node
-  pub rest : List Node
-  pub longer : new.laid.book ≡ made ++ rest
-  pub adds : Adds made old.steps new.steps plan
 
 -- these variables are put in at a node, where some are
 abbrev pub ArePutIn : Option (List Put) → List Put → Type 0
@@ -144,13 +160,15 @@ ArePutIn (Some own) puts = puts ≡ own
 
 -- The lines of node i, of this form, are added as they are told of it, whatever is known of names: these variables are
 -- put in at the node, and its parts are nodes that conclude something.
-pub record WritesNode (globals : BTreeMap ℕ GlobalAt) (firsts : BTreeMap ℕ FirstPart) (c : Constraint) (p : Posing)
-    (parts : ℕ → List ℕ) (i : ℕ) (f : TermForm) (old new : state.Writer) (own : written.Concluded) : Type 0 where
+pub record WritesNode (globals : BTreeMap ℕ GlobalAt) (firsts : BTreeMap ℕ FirstPart) (lets : BTreeMap ℕ Scheme)
+    (c : Constraint) (p : Posing) (parts : ℕ → List ℕ) (i : ℕ) (f : TermForm) (old new : state.Writer)
+    (own : written.Concluded) : Type 0 where
   pub puts : Option (List Put)
   pub plan : List PlannedLine
   pub tells : (names : NamesKnown) → AreNamesOf globals firsts names → ArePutIn puts (names.puts i) → (of : ℕ → Concluded)
       → AreConclusionsOf old of → IsWrittenAs new.laid.book c (standing old p parts) names of f i
       (steps_of old.steps.lines) plan (concluded_of own)
+  pub puts_are : IsClosedBook old.laid.book → ArePutsAt new.laid.book old.laid.places p globals firsts lets i f puts
   pub used : (j : ℕ) → IsPartOf f j → IsSome (concluded_in old j)
-  pub continues : Continues old new plan
-  pub sound_own : IsSoundOwn (steps_of new.steps.lines) own
+  pub continues : AddsLines old new plan
+  pub sound_own : IsSoundOwn new.laid.book (steps_of new.steps.lines) own

@@ -1,9 +1,10 @@
 -- What is put in for the variables of a name's type at a use.
-use Rattle.std.specs.Prelude.{◌≡◌, ◌⊎◌, ℕ, suc, ◌+◌, ◌<◌, List, [], ◌∷◌, length, slice_get, Contains, IsSome, Some}
+use Rattle.std.specs.Prelude.{◌≡◌, ◌⊎◌, ℕ, suc, ◌+◌, ◌<◌, List, [], ◌∷◌, length, slice_get, Contains, IsSome, Option}
+use Rattle.std.specs.Prelude.{Some, None}
 use Rattle.std.specs.BTreeMap.{BTreeMap, get}
 use Rattle.std.specs.Ordering.{nat_cmp}
 use Rattle.mls_book.specs.declared.book.Node.{Node}
-use Rattle.mls_book.specs.Books.{IsBook}
+use Rattle.mls_book.specs.Books.{IsBook, IsClosedBook}
 use Rattle.mls_automaton.specs.declared.automaton.Flow.{Flow}
 use Rattle.mls_automaton.specs.declared.automaton.Polarity.TheVariants.{Positive}
 use Rattle.mls_automaton.specs.declared.scheme.EnvEntry.{EnvEntry}
@@ -16,9 +17,12 @@ use Rattle.mls_layout.specs.declared.layout.Places.{Places}
 use Rattle.mls_parts.specs.MetCopies.{IsOfNoBinder}
 use Rattle.mls_parts.specs.declared.pose.Posing.{Posing}
 use Rattle.mls_parts.specs.Posings.{binder_in}
+use Rattle.mls_lines.specs.declared.known.FirstPart.{FirstPart}
 use Rattle.mls_lines.specs.declared.known.GlobalAt.{GlobalAt}
 use Rattle.mls_lines.specs.Showing.{shown_by}
 use Rattle.mls_layout.specs.LaidOut.{IsLonger}
+use Rattle.mls_term.specs.declared.term.TermForm.{TermForm}
+use Rattle.mls_term.specs.declared.term.TermForm.TheVariants as form
 
 -- the variables of the list follow each other from this one on
 abbrev pub FollowFrom : ℕ → List Put → Type 0
@@ -71,6 +75,7 @@ IsJoinOf book place states node = (node < length book) × IsTree book Positive (
 pub record AddsJoin (old new : List Node) (place : ℕ → ℕ) (states : List ℕ) (node : ℕ) : Type 0 where
   pub longer : IsLonger old new
   pub is_book : IsBook old → IsBook new
+  pub closed : IsClosedBook old → IsClosedBook new
   pub join : IsJoinOf new place states node
 
 -- As many variables, each with the join of the nodes of the states that show it.
@@ -95,3 +100,41 @@ pub record ArePutsOfFirst (places : Places) (p : Posing) (lets : BTreeMap ℕ Sc
   pub first : ℕ
   pub copy : get nat_cmp p.copies node ≡ Some first
   pub edges : ArePutsOfEdges (IsNodeOfCopy places p known first) known.automaton.flows variable puts
+
+-- What is put in at a use of name g of the environment.
+pub record PutsGlobal (book : List Node) (places : Places) (p : Posing) (globals : BTreeMap ℕ GlobalAt) (node g : ℕ)
+    (puts : Option (List Put)) : Type 0 where
+  pub own : List Put
+  pub is : puts ≡ Some own
+  pub global : GlobalAt
+  pub known : get nat_cmp globals g ≡ Some global
+  pub are : ArePutsOfGlobal book places p node global own
+
+-- These variables are put in at the node for those of the first part of let k.
+pub record PutsFirst (places : Places) (p : Posing) (lets : BTreeMap ℕ Scheme) (node k : ℕ) (part : FirstPart)
+    (puts : Option (List Put)) : Type 0 where
+  pub own : List Put
+  pub is : puts ≡ Some own
+  pub are : ArePutsOfFirst places p lets node k part.variable own
+
+-- What is put in at a use of the name of let k.
+pub record PutsInner (places : Places) (p : Posing) (firsts : BTreeMap ℕ FirstPart) (lets : BTreeMap ℕ Scheme)
+    (node k : ℕ) (puts : Option (List Put)) : Type 0 where
+  pub part : FirstPart
+  pub known : get nat_cmp firsts k ≡ Some part
+  pub first : PutsFirst places p lets node k part puts
+
+-- What is put in at let k: nothing is asked where its first part needs no binders.
+pub record PutsLet (places : Places) (p : Posing) (firsts : BTreeMap ℕ FirstPart) (lets : BTreeMap ℕ Scheme)
+    (node k : ℕ) (puts : Option (List Put)) : Type 0 where
+  pub part : FirstPart
+  pub known : get nat_cmp firsts k ≡ Some part
+  pub first : ((part.env ≡ []) × (puts ≡ None)) ⊎ PutsFirst places p lets node k part puts
+
+-- What is put in at a node of this form: the variables of a name and of a let, and none at other nodes.
+abbrev pub ArePutsAt : List Node → Places → Posing → BTreeMap ℕ GlobalAt → BTreeMap ℕ FirstPart → BTreeMap ℕ Scheme
+    → (node : ℕ) → TermForm → Option (List Put) → Type 0
+ArePutsAt book places p globals firsts lets node (form.Global g) puts = PutsGlobal book places p globals node g puts
+ArePutsAt book places p globals firsts lets node (form.Inner k) puts = PutsInner places p firsts lets node k puts
+ArePutsAt book places p globals firsts lets node (form.Let k j l) puts = PutsLet places p firsts lets node k puts
+ArePutsAt book places p globals firsts lets node _ puts = puts ≡ None

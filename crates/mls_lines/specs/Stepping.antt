@@ -1,11 +1,11 @@
 -- How the steps of a section are written.
-use Rattle.std.specs.Prelude.{◌≡◌, ℕ, suc, ◌<◌, List, [], ◌∷◌, ◌++◌, length, slice_get, All, Contains, Option, Some}
+use Rattle.std.specs.Prelude.{◌≡◌, ℕ, suc, ◌<◌, List, [], ◌∷◌, ◌++◌, length, slice_get, All, Option, Some}
 use Rattle.std.specs.List.{filter, flat_map}
 use Rattle.std.proofs.Math.Dec.{ltb}
 use Rattle.std.specs.FinMap as env
 use Rattle.mls_book.specs.declared.book.Node.{Node}
 use Rattle.mls_book.specs.declared.book.NodeId.{NodeId}
-use Rattle.mls_book.specs.Books.{IsClosed}
+use Rattle.mls_book.specs.Books.{IsClosedBook}
 use Rattle.mls_deriv.specs.declared.derivation.BinderNode.{BinderNode}
 use Rattle.mls_deriv.specs.declared.derivation.Mode.TheVariants.{Lr}
 use Rattle.mls_deriv.specs.declared.derivation.SectionLine.{SectionLine}
@@ -20,7 +20,6 @@ use Rattle.mls_lines.specs.declared.steps.Conclusion as written
 use Rattle.mls_lines.specs.declared.steps.Steps.{Steps}
 use Rattle.mls_lines.specs.Conclusions.{Conclusion, IsAdapted}
 use Rattle.mls_layout.specs.Emitted.{binder_pair}
-use Rattle.mls_pairs.specs.Lines.{pair_line}
 use Rattle.mls_pairs.specs.PairLists.{pair_of, IsInside, IsPairList, StaysInside}
 use Rattle.mls_layout.specs.Plans.{PlannedLine, AreLinesOf}
 use Rattle.mls_layout.specs.Runs.{lines_of}
@@ -77,28 +76,24 @@ pub record Stands (steps : List StepLine) (c : written.Conclusion) : Type 0 wher
   pub env : step.env ≡ c.env
   pub root : step.root ≡ c.root
 
--- the lines of a plan are added, with the lists of their pairs over this book
+-- the lines of a plan are added, with lists of their pairs that last: over this book, and over each longer one
 pub record Adds (book : List Node) (old new : Steps) (plan : List PlannedLine) : Type 0 where
   pub more : List SectionLine
   pub lines : new.lines ≡ old.lines ++ more
-  pub are : AreLinesOf book (steps_of old.lines) plan more
+  pub are : (later : List Node) → AreLinesOf (book ++ later) (steps_of old.lines) plan more
   pub counted : AreCounted new
 
--- the nodes of each pair line are below this number
-abbrev pub HavePairsInside : ℕ → List SectionLine → Type 0
-HavePairsInside n lines = (pair : Pair) → Contains lines (pair_line pair) → IsInside n pair
-
 -- The lines that are added bring the conclusion to this environment and type. Where the book is closed, and what they put
--- in and go over have nodes of it, their pairs have too.
+-- in and go over have nodes of it, the lists of their pairs last: they are lists over each longer book.
 pub record AddsAdapted (book : List Node) (old new : Steps) (node : ℕ) (from : written.Conclusion) (d : List BinderNode)
     (u : NodeId) (c : written.Conclusion) : Type 0 where
   pub plan : List PlannedLine
   pub adapts : IsAdapted (conclusion_of from) old.count node d u.0 plan c.step
   pub more : List SectionLine
   pub lines : new.lines ≡ old.lines ++ more
-  pub are : AreLinesOf book (steps_of old.lines) plan more
-  pub inside : IsClosed book → ((x m : ℕ) → put_at from.puts x ≡ Some m → m < length book)
-      → All (IsInside (length book)) (pairs_over from.env d from.root.0 u.0) → HavePairsInside (length book) more
+  pub lasting : IsClosedBook book → ((x m : ℕ) → put_at from.puts x ≡ Some m → m < length book)
+      → All (IsInside (length book)) (pairs_over from.env d from.root.0 u.0)
+      → (later : List Node) → AreLinesOf (book ++ later) (steps_of old.lines) plan more
   pub counted : AreCounted new
   pub root : c.root ≡ u
   pub env : c.env ≡ d

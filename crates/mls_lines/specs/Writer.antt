@@ -1,11 +1,13 @@
 -- What the writer of a part's lines knows, as the definitions say it, and how it grows.
-use Rattle.std.specs.Prelude.{◌≡◌, ℕ, List, [], ◌∷◌, ◌++◌, length, Option, Some, option_map}
+use Rattle.std.specs.Prelude.{◌≡◌, ℕ, ◌<◌, List, [], ◌∷◌, ◌++◌, length, Option, Some, option_map}
 use Rattle.std.specs.BTreeMap.{get}
 use Rattle.std.specs.Ordering.{nat_cmp}
 use Rattle.mls_book.specs.declared.book.NodeId.{NodeId}
 use Rattle.mls_book.specs.declared.book.Node.{Node}
+use Rattle.mls_book.specs.Books.{IsClosedBook}
 use Rattle.mls_deriv.specs.declared.derivation.BinderNode.{BinderNode}
 use Rattle.mls_deriv.specs.declared.derivation.StepRule.TheVariants as rule
+use Rattle.mls_deriv.specs.Pairs.{put_at}
 use Rattle.mls_deriv.specs.Sections.{steps_of}
 use Rattle.mls_deriv.specs.Steps.{IsRising}
 use Rattle.mls_layout.specs.declared.layout.LaidOut.{LaidOut}
@@ -20,7 +22,7 @@ use Rattle.mls_lines.specs.declared.writer.Concluded as written
 use Rattle.mls_lines.specs.declared.writer.Concluded.TheVariants.{Bound, Step}
 use Rattle.mls_lines.specs.declared.writer.Writer as state
 use Rattle.mls_lines.specs.Conclusions.{Concluded, Conclusion, a_binder, by_step, bound_as, IsBrought, IsOffered}
-use Rattle.mls_lines.specs.Stepping.{conclusion_of, Adds, Stands}
+use Rattle.mls_lines.specs.Stepping.{binder_node, conclusion_of, Adds, Stands}
 
 -- what a node concludes
 abbrev pub concluded_of : written.Concluded → Concluded
@@ -34,9 +36,24 @@ concluded_in w i = option_map concluded_of (get nat_cmp w.concluded i)
 abbrev pub own_node : state.Writer → Posing → ℕ → ℕ
 own_node w p x = place_of w.laid.places (binder_in p x)
 
+-- each binder of the environment has a node below this number
+abbrev pub HasLowEnv : ℕ → List BinderNode → Type 0
+HasLowEnv n d = (x m : ℕ) → binder_node d x ≡ Some m → m < n
+
+-- the type, the nodes of the binders, and what variables stand for are below this number
+pub record HasLowNodes (n : ℕ) (c : conclusion.Conclusion) : Type 0 where
+  pub root : c.root.0 < n
+  pub env : HasLowEnv n c.env
+  pub puts : (x m : ℕ) → put_at c.puts x ≡ Some m → m < n
+
 -- the environments of what nodes conclude rise
 abbrev pub HaveRisingSteps : state.Writer → Type 0
 HaveRisingSteps w = (i : ℕ) (c : conclusion.Conclusion) → get nat_cmp w.concluded i ≡ Some (Step c) → IsRising c.env
+
+-- the nodes of what nodes conclude are nodes of the book
+abbrev pub HaveLowSteps : state.Writer → Type 0
+HaveLowSteps w = (i : ℕ) (c : conclusion.Conclusion) → get nat_cmp w.concluded i ≡ Some (Step c)
+    → HasLowNodes (length w.laid.book) c
 
 -- each of these is the conclusion of a step so far
 abbrev pub HaveSteps : state.Writer → Type 0
@@ -62,6 +79,8 @@ pub record TakesStep (old new : state.Writer) (i : ℕ) (u : NodeId) (from : con
   pub taken : IsTaken own (length (steps_of old.steps.lines)) i u.0 plan (conclusion_of from)
   pub adds : Adds old.laid.book old.steps new.steps plan
   pub stands : Stands (steps_of new.steps.lines) from
+  pub rising : IsRising from.env
+  pub low : HasLowNodes (length old.laid.book) from
   pub laid : new.laid ≡ old.laid
   pub fewer : ConcludesNoMore old new
 
@@ -90,10 +109,11 @@ pub record Lengthens (old new : LaidOut) : Type 0 where
   pub boolean : new.boolean ≡ old.boolean
   pub integer : new.integer ≡ old.integer
 
--- The book has more nodes, and what was laid out, the lines and the conclusions are as they were.
+-- The book has more nodes, and is closed if it was, and what was laid out, the lines and the conclusions are as they were.
 pub record Grows (old new : state.Writer) : Type 0 where
   pub more : List Node
   pub book : new.laid.book ≡ old.laid.book ++ more
+  pub closed : IsClosedBook old.laid.book → IsClosedBook new.laid.book
   pub places : new.laid.places ≡ old.laid.places
   pub own : new.laid.own ≡ old.laid.own
   pub boolean : new.laid.boolean ≡ old.laid.boolean

@@ -4,7 +4,7 @@ ghost use Rattle.std.specs.BTreeMap.{get};
 ghost use Rattle.std.specs.Ordering.{nat_cmp};
 ghost use Rattle.mls_iface.specs.Matches.{IsRead};
 ghost use Rattle.mls_layout.specs.LaidOut.{IsLonger};
-ghost use Rattle.mls_lines.specs.Showing.{ShowTops};
+ghost use Rattle.mls_lines.specs.Globals.{IsGlobalAt};
 
 use crate::copies::push_book;
 use crate::showing::{Showing, showing_of};
@@ -77,8 +77,7 @@ pub fn first_part(firsts: &FirstParts, k: usize) -> Result<&FirstPart, Memory>
 pub fn put_global(alloc: Global, book: &mut Book, read: &ReadScheme) -> Result<GlobalAt, Memory>
     requires { IsRead read.now }
     ensures longer { OnOk result (IsLonger book.old book.new) }
-    ensures variables { IfOk result (λ global. global.variables ≡ read.now.vars) }
-    ensures showing { IfOk result (λ global. ShowTops read.now.book read.now.root.0 global.showing) }
+    ensures at { IfOk result (IsGlobalAt book.new read.now) }
 {
     let first = push_book(alloc, book, &read.book)?;
     let root = first.checked_add(read.root.0).ok_or(Memory)?;

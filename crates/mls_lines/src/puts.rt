@@ -4,7 +4,7 @@ ghost use Rattle.std.specs.Prelude.{◌≡◌, ◌↔◌, ◌≤◌, ◌<◌, �
 ghost use Rattle.std.specs.List.{Any};
 ghost use Rattle.mls_automaton.specs.declared.automaton.Polarity.TheVariants.{Positive};
 ghost use Rattle.mls_automaton.specs.declared.scheme.Scheme.{Scheme as KnownType};
-ghost use Rattle.mls_book.specs.Books.{IsBook};
+ghost use Rattle.mls_book.specs.Books.{IsBook, IsClosedBook};
 ghost use Rattle.mls_layout.specs.LaidOut.{node_of, place_of, IsLonger};
 ghost use Rattle.mls_layout.specs.Trees.{AddsTree};
 ghost use Rattle.mls_lines.specs.Puts.{AddsJoin, AreByState, AreJoins, ArePutsOfEdges, FollowFrom, IsNodeOfCopy};
@@ -148,6 +148,7 @@ pub fn global_puts(
 ) -> Result<Puts, Memory>
     ensures longer { IfOk result (λ puts. IsLonger book.old book.new) }
     ensures is_book { IsBook book.old → OnOk result (IsBook book.new) }
+    ensures closed { IsClosedBook book.old → OnOk result (IsClosedBook book.new) }
     ensures joins { IsBook book.old → IfOk result (AreJoins book.new (λ s. place_of places.now (first + s))
         global.now.showing global.now.variables) }
 {

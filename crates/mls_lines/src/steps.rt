@@ -1,5 +1,6 @@
 //! The steps of a section, as they are written.
-ghost use Rattle.std.specs.Prelude.{◌≡◌, ◌↔◌, ◌++◌, [], option_map, IfOk, IsTrue, OnOk};
+ghost use Rattle.std.specs.Prelude.{◌≡◌, ◌↔◌, ◌++◌, [], ◌∷◌, option_map, IfOk, IsTrue, OnOk};
+ghost use Rattle.mls_deriv.specs.declared.derivation.SectionLine.TheVariants as line;
 ghost use Rattle.mls_deriv.specs.Sections.{steps_of};
 ghost use Rattle.mls_deriv.specs.Steps.{IsRising};
 ghost use Rattle.mls_layout.specs.Emitted.{binder_pair};
@@ -106,7 +107,10 @@ fn asked(
 
 impl Steps {
     /// No line.
-    pub fn new(alloc: Global) -> Steps {
+    pub fn new(alloc: Global) -> Steps
+        ensures lines { result.lines ≡ [] }
+        ensures count { result.count ≡ 0 }
+    {
         Steps {
             lines: List::new(alloc),
             count: 0,
@@ -196,7 +200,10 @@ impl Steps {
     /// # Errors
     ///
     /// `Memory` where memory is wanting.
-    pub fn name(&mut self, k: usize, step: usize) -> Result<(), Memory> {
+    pub fn name(&mut self, k: usize, step: usize) -> Result<(), Memory>
+        ensures lines { OnOk result (self.new.lines ≡ self.old.lines ++ line.Let k step ∷ []) }
+        ensures count { self.new.count ≡ self.old.count }
+    {
         self.lines.push(SectionLine::Let(k, step))?;
         Ok(())
     }

@@ -1,6 +1,6 @@
 //! The section of a binding, part by part.
 ghost use Rattle.std.specs.BTreeMap.{IsEmpty};
-ghost use Rattle.std.specs.Prelude.{◌≡◌, ℕ, ◌<◌, ◌+◌, List, [], length, slice_get, All, IfOk, IfSome, None, OnOk, Some};
+ghost use Rattle.std.specs.Prelude.{◌≡◌, ℕ, ◌≤◌, ◌+◌, List, length, slice_get, All, IfOk, IfSome, None, OnOk, Some};
 ghost use Rattle.mls_automaton.specs.Environments.{BindersRise};
 ghost use Rattle.mls_automaton.specs.Models.{IsClosed};
 ghost use Rattle.mls_automaton.specs.Schemes.{IsScheme};
@@ -10,7 +10,7 @@ ghost use Rattle.mls_layout.specs.declared.layout.LaidOut.{LaidOut as IsLaid};
 ghost use Rattle.mls_layout.specs.LaidOut.{place_of};
 ghost use Rattle.mls_layout.specs.Parts.{Constraint};
 ghost use Rattle.mls_term.specs.declared.term.TermForm.TheVariants as form;
-ghost use Rattle.mls_scheme.specs.ReadTypes.{IsReadFromBook};
+ghost use Rattle.mls_typetext.specs.declared.scheme.ReadScheme.{ReadScheme as ReadType};
 ghost use Rattle.mls_iface.specs.Matches.{IsRead};
 ghost use Rattle.mls_iface.specs.Signatures.{IsEntry};
 ghost use Rattle.mls_deriv.specs.Steps.{HasFrom};
@@ -20,12 +20,13 @@ ghost use Rattle.mls_parts.specs.PartUses.{HaveOwnLabels, KnowTypes};
 ghost use Rattle.mls_parts.specs.PosedParts.{IsPartList};
 ghost use Rattle.mls_parts.specs.SolvedTypes.{entries_of};
 ghost use Rattle.mls_parts.specs.TermParts.{AreTermParts, IsTermPart};
-ghost use Rattle.mls_emit.specs.Drafts.{AreNameTypes, AreTermNodes, KnowGlobals, KnowsBefore, KnowsFirst, KnowsForm};
-ghost use Rattle.mls_emit.specs.Drafts.{names_read};
-ghost use Rattle.mls_emit.specs.MadeFirsts.{around_states, IsFirstLaid, IsFirstType, IsPartLaidOut, IsPartSolved};
-ghost use Rattle.mls_typenodes.specs.OneEach.{HasOneEach};
-ghost use Rattle.mls_typenodes.specs.ReadPlaces.{IsReadLaid};
+ghost use Rattle.mls_emit.specs.Drafts.{AreGlobalsIn, AreNameTypes, AreTermNodes, HavePlaces, KnowGlobals};
+ghost use Rattle.mls_emit.specs.Drafts.{KnowsBefore, KnowsForm, PlacesForm, names_read};
+ghost use Rattle.mls_emit.specs.PlainSections.{so_far, IsPlainSection, NamesFirst};
+ghost use Rattle.mls_allowed.specs.SectionParts.{AddsFirstPart, AddsWhole, HaveCome, IsBegun, IsWholeType, SoFar};
+ghost use Rattle.mls_allowed.specs.MadeFirsts.{around_states, IsFirstLaid, IsFirstType, IsPartLaidOut, IsPartSolved};
 ghost use Rattle.mls_emit.specs.declared.derive.Way.TheVariants.{Plain};
+ghost use Rattle.mls_lines.specs.PlainLines.{HaveLowPlaces};
 ghost use Rattle.mls_lines.specs.PlainParts.{CanWritePart, ConcludesNothing, WritesPart, WritesWhole, type_binders};
 ghost use Rattle.mls_lines.specs.Writer.{Lengthens};
 
@@ -164,9 +165,10 @@ fn type_env(alloc: Global, at: &TypeAt) -> Result<BinderNodes, Memory>
 impl Draft {
     // A section that begins with the nodes of a type, where the types of these names were read before.
     fn new(alloc: Global, way: Way, read: &ReadScheme, schemes: Schemes) -> Result<Draft, Memory>
-        ensures begins { IfOk result (λ draft. HasFrom draft.book 0 read.now.book) }
+        ensures begins { IfOk result (λ draft. IsBegun read.now (so_far draft)) }
         ensures globals { IfOk result (λ draft. draft.known.globals ≡ schemes) }
-        ensures lets { IfOk result (λ draft. IsEmpty draft.known.lets) }
+        ensures way { IfOk result (λ draft. draft.way ≡ way) }
+        ensures places { IfOk result (λ draft. IsEmpty draft.globals) }
     {
         let mut book = Book::new(alloc);
         push_book(alloc, &mut book, &read.book)?;
@@ -188,13 +190,19 @@ impl Draft {
     fn place_global(&mut self, alloc: Global, read: &ReadScheme, g: usize) -> Result<(), Memory>
         requires { IsRead read.now }
         ensures longer { OnOk result (IsLonger self.old.book self.new.book) }
-        ensures known { self.new.known ≡ self.old.known }
+        ensures kept { self.new ≡ record self.old {
+          book = self.new.book;
+          globals = self.new.globals;
+          variable = self.new.variable;
+        } }
+        ensures places { (reads : List ReadType) → slice_get reads g ≡ Some read.now
+            → AreGlobalsIn reads self.old.book self.old.variable self.old.globals
+            → OnOk result (PlacesForm reads self.new.book self.new.variable self.old.globals self.new.globals
+            (form.Global g)) }
     {
         let global = put_global(alloc, &mut self.book, read)?;
         // The variables of first parts come behind those of all names, since both may be put in at once.
-        if read.vars > self.variable {
-            self.variable = read.vars;
-        }
+        self.variable = greater(self.variable, read.vars);
         self.globals.insert(g, global)?;
         Ok(())
     }
@@ -210,10 +218,20 @@ impl Draft {
         requires declared { All IsRead declared.now }
         requires entries { All IsEntry entries.now }
         requires types { AreNameTypes (names_read declared.now entries.now) self.old.known.globals }
+        requires places { AreGlobalsIn (names_read declared.now entries.now) self.old.book self.old.variable
+            self.old.globals }
         ensures longer { OnOk result (IsLonger self.old.book self.new.book) }
         ensures form { OnOk result (KnowsForm (names_read declared.now entries.now) self.old.known.globals
             self.new.known.globals (form.Global g)) }
+        ensures places { OnOk result (PlacesForm (names_read declared.now entries.now) self.new.book self.new.variable
+            self.old.globals self.new.globals (form.Global g)) }
         ensures lets { self.new.known.lets ≡ self.old.known.lets }
+        ensures kept { self.new ≡ record self.old {
+          book = self.new.book;
+          known = self.new.known;
+          globals = self.new.globals;
+          variable = self.new.variable;
+        } }
     {
         let read = read_at(declared, entries, g).ok_or(Memory)?;
         know_type(alloc, &mut self.known.globals, read, g)?;
@@ -235,10 +253,20 @@ impl Draft {
         requires declared { All IsRead declared.now }
         requires entries { All IsEntry entries.now }
         requires types { AreNameTypes (names_read declared.now entries.now) self.old.known.globals }
+        requires places { AreGlobalsIn (names_read declared.now entries.now) self.old.book self.old.variable
+            self.old.globals }
         ensures longer { OnOk result (IsLonger self.old.book self.new.book) }
         ensures form { OnOk result (KnowsForm (names_read declared.now entries.now) self.old.known.globals
             self.new.known.globals named.now) }
+        ensures places { OnOk result (PlacesForm (names_read declared.now entries.now) self.new.book self.new.variable
+            self.old.globals self.new.globals named.now) }
         ensures lets { self.new.known.lets ≡ self.old.known.lets }
+        ensures kept { self.new ≡ record self.old {
+          book = self.new.book;
+          known = self.new.known;
+          globals = self.new.globals;
+          variable = self.new.variable;
+        } }
     {
         match named {
             TermForm::Global(g) => self.add_global(alloc, declared, entries, *g),
@@ -257,10 +285,21 @@ impl Draft {
         requires declared { All IsRead declared.now }
         requires entries { All IsEntry entries.now }
         requires types { AreNameTypes (names_read declared.now entries.now) self.old.known.globals }
+        requires places { AreGlobalsIn (names_read declared.now entries.now) self.old.book self.old.variable
+            self.old.globals }
         ensures longer { OnOk result (IsLonger self.old.book self.new.book) }
         ensures types { OnOk result (AreNameTypes (names_read declared.now entries.now) self.new.known.globals) }
         ensures known { OnOk result (KnowGlobals nodes.now self.new.known.globals (length nodes.now)) }
+        ensures globals { OnOk result (AreGlobalsIn (names_read declared.now entries.now) self.new.book
+            self.new.variable self.new.globals) }
+        ensures places { OnOk result (HavePlaces nodes.now self.new.globals (length nodes.now)) }
         ensures lets { self.new.known.lets ≡ self.old.known.lets }
+        ensures kept { self.new ≡ record self.old {
+          book = self.new.book;
+          known = self.new.known;
+          globals = self.new.globals;
+          variable = self.new.variable;
+        } }
     {
         for node in nodes {
             self.add_named(alloc, declared, entries, &node.form)?;
@@ -281,8 +320,10 @@ impl Draft {
         ensures first { IfOk result (λ at. IsFirstType solution.now.automaton root
             (around_states posing.now around.now) at.scheme) }
         ensures separate { IfOk result (λ at. AreSeparate at.scheme) }
-        ensures laid { IfOk result (IsFirstLaid self.old.book self.old.variable self.new.book self.new.variable) }
-        ensures known { self.new.known ≡ self.old.known }
+        ensures laid { IfOk result (λ at. IsFirstLaid self.old.book self.old.variable self.new.book self.new.variable
+            at.scheme at.places) }
+        ensures kept { self.new ≡ record self.old { book = self.new.book; variable = self.new.variable } }
+        ensures variable { OnOk result (self.old.variable ≤ self.new.variable) }
     {
         let states = states_of(alloc, posing, around)?;
         let scheme = first_type_of(alloc, &solution.automaton, root, states.as_slice())?;
@@ -302,13 +343,9 @@ impl Draft {
         requires read { IsRead read.now }
         requires begins { HasFrom self.old.book 0 read.now.book }
         ensures longer { OnOk result (IsLonger self.old.book self.new.book) }
-        ensures scheme { IfOk result (λ at. IsScheme at.scheme) }
-        ensures env { IfOk result (λ at. at.scheme.env ≡ []) }
+        ensures whole { IfOk result (λ at. IsWholeType read.now self.old.book self.new.book at.scheme at.places) }
         ensures separate { IfOk result (λ at. AreSeparate at.scheme) }
-        ensures book { IfOk result (λ at. IsReadFromBook read.now at.scheme) }
-        ensures laid { IfOk result (λ at. ((i : ℕ) → i < length read.now.book → HasOneEach read.now.book i)
-            → IsReadLaid read.now self.new.book at.scheme at.places) }
-        ensures known { self.new.known ≡ self.old.known }
+        ensures kept { self.new ≡ record self.old { book = self.new.book } }
     {
         let bot = self.book.push(Node::Bot)?;
         let top = self.book.push(Node::Top)?;
@@ -332,7 +369,8 @@ impl Draft {
         requires related { HoldsStates posing.now.automaton solution.found }
         requires rises { Rises around.now }
         ensures longer { IfOk result (λ laid. IsLonger self.old.book laid.book) }
-        ensures laid { IfOk result (IsPartLaidOut self.old.book posing.now solution root around.now at.now) }
+        ensures laid { IfOk result (IsPartLaidOut self.old.book posing.now solution root around.now at.now.scheme
+            at.now.places) }
         ensures kept { self.new ≡ record self.old { book = self.new.book } }
     {
         let general = Scheme {
@@ -383,9 +421,9 @@ impl Draft {
     ) -> Result<(), Memory>
         ensures lengthens { OnOk result (Lengthens writer.old.laid writer.new.laid) }
         ensures writes { (c : Constraint) (parts : ℕ → List ℕ) → self.now.way ≡ Plain
-            → CanWritePart writer.old.laid writer.old.steps self.now.firsts c posing.now parts nodes.now part.now
-            → ConcludesNothing writer.old → OnOk result (WritesPart self.now.globals self.now.firsts c posing.now parts
-            nodes.now part.now writer.old writer.new) }
+            → CanWritePart writer.old.laid writer.old.steps self.now.globals self.now.firsts c posing.now parts
+            nodes.now part.now → ConcludesNothing writer.old → OnOk result (WritesPart self.now.globals
+            self.now.firsts self.now.known.lets c posing.now parts nodes.now part.now writer.old writer.new) }
     {
         let spines = match self.way {
             Way::Short => Spines::of(alloc, nodes, part, &self.known.lets)?,
@@ -415,11 +453,12 @@ impl Draft {
         at: &TypeAt,
     ) -> Result<usize, Memory>
         ensures longer { OnOk result (IsLonger laid.book self.new.book) }
-        ensures known { self.new.known ≡ self.old.known }
+        ensures kept { self.new ≡ record self.old { book = self.new.book; steps = self.new.steps } }
         ensures lines { (c : Constraint) (parts : ℕ → List ℕ) → self.old.way ≡ Plain
-            → CanWritePart laid self.old.steps self.old.firsts c posing.now parts nodes.now part.now
-            → IfOk result (WritesWhole self.old.globals self.old.firsts c posing.now parts nodes.now part.now laid
-            self.old.steps self.new.steps self.new.book (type_binders at.now.scheme at.now.places)
+            → CanWritePart laid self.old.steps self.old.globals self.old.firsts c posing.now parts nodes.now part.now
+            → HaveLowPlaces (length laid.book) at.now.places → IfOk result (WritesWhole self.old.globals
+            self.old.firsts self.old.known.lets c posing.now parts nodes.now part.now laid self.old.steps
+            self.new.steps self.new.book (type_binders at.now.scheme at.now.places)
             (place_of at.now.places at.now.scheme.root.0)) }
     {
         let root = *part.last().ok_or(Memory)?;
@@ -445,9 +484,14 @@ impl Draft {
     ) -> Result<(), Memory>
         requires scheme { IsScheme at.scheme }
         requires separate { AreSeparate at.scheme }
-        ensures book { self.new.book ≡ self.old.book }
-        ensures globals { self.new.known.globals ≡ self.old.known.globals }
-        ensures first { OnOk result (KnowsFirst self.old.known.lets self.new.known.lets k at.scheme) }
+        ensures first { OnOk result (NamesFirst (so_far self.old) (so_far self.new) k step variable at.scheme
+            at.places) }
+        ensures types { self.new.known.globals ≡ self.old.known.globals }
+        ensures kept { self.new ≡ record self.old {
+          steps = self.new.steps;
+          known = self.new.known;
+          firsts = self.new.firsts;
+        } }
     {
         self.steps.name(k, step)?;
         let first = FirstPart {
@@ -471,7 +515,7 @@ impl Draft {
         requires list { IsPartList nodes.now list.now }
         requires labels { HaveOwnLabels nodes.now }
         requires known { KnowTypes self.now.known.globals self.now.known.lets nodes.now list.now }
-        ensures { IfOk result (IsPartSolved nodes.now self.now.known list.now) }
+        ensures { IfOk result (λ s. IsPartSolved nodes.now self.now.known list.now s.posing s.solution s.around) }
     {
         let binders = binders_of(alloc, nodes, list, &self.known.lets)?;
         let posing = pose_part(alloc, nodes, list, binders.all.as_slice(), &self.known)?;
@@ -495,16 +539,16 @@ impl Draft {
         requires read { IsRead read.now }
         requires begins { HasFrom self.old.book 0 read.now.book }
         ensures longer { OnOk result (IsLonger self.old.book self.new.book) }
-        ensures whole { of_let ≡ None → IfOk result (λ at.
-            ((i : ℕ) → i < length read.now.book → HasOneEach read.now.book i)
-            → IsReadLaid read.now self.new.book at.scheme at.places) }
+        ensures whole { of_let ≡ None → IfOk result (λ at. IsWholeType read.now self.old.book self.new.book at.scheme
+            at.places) }
         ensures first { (k : ℕ) → of_let ≡ Some k → IfOk result (λ at. IsFirstType solved.now.solution.automaton root
             (around_states solved.now.posing solved.now.around) at.scheme) }
-        ensures first_laid { (k : ℕ) → of_let ≡ Some k → IfOk result (IsFirstLaid self.old.book self.old.variable
-            self.new.book self.new.variable) }
+        ensures first_laid { (k : ℕ) → of_let ≡ Some k → IfOk result (λ at. IsFirstLaid self.old.book self.old.variable
+            self.new.book self.new.variable at.scheme at.places) }
         ensures scheme { IfOk result (λ at. IsScheme at.scheme) }
         ensures separate { IfOk result (λ at. AreSeparate at.scheme) }
-        ensures known { self.new.known ≡ self.old.known }
+        ensures kept { self.new ≡ record self.old { book = self.new.book; variable = self.new.variable } }
+        ensures variable { OnOk result (self.old.variable ≤ self.new.variable) }
     {
         match of_let {
             Some(_) => self.first_type(
@@ -532,11 +576,13 @@ impl Draft {
         requires related { HoldsStates solved.posing.automaton solved.solution.found }
         requires rises { Rises solved.around }
         ensures longer { OnOk result (IsLonger self.old.book self.new.book) }
-        ensures known { self.new.known ≡ self.old.known }
+        ensures kept { self.new ≡ record self.old { book = self.new.book; steps = self.new.steps } }
         ensures lines { self.old.way ≡ Plain → IfOk result (λ number. (laid : IsLaid)
-            × IsPartLaidOut self.old.book solved.posing solved.solution root solved.around at.now laid
-            × ((c : Constraint) (parts : ℕ → List ℕ) → CanWritePart laid self.old.steps self.old.firsts c solved.posing
-            parts nodes.now list.now → WritesWhole self.old.globals self.old.firsts c solved.posing parts nodes.now
+            × IsPartLaidOut self.old.book solved.posing solved.solution root solved.around at.now.scheme at.now.places
+            laid
+            × ((c : Constraint) (parts : ℕ → List ℕ) → CanWritePart laid self.old.steps self.old.globals
+            self.old.firsts c solved.posing parts nodes.now list.now → HaveLowPlaces (length laid.book) at.now.places
+            → WritesWhole self.old.globals self.old.firsts self.old.known.lets c solved.posing parts nodes.now
             list.now laid self.old.steps self.new.steps self.new.book (type_binders at.now.scheme at.now.places)
             (place_of at.now.places at.now.scheme.root.0) number)) }
     {
@@ -565,6 +611,13 @@ impl Draft {
         ensures longer { OnOk result (IsLonger self.old.book self.new.book) }
         ensures known { OnOk result (KnowsBefore nodes.now self.new.known (root + 1)) }
         ensures globals { self.new.known.globals ≡ self.old.known.globals }
+        ensures way { self.new.way ≡ self.old.way }
+        ensures first { (k : ℕ) → self.old.way ≡ Plain → part.now.of_let ≡ Some k
+            → OnOk result (AddsFirstPart nodes.now root (so_far self.old) (so_far self.new)) }
+        ensures whole { self.old.way ≡ Plain → part.now.of_let ≡ None
+            → OnOk result (AddsWhole nodes.now read.now root (so_far self.old) (so_far self.new)) }
+        ensures places { self.new.globals ≡ self.old.globals }
+        ensures variable { OnOk result (self.old.variable ≤ self.new.variable) }
     {
         let list = part.nodes.as_slice();
         let solved = self.solved(alloc, nodes, list)?;
@@ -595,12 +648,29 @@ impl Draft {
         ensures longer { OnOk result (IsLonger self.old.book self.new.book) }
         ensures known { OnOk result (KnowsBefore nodes.now self.new.known (root + 1)) }
         ensures globals { self.new.known.globals ≡ self.old.known.globals }
+        ensures way { self.new.way ≡ self.old.way }
+        ensures come { (begun : SoFar) → self.old.way ≡ Plain
+            → HaveCome nodes.now read.now begun root (so_far self.old)
+            → OnOk result (HaveCome nodes.now read.now begun (root + 1) (so_far self.new)) }
+        ensures places { self.new.globals ≡ self.old.globals }
+        ensures variable { OnOk result (self.old.variable ≤ self.new.variable) }
     {
         match parts.get(&root) {
             Some(part) => self.add_part(alloc, nodes, root, part, read),
             None => Ok(()),
         }
     }
+}
+
+// The greater of two numbers.
+fn greater(first: usize, second: usize) -> usize
+    ensures first { first ≤ result }
+    ensures second { second ≤ result }
+{
+    if first < second {
+        return second;
+    }
+    first
 }
 
 // Takes the book out.
@@ -646,7 +716,9 @@ pub(crate) fn write_section(
     requires types { AreNameTypes (names_read declared.now entries.now) schemes.old }
     requires term { AreTermNodes nodes.now }
     requires read { IsRead read.now }
-    ensures { AreNameTypes (names_read declared.now entries.now) schemes.new }
+    ensures types { AreNameTypes (names_read declared.now entries.now) schemes.new }
+    ensures plain { way ≡ Plain → IfOk result (λ w. IsPlainSection (names_read declared.now entries.now) nodes.now
+        read.now w.book w.lines) }
 {
     let parts = parts_of(alloc, nodes)?;
     let mut draft = Draft::new(alloc, way, read, replace_schemes(schemes, alloc))?;

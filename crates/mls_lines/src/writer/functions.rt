@@ -69,7 +69,8 @@ impl Writer {
         ensures laid { OnOk result (self.new.laid ≡ self.old.laid) }
         ensures writes { (c : Constraint) (parts : ℕ → List ℕ) → IsSound self.old
             → HasOwnParts self.old c.automaton parts → IfOk result (λ own. WritesNode view.now.globals.now
-            view.now.firsts.now c view.now.posing.now parts node (form.Rec x body) self.old self.new (Step own)) }
+            view.now.firsts.now view.now.known.now.lets c view.now.posing.now parts node (form.Rec x body)
+            self.old self.new (Step own)) }
     {
         let root = self.place(view.posing.root(body));
         let offer = self.offered(alloc, view, body, root)?;

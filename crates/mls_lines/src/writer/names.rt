@@ -1,12 +1,13 @@
 //! The lines of names and of lets.
-ghost use Rattle.std.specs.Prelude.{◌≡◌, ℕ, List, [], IfOk, OnOk, Some};
+ghost use Rattle.std.specs.Prelude.{◌≡◌, ◌≢◌, ℕ, List, [], length, IfOk, OnOk, Some};
 ghost use Rattle.std.specs.BTreeMap.{get};
 ghost use Rattle.std.specs.Ordering.{nat_cmp};
 ghost use Rattle.mls_book.specs.Books.{IsBook};
 ghost use Rattle.mls_term.specs.declared.term.TermForm.TheVariants as form;
 ghost use Rattle.mls_layout.specs.Parts.{Constraint};
 ghost use Rattle.mls_lines.specs.declared.writer.Concluded.TheVariants.{Step};
-ghost use Rattle.mls_lines.specs.PlainLines.{HaveRisingFirsts, IsSound, SettlesNode, WritesNode};
+ghost use Rattle.mls_lines.specs.PlainLines.{HaveLowFirsts, HaveLowGlobals, HaveRisingFirsts, IsSound};
+ghost use Rattle.mls_lines.specs.PlainLines.{SettlesNode, WritesNode};
 ghost use Rattle.mls_lines.specs.Puts.{ArePutsOfFirst, ArePutsOfGlobal, FollowFrom};
 ghost use Rattle.mls_lines.specs.Writer.{Grows, Lengthens};
 
@@ -65,9 +66,10 @@ impl Writer {
         g: usize,
     ) -> Result<Conclusion, Memory>
         ensures lengthens { OnOk result (Lengthens self.old.laid self.new.laid) }
-        ensures writes { (c : Constraint) (parts : ℕ → List ℕ) → IsSound self.old → IfOk result (λ own. WritesNode
-            view.now.globals.now view.now.firsts.now c view.now.posing.now parts node (form.Global g)
-            self.old self.new (Step own)) }
+        ensures writes { (c : Constraint) (parts : ℕ → List ℕ) → IsSound self.old
+            → HaveLowGlobals (length self.old.laid.book) view.now.globals.now → IfOk result (λ own. WritesNode
+            view.now.globals.now view.now.firsts.now view.now.known.now.lets c view.now.posing.now parts node
+            (form.Global g) self.old self.new (Step own)) }
     {
         let global = global_at(view.globals, g)?;
         let puts = self.puts_of_global(alloc, view, node, global)?;
@@ -129,8 +131,9 @@ impl Writer {
     ) -> Result<Conclusion, Memory>
         ensures laid { OnOk result (self.new.laid ≡ self.old.laid) }
         ensures writes { (c : Constraint) (parts : ℕ → List ℕ) → IsSound self.old → HaveRisingFirsts view.now.firsts.now
-            → IfOk result (λ own. WritesNode view.now.globals.now view.now.firsts.now c view.now.posing.now parts node
-            (form.Inner k) self.old self.new (Step own)) }
+            → HaveLowFirsts (length self.old.laid.book) view.now.firsts.now
+            → IfOk result (λ own. WritesNode view.now.globals.now view.now.firsts.now view.now.known.now.lets c
+            view.now.posing.now parts node (form.Inner k) self.old self.new (Step own)) }
     {
         let part = first_part(view.firsts, k)?;
         let puts = self.puts_of_let(alloc, view, node, k, part)?;
@@ -151,6 +154,8 @@ impl Writer {
     ) -> Result<Puts, Memory>
         ensures none { part.now.env ≡ [] → IfOk result (λ puts. puts ≡ []) }
         ensures follow { IfOk result (FollowFrom part.now.variable) }
+        ensures edges { part.now.env ≢ [] → IfOk result (ArePutsOfFirst self.now.laid.places view.now.posing.now
+            view.now.known.now.lets node k part.now.variable) }
     {
         if part.env.is_empty() {
             return Ok(Puts::new(alloc));
@@ -200,9 +205,10 @@ impl Writer {
     ) -> Result<Conclusion, Memory>
         ensures lengthens { OnOk result (Lengthens self.old.laid self.new.laid) }
         ensures writes { (c : Constraint) (parts : ℕ → List ℕ) (j : ℕ) → IsSound self.old
-            → HaveRisingFirsts view.now.firsts.now → IfOk result (λ own. WritesNode
-            view.now.globals.now view.now.firsts.now c view.now.posing.now parts node (form.Let k j second)
-            self.old self.new (Step own)) }
+            → HaveRisingFirsts view.now.firsts.now → HaveLowFirsts (length self.old.laid.book) view.now.firsts.now
+            → IfOk result (λ own. WritesNode
+            view.now.globals.now view.now.firsts.now view.now.known.now.lets c view.now.posing.now parts node
+            (form.Let k j second) self.old self.new (Step own)) }
     {
         let part = first_part(view.firsts, k)?;
         let puts = self.puts_in_let(alloc, view, node, k, part)?;

@@ -1,5 +1,5 @@
 //! The nodes of states, what a node of the term concludes, and the step that brings it to another type.
-ghost use Rattle.std.specs.Prelude.{◌≡◌, ◌+◌, ◌∷◌, [], get_or, IfOk, IfSome, None, OnOk, Some};
+ghost use Rattle.std.specs.Prelude.{◌≡◌, ◌+◌, ◌<◌, ◌∷◌, [], get_or, length, IfOk, IfSome, None, OnOk, Some};
 ghost use Rattle.std.specs.BTreeMap.{get};
 ghost use Rattle.std.specs.Ordering.{nat_cmp};
 ghost use Rattle.mls_book.specs.Books.{node_at};
@@ -9,8 +9,8 @@ ghost use Rattle.mls_deriv.specs.declared.derivation.StepRule.TheVariants.{Var};
 ghost use Rattle.mls_layout.specs.LaidOut.{node_of};
 ghost use Rattle.mls_layout.specs.Scopes.{entry};
 ghost use Rattle.mls_lines.specs.PlainLines.{IsSound, TakesOwn};
-ghost use Rattle.mls_lines.specs.Stepping.{AddsStep, AreCounted};
-ghost use Rattle.mls_lines.specs.Writer.{BringsNode, ConcludesNoMore, Grows, HaveSteps, Lengthens, TakesStep};
+ghost use Rattle.mls_lines.specs.Stepping.{AddsStep};
+ghost use Rattle.mls_lines.specs.Writer.{BringsNode, ConcludesNoMore, Grows, HasLowEnv, Lengthens, TakesStep};
 
 use crate::envs::with;
 use crate::steps::Conclusion;
@@ -238,7 +238,7 @@ impl Writer {
     // The step of a node, which has this type if it is a binder.
     fn taken(&mut self, alloc: Global, node: usize, root: NodeId) -> Result<Conclusion, Memory>
         ensures laid { OnOk result (self.new.laid ≡ self.old.laid) }
-        ensures takes { AreCounted self.old.steps → HaveSteps self.old
+        ensures takes { IsSound self.old → root.0 < length self.old.laid.book
             → IfOk result (TakesStep self.old self.new node root) }
     {
         let own = self.take_concluded(node)?;
@@ -264,8 +264,8 @@ impl Writer {
         root: NodeId,
     ) -> Result<usize, Memory>
         ensures laid { OnOk result (self.new.laid ≡ self.old.laid) }
-        ensures brings { IsRising env.now → AreCounted self.old.steps → HaveSteps self.old
-            → IfOk result (BringsNode self.old self.new node env.now root) }
+        ensures brings { IsRising env.now → IsSound self.old → HasLowEnv (length self.old.laid.book) env.now
+            → root.0 < length self.old.laid.book → IfOk result (BringsNode self.old self.new node env.now root) }
     {
         let from = self.taken(alloc, node, root)?;
         let book = &self.laid.book;

@@ -1,9 +1,10 @@
 //! The lines of a part, written plainly: each part of a node goes over to the type and the environment that the rule
 //! asks for, at the nodes that were laid out for the states of the constraint, and no node is made but meets of binders.
-ghost use Rattle.std.specs.Prelude.{ℕ, List, IfOk, OnOk};
+ghost use Rattle.std.specs.Prelude.{ℕ, List, length, IfOk, OnOk};
 ghost use Rattle.mls_layout.specs.Parts.{Constraint};
 ghost use Rattle.mls_parts.specs.PosedGoals.{IsPosedAt};
-ghost use Rattle.mls_lines.specs.PlainLines.{HasOwnParts, HaveRisingFirsts, IsSound, WritesNode};
+ghost use Rattle.mls_lines.specs.PlainLines.{HasOwnParts, HaveLowFirsts, HaveLowGlobals, HaveRisingFirsts, IsSound};
+ghost use Rattle.mls_lines.specs.PlainLines.{WritesNode};
 ghost use Rattle.mls_lines.specs.PlainParts.{CanWritePart, ConcludesNothing, WritesPart};
 ghost use Rattle.mls_lines.specs.Writer.{Lengthens};
 
@@ -28,9 +29,11 @@ impl Writer {
         ensures lengthens { OnOk result (Lengthens self.old.laid self.new.laid) }
         ensures writes { (c : Constraint) (parts : ℕ → List ℕ) → IsSound self.old
             → HasOwnParts self.old c.automaton parts → HaveRisingFirsts view.now.firsts.now
+            → HaveLowFirsts (length self.old.laid.book) view.now.firsts.now
+            → HaveLowGlobals (length self.old.laid.book) view.now.globals.now
             → IsPosedAt c view.now.posing.now form.now node
-            → IfOk result (WritesNode view.now.globals.now view.now.firsts.now c view.now.posing.now parts node
-            form.now self.old self.new) }
+            → IfOk result (WritesNode view.now.globals.now view.now.firsts.now view.now.known.now.lets c
+            view.now.posing.now parts node form.now self.old self.new) }
     {
         match form {
             TermForm::Bound(x) => Ok(Concluded::Bound(*x)),
@@ -70,9 +73,9 @@ impl Writer {
     ) -> Result<(), Memory>
         ensures lengthens { OnOk result (Lengthens self.old.laid self.new.laid) }
         ensures writes { (c : Constraint) (parts : ℕ → List ℕ) → CanWritePart self.old.laid self.old.steps
-            view.now.firsts.now c view.now.posing.now parts nodes.now part.now → ConcludesNothing self.old
-            → OnOk result (WritesPart view.now.globals.now view.now.firsts.now c view.now.posing.now parts nodes.now
-            part.now self.old self.new) }
+            view.now.globals.now view.now.firsts.now c view.now.posing.now parts nodes.now part.now
+            → ConcludesNothing self.old → OnOk result (WritesPart view.now.globals.now view.now.firsts.now
+            view.now.known.now.lets c view.now.posing.now parts nodes.now part.now self.old self.new) }
     {
         for i in part {
             if let Some(node) = nodes.get(*i) {

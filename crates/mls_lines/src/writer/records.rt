@@ -1,12 +1,12 @@
 //! The lines of records and projections.
-ghost use Rattle.std.specs.Prelude.{◌≡◌, List, IfOk, OnOk, Some};
+ghost use Rattle.std.specs.Prelude.{◌≡◌, ◌<◌, List, length, All, IfOk, OnOk, Some};
 ghost use Rattle.mls_book.specs.Books.{field_at, node_at};
 ghost use Rattle.mls_book.specs.declared.book.Field.{Field as IsField};
 ghost use Rattle.mls_book.specs.declared.book.Node.TheVariants.{Rcd};
 ghost use Rattle.mls_deriv.specs.Steps.{IsRising};
 ghost use Rattle.mls_lines.specs.PlainLines.{IsSound};
 ghost use Rattle.mls_lines.specs.PlainRecords.{AreFieldsOf, BringsParts, JoinsParts};
-ghost use Rattle.mls_lines.specs.Writer.{Grows, HaveRisingSteps, Lengthens};
+ghost use Rattle.mls_lines.specs.Writer.{Grows, HasLowEnv, HaveRisingSteps, Lengthens};
 
 use crate::copies::push_checked;
 use crate::steps::Conclusion;
@@ -171,7 +171,9 @@ impl Writer {
     ) -> Result<List<usize>, Memory>
         ensures laid { OnOk result (self.new.laid ≡ self.old.laid) }
         ensures brings { (of_record : List IsField) → AreFieldsOf of_record parts.now fields.now → IsSound self.old
-            → IsRising env.now → IfOk result (BringsParts self.old self.new env.now of_record parts.now) }
+            → IsRising env.now → HasLowEnv (length self.old.laid.book) env.now
+            → All (λ field. field.node.0 < length self.old.laid.book) of_record
+            → IfOk result (BringsParts self.old self.new env.now of_record parts.now) }
     {
         let mut steps = List::new(alloc);
         for (number, part) in parts.iter().enumerate() {

@@ -10,6 +10,7 @@ pub loop-variable-init : goal.loop-variable-init
 loop-variable-init c = record {
   longer = longer_itself c.args.book.now;
   is_book = λ is. is;
+  closed = λ is. is;
   joins =
       λ is.
       let place : ℕ → ℕ = λ s. place_of c.args.places.now (c.args.first + s) in
@@ -25,6 +26,7 @@ loop-variable-preserved c =
     let pushed : c.push.new.self ≡ c.loop-variable.puts ++ put ∷ [] = c.in_ok-push.ensures.ok in record {
       longer = longer_then c.args.book.now c.loop-variable.book c.joined_put.new.book so_far.longer node.longer;
       is_book = λ is. node.is_book (so_far.is_book is);
+      closed = λ is. node.closed (so_far.closed is);
       joins =
           λ is.
           subst (AreJoins c.joined_put.new.book place c.args.global.now.showing (c.loop-variable.variable + 1)) (sym pushed)

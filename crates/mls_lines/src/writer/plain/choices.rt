@@ -68,8 +68,9 @@ impl Writer {
         ensures writes { (c : Constraint) (parts : ℕ → List ℕ) → IsSound self.old
             → HasOwnParts self.old c.automaton parts
             → IsPosedAt c view.now.posing.now (form.If condition first second) node
-            → IfOk result (λ own. WritesNode view.now.globals.now view.now.firsts.now c view.now.posing.now parts node
-            (form.If condition first second) self.old self.new (Step own)) }
+            → IfOk result (λ own. WritesNode view.now.globals.now view.now.firsts.now
+            view.now.known.now.lets c view.now.posing.now parts node (form.If condition first second)
+            self.old self.new (Step own)) }
     {
         let state = result_of(view.posing, node)?;
         let truth = self.laid.boolean;

@@ -32,7 +32,8 @@ impl Writer {
         ensures laid { OnOk result (self.new.laid ≡ self.old.laid) }
         ensures writes { (c : Constraint) (parts : ℕ → List ℕ) → IsSound self.old
             → HasOwnParts self.old c.automaton parts → IfOk result (λ own. WritesNode view.now.globals.now
-            view.now.firsts.now c view.now.posing.now parts node (form.Fun x body) self.old self.new (Step own)) }
+            view.now.firsts.now view.now.known.now.lets c view.now.posing.now parts node (form.Fun x body)
+            self.old self.new (Step own)) }
     {
         let arrow = self.function(view.posing.root(node))?;
         let offer = self.offered(alloc, view, body, arrow.to)?;
@@ -61,8 +62,9 @@ impl Writer {
         ensures writes { (c : Constraint) (parts : ℕ → List ℕ) → IsSound self.old
             → HasOwnParts self.old c.automaton parts
             → IsPosedAt c view.now.posing.now (form.Apply function argument) node
-            → IfOk result (λ own. WritesNode view.now.globals.now view.now.firsts.now c view.now.posing.now parts node
-            (form.Apply function argument) self.old self.new (Step own)) }
+            → IfOk result (λ own. WritesNode view.now.globals.now view.now.firsts.now
+            view.now.known.now.lets c view.now.posing.now parts node (form.Apply function argument)
+            self.old self.new (Step own)) }
     {
         let goal = behind(view.posing.root(node), 2)?;
         let arrow = self.function(goal)?;

@@ -32,7 +32,8 @@ impl Writer {
         ensures lengthens { OnOk result (Lengthens self.old.laid self.new.laid) }
         ensures writes { (c : Constraint) (places : ℕ → List ℕ) → IsSound self.old
             → HasOwnParts self.old c.automaton places → IfOk result (λ own. WritesNode view.now.globals.now
-            view.now.firsts.now c view.now.posing.now places node (form.Make parts.now) self.old self.new (Step own)) }
+            view.now.firsts.now view.now.known.now.lets c view.now.posing.now places node (form.Make parts.now)
+            self.old self.new (Step own)) }
     {
         let record = self.record(view.posing.root(node))?;
         let fields = self.fields(alloc, record, parts)?;
@@ -60,8 +61,9 @@ impl Writer {
         ensures writes { (c : Constraint) (parts : ℕ → List ℕ) → IsSound self.old
             → HasOwnParts self.old c.automaton parts
             → IsPosedAt c view.now.posing.now (form.Project body label.now) node
-            → IfOk result (λ own. WritesNode view.now.globals.now view.now.firsts.now c view.now.posing.now parts node
-            (form.Project body label.now) self.old self.new (Step own)) }
+            → IfOk result (λ own. WritesNode view.now.globals.now view.now.firsts.now
+            view.now.known.now.lets c view.now.posing.now parts node (form.Project body label.now)
+            self.old self.new (Step own)) }
     {
         let goal = behind(view.posing.root(node), 2)?;
         let record = self.record(goal)?;

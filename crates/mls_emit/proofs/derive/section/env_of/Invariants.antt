@@ -1,6 +1,6 @@
 use Rattle.std.proofs.Common.{◌≡◌, take}
 use Rattle.mls_parts.specs.SolvedTypes.{entries_of}
-use Rattle.mls_emit.specs.MadeFirsts.{around_states}
+use Rattle.mls_allowed.specs.MadeFirsts.{around_states}
 use Rattle.mls_emit.proofs.derive.section.env_of.Given as goal
 
 -- the binders so far

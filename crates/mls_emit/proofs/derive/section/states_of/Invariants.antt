@@ -1,5 +1,5 @@
 use Rattle.std.proofs.Common.{◌≡◌, take}
-use Rattle.mls_emit.specs.MadeFirsts.{around_states}
+use Rattle.mls_allowed.specs.MadeFirsts.{around_states}
 use Rattle.mls_emit.proofs.derive.section.states_of.Given as goal
 
 -- the binders so far

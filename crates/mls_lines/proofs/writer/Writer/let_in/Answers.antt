@@ -1,4 +1,4 @@
-use Rattle.std.proofs.Common.{◌≡◌, ◌++◌, ◌∙◌, List, refl, sym, ap, subst}
+use Rattle.std.proofs.Common.{◌≡◌, ◌++◌, ◌∙◌, length, List, refl, sym, ap, subst}
 use Rattle.mls_term.specs.declared.term.TermForm.TheVariants as form
 use Rattle.mls_deriv.specs.declared.claim.Put.{Put}
 use Rattle.mls_deriv.specs.declared.derivation.BinderNode.{BinderNode}
@@ -10,11 +10,12 @@ use Rattle.mls_lines.specs.Environments.{IsMetIn}
 use Rattle.mls_lines.specs.PlainLines.{SettlesNode, WritesNode}
 use Rattle.mls_lines.specs.Puts.{FollowFrom}
 use Rattle.mls_lines.proofs.Lengthening.{lengthens_grown, lengthens_itself, lengthens_kept, lengthens_then}
+use Rattle.mls_lines.proofs.LowNodes.{let_puts_low}
 use Rattle.mls_lines.proofs.PlainLets.{let_writes}
 use Rattle.mls_lines.proofs.writer.Writer.let_in.Goals as goal
 
 pub returns-clause-writes : goal.returns-clause-writes
-returns-clause-writes c = λ k parts j sound rise.
+returns-clause-writes c = λ k parts j sound rise low.
     let w = c.args.self.now in
     let p = c.args.view.now.posing.now in
     let part = c.in_ok-part.part.now in
@@ -30,9 +31,11 @@ returns-clause-writes c = λ k parts j sound rise.
     (subst (λ (d : List BinderNode). IsMetIn grown.laid.book c.as_slice-2.result.now d met) c.as_slice-3.ensures
     (c.in_ok-met.ensures.meets (subst IsRising (sym c.as_slice-2.ensures) (rise c.args.k part c.in_ok-part.ensures)) (subst IsRising (sym c.as_slice-3.ensures) it.rising))) in
     let all_is : c.add_puts.new.puts ≡ inner.puts ++ puts = c.in_ok-add_puts.ensures ∙ ap (λ (l : List Put). inner.puts ++ l) c.as_slice-4.ensures in
-    subst (λ (own : Conclusion). WritesNode c.args.view.now.globals.now c.args.view.now.firsts.now k p parts c.args.node (form.Let c.args.k j c.args.second) w new (Step own)) (sym c.with_puts.ensures)
-    (subst (λ (l : List Put). WritesNode c.args.view.now.globals.now c.args.view.now.firsts.now k p parts c.args.node (form.Let c.args.k j c.args.second) w new (Step (record c.in_ok-own.own { puts = l }))) (sym all_is)
-    (let_writes c.args.view.now.globals.now c.args.view.now.firsts.now k p parts c.args.node w sound c.args.k j c.args.second now grown new part puts inner c.in_ok-own.own met c.in_ok-part.ensures c.in_ok-puts.ensures.none it
+    subst (λ (own : Conclusion). WritesNode c.args.view.now.globals.now c.args.view.now.firsts.now c.args.view.now.known.now.lets k p parts c.args.node (form.Let c.args.k j c.args.second) w new (Step own)) (sym c.with_puts.ensures)
+    (subst (λ (l : List Put). WritesNode c.args.view.now.globals.now c.args.view.now.firsts.now c.args.view.now.known.now.lets k p parts c.args.node (form.Let c.args.k j c.args.second) w new (Step (record c.in_ok-own.own { puts = l }))) (sym all_is)
+    (let_writes c.args.view.now.globals.now c.args.view.now.firsts.now c.args.view.now.known.now.lets k p parts c.args.node w sound c.args.k j c.args.second now grown new part puts inner c.in_ok-own.own met low
+    (let_puts_low (length w.laid.book) w.laid.places p c.args.view.now.known.now.lets c.args.node c.args.k part.variable puts sound.places part.env c.in_ok-puts.ensures.none c.in_ok-puts.ensures.edges)
+    c.in_ok-part.ensures c.in_ok-puts.ensures.none c.in_ok-puts.ensures.edges it
     c.in_ok-met.ensures.grows met_in refl refl c.in_ok-own.ensures))
 
 pub returns-clause-lengthens : goal.returns-clause-lengthens

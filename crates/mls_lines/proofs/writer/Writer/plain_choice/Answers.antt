@@ -1,8 +1,11 @@
-use Rattle.std.proofs.Common.{◌∙◌, List, refl, sym, ap, subst}
+use Rattle.std.proofs.Common.{◌∙◌, ◌<◌, List, length, refl, sym, ap, subst}
 use Rattle.mls_book.specs.declared.book.NodeId.{NodeId}
 use Rattle.mls_deriv.specs.declared.derivation.BinderNode.{BinderNode}
 use Rattle.mls_deriv.specs.Steps.{IsRising}
-use Rattle.mls_lines.specs.Writer.{BringsNode}
+use Rattle.mls_lines.specs.Writer.{BringsNode, HasLowEnv}
+use Rattle.mls_book.specs.declared.book.Node.TheVariants as node
+use Rattle.mls_layout.specs.declared.layout.LaidOut.{LaidOut}
+use Rattle.mls_lines.proofs.LowNodes.{there_low, three_low, up}
 use Rattle.mls_lines.proofs.GoingOn.{sound_grown, sound_brought}
 use Rattle.mls_lines.proofs.PlainForms.{choice_writes}
 use Rattle.mls_lines.proofs.Lengthening.{lengthens_grown, lengthens_kept}
@@ -22,16 +25,23 @@ returns-clause-writes c = λ k parts sound have posed.
     let joins = c.in_ok-env.ensures.joins sound.rising in
     let rising = joins.joins.rising in
     let now = sound_grown w grown grows sound in
+    let truth_low = there_low w.laid.book truth.0 node.Bool (λ no. absurd (cc)) have.is_boolean in
+    let place = ap (λ (n : NodeId). n.0) c.place-into.ensures in
+    let top_low : top.0 < length w.laid.book = subst (λ n. n < length w.laid.book) (sym place) (sound.places c.in_ok-state.state) in
+    let low = three_low w grown p sound grows c.args.condition c.args.first c.args.second truth.0 top.0 c.in_ok-env.env joins truth_low top_low in
+    let top_up = up w grown p sound grows top.0 top_low in
     let it = subst (λ (d : List BinderNode). BringsNode grown once c.args.condition d truth c.in_ok-asked.asked) c.as_slice.ensures
-    (c.in_ok-asked.ensures.brings (subst IsRising (sym c.as_slice.ensures) rising) now.counted now.have) in
+    (c.in_ok-asked.ensures.brings (subst IsRising (sym c.as_slice.ensures) rising) now (subst (HasLowEnv (length grown.laid.book)) (sym c.as_slice.ensures) low) (up w grown p sound grows truth.0 truth_low)) in
     let then_now = sound_brought grown once c.args.condition c.in_ok-env.env truth c.in_ok-asked.asked it now in
     let later = subst (λ (d : List BinderNode). BringsNode once twice c.args.first d top c.in_ok-yes.yes) c.as_slice-2.ensures
-    (c.in_ok-yes.ensures.brings (subst IsRising (sym c.as_slice-2.ensures) rising) then_now.counted then_now.have) in
+    (c.in_ok-yes.ensures.brings (subst IsRising (sym c.as_slice-2.ensures) rising) then_now (subst (HasLowEnv (length once.laid.book)) (sym c.as_slice-2.ensures) (subst (λ (l : LaidOut). HasLowEnv (length l.book) c.in_ok-env.env) (sym it.laid) low))
+    (subst (λ (l : LaidOut). top.0 < length l.book) (sym it.laid) top_up)) in
     let last_now = sound_brought once twice c.args.first c.in_ok-env.env top c.in_ok-yes.yes later then_now in
     let latest = subst (λ (d : List BinderNode). BringsNode twice thrice c.args.second d top c.in_ok-no.no) c.as_slice-3.ensures
-    (c.in_ok-no.ensures.brings (subst IsRising (sym c.as_slice-3.ensures) rising) last_now.counted last_now.have) in
-    choice_writes c.args.view.now.globals.now c.args.view.now.firsts.now k p parts c.args.node w sound grown once twice thrice _ grows c.args.condition c.args.first c.args.second truth top c.in_ok-env.env
-    c.in_ok-asked.asked c.in_ok-yes.yes c.in_ok-no.no it later latest c.in_ok-own.own refl refl c.in_ok-state.state posed c.in_ok-state.ensures have refl (ap (λ (n : NodeId). n.0) c.place-into.ensures) joins c.in_ok-own.ensures
+    (c.in_ok-no.ensures.brings (subst IsRising (sym c.as_slice-3.ensures) rising) last_now (subst (HasLowEnv (length twice.laid.book)) (sym c.as_slice-3.ensures) (subst (λ (l : LaidOut). HasLowEnv (length l.book) c.in_ok-env.env) (sym (later.laid ∙ it.laid)) low))
+    (subst (λ (l : LaidOut). top.0 < length l.book) (sym (later.laid ∙ it.laid)) top_up)) in
+    choice_writes c.args.view.now.globals.now c.args.view.now.firsts.now c.args.view.now.known.now.lets k p parts c.args.node w sound grown once twice thrice _ grows c.args.condition c.args.first c.args.second truth top c.in_ok-env.env
+    c.in_ok-asked.asked c.in_ok-yes.yes c.in_ok-no.no it later latest c.in_ok-own.own refl refl c.in_ok-state.state posed c.in_ok-state.ensures have refl place joins c.in_ok-own.ensures
 
 pub returns-clause-lengthens : goal.returns-clause-lengthens
 returns-clause-lengthens c =

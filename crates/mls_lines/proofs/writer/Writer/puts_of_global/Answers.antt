@@ -5,6 +5,7 @@ pub returns-clause-grows : goal.returns-clause-grows
 returns-clause-grows c = record {
   more = c.in_ok-puts.ensures.longer.0;
   book = c.in_ok-puts.ensures.longer.1;
+  closed = c.in_ok-puts.ensures.closed;
   places = refl;
   own = refl;
   boolean = refl;

@@ -36,4 +36,4 @@ returns-clause-settles c = λ x follow sound.
     let place = ap (λ (n : NodeId). n.0) c.place-root.ensures ∙ ap (place_of now.laid.places) c.root.ensures in
     let adapts = subst (λ (d : List BinderNode). AddsAdapted now.laid.book now.steps c.adapt.new.self c.args.node inner d c.place-root.result c.in_ok-own.own) c.as_slice-3.ensures
     (c.in_ok-own.ensures (subst IsRising (sym c.as_slice-3.ensures) placed.rising) it.adds.counted it.stands) in
-    settled_put_in w now _ p c.args.node inner c.in_ok-own.own puts c.in_ok-env.env c.place-root.result it shared placed place adapts refl refl
+    settled_put_in w now _ p c.args.node inner c.in_ok-own.own puts c.in_ok-env.env c.place-root.result sound it shared placed place adapts refl refl

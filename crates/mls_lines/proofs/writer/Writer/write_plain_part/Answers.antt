@@ -13,7 +13,7 @@ use Rattle.mls_lines.proofs.writer.Writer.write_plain_part.Goals.{in-Some+in_ok-
 pub loop-i-init : goal.loop-i-init
 loop-i-init c = record {
   lengthens = lengthens_itself c.args.self.now.laid;
-  written = λ k parts can nothing. writes_none c.args.view.now.globals.now c.args.view.now.firsts.now k c.args.view.now.posing.now parts c.args.nodes.now c.args.self.now can.counted nothing;
+  written = λ k parts can nothing. writes_none c.args.view.now.globals.now c.args.view.now.firsts.now c.args.view.now.known.now.lets k c.args.view.now.posing.now parts c.args.nodes.now c.args.self.now can.counted can.closed can.places nothing;
 }
 
 -- the form of a node
@@ -44,21 +44,22 @@ loop-i-preserved c = record {
       let p = c.args.view.now.posing.now in
       let globals = c.args.view.now.globals.now in
       let firsts = c.args.view.now.firsts.now in
-      elim c.match-get.branch as (λ z. HaveWritten globals firsts k p parts nodes w c.match-get.self (take (n + 1) c.args.part.now)) [
+      let lets = c.args.view.now.known.now.lets in
+      elim c.match-get.branch as (λ z. HaveWritten globals firsts lets k p parts nodes w c.match-get.self (take (n + 1) c.args.part.now)) [
         | in-Some+in_ok-own+in_ok-insert+in-Some+in-Step-1 x ↦
             (let node_is : x.in-Some.node.now ≡ get_or nodes i x.in-Some.node.now = search rules in
-            subst (λ (new : state.Writer). HaveWritten globals firsts k p parts nodes w new (take (n + 1) c.args.part.now)) (sym x.self-is)
-            (writes_at globals firsts k p parts nodes w c.args.part.now n c.loop-i.self x.write_plain_form.new.self _ x.in-Some.node.now.form x.in_ok-own.own can test before
+            subst (λ (new : state.Writer). HaveWritten globals firsts lets k p parts nodes w new (take (n + 1) c.args.part.now)) (sym x.self-is)
+            (writes_at globals firsts lets k p parts nodes w c.args.part.now n c.loop-i.self x.write_plain_form.new.self _ x.in-Some.node.now.form x.in_ok-own.own can test before
             (form_of nodes i x.in-Some.node.now low node_is) (x.in_ok-own.ensures.writes k parts) refl refl x.in_ok-insert.ensures.updates))
         | in-Some+in_ok-own+in_ok-insert+in-Some+in-Bound-1 x ↦
             (let node_is : x.in-Some.node.now ≡ get_or nodes i x.in-Some.node.now = search rules in
-            subst (λ (new : state.Writer). HaveWritten globals firsts k p parts nodes w new (take (n + 1) c.args.part.now)) (sym x.self-is)
-            (writes_at globals firsts k p parts nodes w c.args.part.now n c.loop-i.self x.write_plain_form.new.self _ x.in-Some.node.now.form x.in_ok-own.own can test before
+            subst (λ (new : state.Writer). HaveWritten globals firsts lets k p parts nodes w new (take (n + 1) c.args.part.now)) (sym x.self-is)
+            (writes_at globals firsts lets k p parts nodes w c.args.part.now n c.loop-i.self x.write_plain_form.new.self _ x.in-Some.node.now.form x.in_ok-own.own can test before
             (form_of nodes i x.in-Some.node.now low node_is) (x.in_ok-own.ensures.writes k parts) refl refl x.in_ok-insert.ensures.updates))
         | in-Some+in_ok-own+in_ok-insert+in-None-1 x ↦
             (let node_is : x.in-Some.node.now ≡ get_or nodes i x.in-Some.node.now = search rules in
-            subst (λ (new : state.Writer). HaveWritten globals firsts k p parts nodes w new (take (n + 1) c.args.part.now)) (sym x.self-is)
-            (writes_at globals firsts k p parts nodes w c.args.part.now n c.loop-i.self x.write_plain_form.new.self _ x.in-Some.node.now.form x.in_ok-own.own can test before
+            subst (λ (new : state.Writer). HaveWritten globals firsts lets k p parts nodes w new (take (n + 1) c.args.part.now)) (sym x.self-is)
+            (writes_at globals firsts lets k p parts nodes w c.args.part.now n c.loop-i.self x.write_plain_form.new.self _ x.in-Some.node.now.form x.in_ok-own.own can test before
             (form_of nodes i x.in-Some.node.now low node_is) (x.in_ok-own.ensures.writes k parts) refl refl x.in_ok-insert.ensures.updates))
         | in_default x ↦ (let high : length nodes ≤ i = search rules in absurd (omega (arith, low, high)))
       ];
@@ -67,6 +68,6 @@ loop-i-preserved c = record {
 pub returns-clause-writes : goal.returns-clause-writes
 returns-clause-writes c = λ k parts can nothing.
     let w = c.args.self.now in
-    writes_part c.args.view.now.globals.now c.args.view.now.firsts.now k c.args.view.now.posing.now parts c.args.nodes.now w c.loop-i.self c.args.part.now
-    (subst (λ (done : List ℕ). HaveWritten c.args.view.now.globals.now c.args.view.now.firsts.now k c.args.view.now.posing.now parts c.args.nodes.now w c.loop-i.self done)
+    writes_part c.args.view.now.globals.now c.args.view.now.firsts.now c.args.view.now.known.now.lets k c.args.view.now.posing.now parts c.args.nodes.now w c.loop-i.self c.args.part.now
+    (subst (λ (done : List ℕ). HaveWritten c.args.view.now.globals.now c.args.view.now.firsts.now c.args.view.now.known.now.lets k c.args.view.now.posing.now parts c.args.nodes.now w c.loop-i.self done)
     (take_all c.loop-i.i-index c.args.part.now c.loop-i-test.false) (c.loop-i.invariant.written k parts can nothing))

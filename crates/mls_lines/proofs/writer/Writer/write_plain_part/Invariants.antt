@@ -9,6 +9,6 @@ use Rattle.mls_lines.proofs.writer.Writer.write_plain_part.Given as goal
 abbrev pub invariant-loop-i : goal.invariant-loop-i
 invariant-loop-i l = record {
   lengthens : Lengthens l.initial.self.laid l.self.laid;
-  written : (c : Constraint) (parts : ℕ → List ℕ) → CanWritePart l.initial.self.laid l.initial.self.steps l.view.firsts.now c l.view.posing.now parts l.nodes l.part
-      → ConcludesNothing l.initial.self → HaveWritten l.view.globals.now l.view.firsts.now c l.view.posing.now parts l.nodes l.initial.self l.self (take l.i-index l.part);
+  written : (c : Constraint) (parts : ℕ → List ℕ) → CanWritePart l.initial.self.laid l.initial.self.steps l.view.globals.now l.view.firsts.now c l.view.posing.now parts l.nodes l.part
+      → ConcludesNothing l.initial.self → HaveWritten l.view.globals.now l.view.firsts.now l.view.known.now.lets c l.view.posing.now parts l.nodes l.initial.self l.self (take l.i-index l.part);
 }

@@ -1,11 +1,13 @@
 use Rattle.std.proofs.Common.{◌≡◌, List, Some, slice_get, subst, sym, rules}
-use Rattle.std.specs.BTreeMap.{BTreeMap}
-use Rattle.std.specs.Prelude.{ℕ}
+use Rattle.std.specs.BTreeMap.{BTreeMap, get}
+use Rattle.std.specs.Ordering.{nat_cmp}
+use Rattle.std.specs.Prelude.{ℕ, IsSome}
 use Rattle.mls_automaton.specs.declared.scheme.Scheme.{Scheme}
 use Rattle.mls_typetext.specs.declared.scheme.ReadScheme.{ReadScheme}
 use Rattle.mls_term.specs.declared.term.TermForm.TheVariants as form
 use Rattle.mls_emit.specs.Drafts.{KnowsForm, names_read}
 use Rattle.mls_emit.proofs.KnownNames.{name_form}
+use Rattle.mls_emit.proofs.PlacedNames.{place_same}
 use Rattle.mls_lines.proofs.Growing.{longer_itself}
 use Rattle.mls_emit.proofs.derive.section.Draft.add_global.Goals as goal
 
@@ -26,3 +28,15 @@ returns-clause-form c =
 
 pub returns-then-contains_key-clause-longer : goal.returns-then-contains_key-clause-longer
 returns-then-contains_key-clause-longer c = longer_itself c.args.self.now.book
+
+-- its place
+pub returns-then-contains_key-clause-places : goal.returns-then-contains_key-clause-places
+returns-then-contains_key-clause-places c =
+    let there : IsSome (get nat_cmp c.args.self.now.globals c.args.g) = search rules in
+    place_same (names_read c.args.declared.now c.args.entries.now) c.args.self.now.book c.args.self.now.variable c.args.self.now.globals c.args.g c.requires.places there
+
+pub returns-clause-places : goal.returns-clause-places
+returns-clause-places c =
+    let reads : List ReadScheme = names_read c.args.declared.now c.args.entries.now in
+    let is : slice_get reads c.args.g ≡ Some c.in_ok-read.read.now = search rules in
+    c.in_ok-place_global.ensures.places reads is c.requires.places

@@ -4,7 +4,9 @@ use Rattle.mls_deriv.specs.Steps.{form_at}
 use Rattle.mls_parts.proofs.PosedParts.{form_there}
 use Rattle.mls_emit.specs.Drafts.{names_read}
 use Rattle.mls_lines.proofs.Growing.{longer_then}
+use Rattle.mls_emit.proofs.KeptDrafts.{names_then}
 use Rattle.mls_emit.proofs.KnownNames.{globals_more}
+use Rattle.mls_emit.proofs.PlacedNames.{places_more}
 use Rattle.mls_emit.proofs.derive.section.Draft.add_globals.Goals as goal
 
 pub loop-node-preserved : goal.loop-node-preserved
@@ -17,4 +19,14 @@ loop-node-preserved c =
           c.in_ok-add_named.ensures.form,
       c.add_named.ensures.lets ∙ c.loop-node.invariant.2,
       longer_then c.args.self.now.book c.loop-node.self.book c.add_named.new.self.book c.loop-node.invariant.3 c.in_ok-add_named.ensures.longer,
+      c.in_ok-add_named.ensures.places.globals,
+      places_more (names_read c.args.declared.now c.args.entries.now) c.add_named.new.self.book c.add_named.new.self.variable c.args.nodes.now c.loop-node.self.globals c.add_named.new.self.globals i
+          c.node-item.result.form c.loop-node.invariant.5 here c.in_ok-add_named.ensures.places,
+      names_then c.args.self.now c.add_named.new.self c.loop-node.self c.loop-node.invariant.6 c.add_named.ensures.kept,
     )
+
+pub returns-in_err-add_named-clause-kept : goal.returns-in_err-add_named-clause-kept
+returns-in_err-add_named-clause-kept c = names_then c.args.self.now c.add_named.new.self c.loop-node.self c.loop-node.invariant.6 c.add_named.ensures.kept
+
+pub returns-clause-kept : goal.returns-clause-kept
+returns-clause-kept c = c.loop-node.invariant.6

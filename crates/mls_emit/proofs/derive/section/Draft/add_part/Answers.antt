@@ -1,4 +1,4 @@
-use Rattle.std.proofs.Common.{◌≡◌, ◌∙◌, ℕ, List, subst, sym}
+use Rattle.std.proofs.Common.{◌≡◌, ◌∙◌, ◌≤◌, ℕ, List, ap, subst, sym, arith}
 use Rattle.std.proofs.lemmas.Result.{on_ok_weaker}
 use Rattle.mls_automaton.specs.Sets.{Rises}
 use Rattle.mls_parts.specs.declared.pose.KnownTypes.{KnownTypes}
@@ -6,9 +6,14 @@ use Rattle.mls_parts.specs.PartUses.{KnowTypes}
 use Rattle.mls_parts.specs.PosedParts.{IsPartList}
 use Rattle.mls_parts.specs.Posings.{root_in}
 use Rattle.mls_parts.proofs.SplitParts.{part_list}
-use Rattle.mls_emit.specs.MadeFirsts.{around_states, IsFirstType, IsPartSolved}
-use Rattle.mls_emit.specs.Drafts.{KnowsBefore, KnowsFirst}
-use Rattle.mls_emit.proofs.KnownNames.{before_more, before_same, first_made, know_types}
+use Rattle.mls_allowed.specs.MadeFirsts.{around_states, IsFirstType, IsPartSolved}
+use Rattle.mls_allowed.proofs.SectionParts.{first_made}
+use Rattle.mls_emit.specs.Drafts.{KnowsBefore}
+use Rattle.mls_emit.specs.PlainSections.{so_far, NamesFirst}
+use Rattle.mls_emit.specs.declared.derive.section.Draft.{Draft}
+use Rattle.mls_emit.specs.declared.derive.Way.TheVariants.{Plain}
+use Rattle.mls_emit.proofs.AddedParts.{adds_first_part, adds_whole, last_root}
+use Rattle.mls_emit.proofs.KnownNames.{before_more, before_same, know_types}
 use Rattle.mls_solver.proofs.Answered.{always_ok}
 use Rattle.mls_layout.specs.LaidOut.{IsLonger}
 use Rattle.mls_lines.proofs.Growing.{longer_then}
@@ -32,36 +37,113 @@ pub add_lines-requires-clause-related : goal.add_lines-requires-clause-related
 add_lines-requires-clause-related c = c.in_ok-solved.ensures.states
 
 pub add_lines-requires-clause-rises : goal.add_lines-requires-clause-rises
-add_lines-requires-clause-rises c = subst Rises (sym c.in_ok-solved.ensures.around) c.in_ok-solved.ensures.are_binders.around_rise
+add_lines-requires-clause-rises c = subst Rises (sym c.in_ok-solved.ensures.is_around) c.in_ok-solved.ensures.are_binders.around_rise
 
 -- the type of a first part is known now
 pub returns-in-Some-clause-known : goal.returns-in-Some-clause-known
 returns-in-Some-clause-known c =
-    let path : c.add_lines.new.self.known ≡ c.args.self.now.known = c.add_lines.ensures.known ∙ c.type_of.ensures.known in
+    let path : c.add_lines.new.self.known ≡ c.args.self.now.known = (ap (λ (d : Draft). d.known) c.add_lines.ensures.kept) ∙ (ap (λ (d : Draft). d.known) c.type_of.ensures.kept) in
     let before : KnowsBefore c.args.nodes.now c.add_lines.new.self.known c.args.root = subst (λ (known : KnownTypes). KnowsBefore c.args.nodes.now known c.args.root) (sym path) c.requires.known in
     let first = c.requires.part.of_let c.in-Some.k c.in-Some.is in
-    let solved : IsPartSolved c.args.nodes.now c.add_lines.new.self.known c.args.part.now.nodes c.in_ok-solved.solved =
-    subst (λ (known : KnownTypes). IsPartSolved c.args.nodes.now known c.args.part.now.nodes c.in_ok-solved.solved) (sym path)
-    (subst (λ (xs : List ℕ). IsPartSolved c.args.nodes.now c.args.self.now.known xs c.in_ok-solved.solved) c.as_slice-list.ensures c.in_ok-solved.ensures) in
+    let posing = c.in_ok-solved.solved.posing in
+    let solution = c.in_ok-solved.solved.solution in
+    let around : List ℕ = c.in_ok-solved.solved.around in
+    let solved : IsPartSolved c.args.nodes.now c.add_lines.new.self.known c.args.part.now.nodes posing solution around =
+    subst (λ (known : KnownTypes). IsPartSolved c.args.nodes.now known c.args.part.now.nodes posing solution around) (sym path)
+    (subst (λ (xs : List ℕ). IsPartSolved c.args.nodes.now c.args.self.now.known xs posing solution around) c.as_slice-list.ensures c.in_ok-solved.ensures) in
     let type : IsFirstType c.in_ok-solved.solved.solution.automaton (root_in c.in_ok-solved.solved.posing c.args.root) (around_states c.in_ok-solved.solved.posing c.in_ok-solved.solved.around) c.in_ok-at.at.scheme =
     subst (λ (root : ℕ). IsFirstType c.in_ok-solved.solved.solution.automaton root (around_states c.in_ok-solved.solved.posing c.in_ok-solved.solved.around) c.in_ok-at.at.scheme) c.root-state.ensures
     (c.in_ok-at.ensures.first c.in-Some.k c.in-Some.is) in
     on_ok_weaker c.add_first.result
-    (λ (is : KnowsFirst c.add_lines.new.self.known.lets c.add_first.new.self.known.lets c.in-Some.k c.in_ok-at.at.scheme).
-    before_more c.args.nodes.now c.args.root c.requires.term.tree c.add_lines.new.self.known c.add_first.new.self.known c.in-Some.k before c.add_first.ensures.globals first.0 first.1 first.2 c.in_ok-at.at.scheme is
-    (first_made c.args.nodes.now c.requires.term c.add_lines.new.self.known c.args.root before c.args.part.now c.requires.part c.in_ok-solved.solved solved c.in_ok-at.at.scheme type is.rise))
+    (λ (names : NamesFirst (so_far c.add_lines.new.self) (so_far c.add_first.new.self) c.in-Some.k c.in_ok-step.step c.args.self.now.variable c.in_ok-at.at.scheme c.in_ok-at.at.places).
+    before_more c.args.nodes.now c.args.root c.requires.term.tree c.add_lines.new.self.known c.add_first.new.self.known c.in-Some.k before c.add_first.ensures.types first.0 first.1 first.2 c.in_ok-at.at.scheme names.knows
+    (first_made c.args.nodes.now c.add_lines.new.self.known c.args.root c.args.part.now c.requires.part (know_types c.args.nodes.now c.requires.term c.add_lines.new.self.known c.args.root before c.args.part.now c.requires.part) posing solution around solved
+    c.in_ok-at.at.scheme type names.knows.rise))
     c.add_first.ensures.first
 
 pub returns-in-None-clause-known : goal.returns-in-None-clause-known
 returns-in-None-clause-known c =
-    before_same c.args.nodes.now c.args.root c.args.self.now.known c.add_lines.new.self.known (c.add_lines.ensures.known ∙ c.type_of.ensures.known) c.requires.known (c.requires.part.of_none c.in-None.is)
+    before_same c.args.nodes.now c.args.root c.args.self.now.known c.add_lines.new.self.known ((ap (λ (d : Draft). d.known) c.add_lines.ensures.kept) ∙ (ap (λ (d : Draft). d.known) c.type_of.ensures.kept)) c.requires.known (c.requires.part.of_none c.in-None.is)
 
 -- the book is longer
 pub returns-in-Some-clause-longer : goal.returns-in-Some-clause-longer
 returns-in-Some-clause-longer c =
     always_ok c.add_first.result (IsLonger c.args.self.now.book c.add_first.new.self.book)
-    (subst (IsLonger c.args.self.now.book) (sym c.add_first.ensures.book)
+    (subst (IsLonger c.args.self.now.book) (sym (ap (λ (d : Draft). d.book) c.add_first.ensures.kept))
     (longer_then c.args.self.now.book c.type_of.new.self.book c.add_lines.new.self.book c.in_ok-at.ensures.longer c.in_ok-step.ensures.longer))
 
 pub returns-in-None-clause-longer : goal.returns-in-None-clause-longer
 returns-in-None-clause-longer c = longer_then c.args.self.now.book c.type_of.new.self.book c.add_lines.new.self.book c.in_ok-at.ensures.longer c.in_ok-step.ensures.longer
+
+-- the next variable is no less
+pub returns-in-Some-clause-variable : goal.returns-in-Some-clause-variable
+returns-in-Some-clause-variable c =
+    let first : c.args.self.now.variable ≤ c.type_of.new.self.variable = c.in_ok-at.ensures.variable in
+    let second : c.add_lines.new.self.variable ≡ c.type_of.new.self.variable = ap (λ (d : Draft). d.variable) c.add_lines.ensures.kept in
+    let third : c.add_first.new.self.variable ≡ c.add_lines.new.self.variable = ap (λ (d : Draft). d.variable) c.add_first.ensures.kept in
+    always_ok c.add_first.result (c.args.self.now.variable ≤ c.add_first.new.self.variable) (omega (arith, first, second, third))
+
+pub returns-in-None-clause-variable : goal.returns-in-None-clause-variable
+returns-in-None-clause-variable c =
+    let first : c.args.self.now.variable ≤ c.type_of.new.self.variable = c.in_ok-at.ensures.variable in
+    let second : c.add_lines.new.self.variable ≡ c.type_of.new.self.variable = ap (λ (d : Draft). d.variable) c.add_lines.ensures.kept in
+    omega (arith, first, second)
+
+-- the way stays
+pub returns-in-Some-clause-way : goal.returns-in-Some-clause-way
+returns-in-Some-clause-way c = (ap (λ (d : Draft). d.way) c.add_first.ensures.kept) ∙ ((ap (λ (d : Draft). d.way) c.add_lines.ensures.kept) ∙ (ap (λ (d : Draft). d.way) c.type_of.ensures.kept))
+
+pub returns-in-None-clause-way : goal.returns-in-None-clause-way
+returns-in-None-clause-way c = (ap (λ (d : Draft). d.way) c.add_lines.ensures.kept) ∙ (ap (λ (d : Draft). d.way) c.type_of.ensures.kept)
+
+-- the first part of a let
+pub returns-in-Some-clause-first : goal.returns-in-Some-clause-first
+returns-in-Some-clause-first c = λ k way is.
+    let old = c.args.self.now in
+    let made = c.type_of.new.self in
+    let wrote = c.add_lines.new.self in
+    let new = c.add_first.new.self in
+    let nodes = c.args.nodes.now in
+    let r = c.args.root in
+    let part = c.args.part.now in
+    let own = c.in_ok-solved.solved in
+    let at = c.in_ok-at.at in
+    let step : ℕ = c.in_ok-step.step in
+    let first = c.requires.part.of_let c.in-Some.k c.in-Some.is in
+    let plain : made.way ≡ Plain = (ap (λ (d : Draft). d.way) c.type_of.ensures.kept) ∙ way in
+    on_ok_weaker c.add_first.result
+    (λ (names : NamesFirst (so_far wrote) (so_far new) c.in-Some.k step old.variable at.scheme at.places).
+    adds_first_part nodes r part own.posing own.solution own.around at.scheme at.places step old made wrote c.type_of.ensures.kept c.add_lines.ensures.kept c.requires.part
+    (know_types nodes c.requires.term old.known r c.requires.known part c.requires.part)
+    (subst (λ (xs : List ℕ). IsPartSolved nodes old.known xs own.posing own.solution own.around) c.as_slice-list.ensures c.in_ok-solved.ensures)
+    c.in_ok-at.ensures.longer c.root-state.result c.as_slice-list.result.now c.root-state.ensures c.as_slice-list.ensures (c.in_ok-step.ensures.lines plain)
+    new c.add_first.ensures.kept first.0 c.in-Some.k first.1 first.2
+    (subst (λ (root : ℕ). IsFirstType own.solution.automaton root (around_states own.posing own.around) at.scheme) c.root-state.ensures (c.in_ok-at.ensures.first c.in-Some.k c.in-Some.is))
+    (c.in_ok-at.ensures.first_laid c.in-Some.k c.in-Some.is) names c.add_first.ensures.types)
+    c.add_first.ensures.first
+
+pub returns-in-None-clause-first : goal.returns-in-None-clause-first
+returns-in-None-clause-first c = λ k way is. absurd (let none = c.in-None.is in cc)
+
+-- the whole term
+pub returns-in-Some-clause-whole : goal.returns-in-Some-clause-whole
+returns-in-Some-clause-whole c = λ way is. absurd (let some = c.in-Some.is in cc)
+
+pub returns-in-None-clause-whole : goal.returns-in-None-clause-whole
+returns-in-None-clause-whole c = λ way is.
+    let old = c.args.self.now in
+    let made = c.type_of.new.self in
+    let wrote = c.add_lines.new.self in
+    let nodes = c.args.nodes.now in
+    let r = c.args.root in
+    let part = c.args.part.now in
+    let own = c.in_ok-solved.solved in
+    let at = c.in_ok-at.at in
+    let step : ℕ = c.in_ok-step.step in
+    let plain : made.way ≡ Plain = (ap (λ (d : Draft). d.way) c.type_of.ensures.kept) ∙ way in
+    let no_first = c.requires.part.of_none is in
+    adds_whole nodes r part own.posing own.solution own.around at.scheme at.places step old made wrote c.type_of.ensures.kept c.add_lines.ensures.kept c.requires.part
+    (know_types nodes c.requires.term old.known r c.requires.known part c.requires.part)
+    (subst (λ (xs : List ℕ). IsPartSolved nodes old.known xs own.posing own.solution own.around) c.as_slice-list.ensures c.in_ok-solved.ensures)
+    c.in_ok-at.ensures.longer c.root-state.result c.as_slice-list.result.now c.root-state.ensures c.as_slice-list.ensures (c.in_ok-step.ensures.lines plain)
+    c.args.read.now (last_root nodes r c.requires.part.root no_first) no_first (c.in_ok-at.ensures.whole is)

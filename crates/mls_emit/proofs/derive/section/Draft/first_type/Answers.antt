@@ -1,8 +1,8 @@
-use Rattle.std.proofs.Common.{◌∙◌, ℕ, List, subst}
+use Rattle.std.proofs.Common.{◌≡◌, ◌∙◌, ◌+◌, ℕ, List, length, subst, arith}
 use Rattle.mls_book.specs.declared.book.Node.{Node}
 use Rattle.mls_book.specs.Books.{IsClosedBook}
 use Rattle.mls_layout.specs.LaidOut.{IsLonger, IsTypeLaidOut, place_of}
-use Rattle.mls_emit.specs.MadeFirsts.{IsFirstType}
+use Rattle.mls_allowed.specs.MadeFirsts.{IsFirstType}
 use Rattle.mls_emit.proofs.derive.section.Draft.first_type.Goals as goal
 
 -- the type that `first_type_of` gives
@@ -32,3 +32,9 @@ returns-clause-laid c = record {
       c.in_ok-laid.ensures.layout;
   variables = c.in_ok-laid.ensures.variables;
 }
+
+-- the variables of the type come behind those before
+pub returns-clause-variable : goal.returns-clause-variable
+returns-clause-variable c =
+    let next : c.in_ok-laid.laid.variables ≡ c.args.self.now.variable + length c.in_ok-scheme.scheme.automaton.flows = c.in_ok-laid.ensures.variables in
+    omega (arith, next)

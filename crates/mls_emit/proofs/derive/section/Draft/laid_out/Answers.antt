@@ -6,7 +6,7 @@ use Rattle.mls_automaton.specs.declared.scheme.EnvEntry.{EnvEntry}
 use Rattle.mls_subsume.specs.declared.verdict.StatePair.{StatePair}
 use Rattle.mls_layout.specs.LaidOut.{place_of, IsLonger, LaysOut}
 use Rattle.mls_layout.specs.Walks.{AreMet}
-use Rattle.mls_emit.specs.MadeFirsts.{IsPartLaidOut}
+use Rattle.mls_allowed.specs.MadeFirsts.{IsPartLaidOut}
 use Rattle.mls_emit.proofs.derive.section.Draft.laid_out.Goals as goal
 
 -- the pairs that `walk_of` answers, and what `lay_out` says of them
@@ -14,7 +14,7 @@ pub returns-clause-laid : goal.returns-clause-laid
 returns-clause-laid c =
     IfOk-weaker c.lay_out.result
     (λ laid. IsClosedBook c.replace_book-book.result → LaysOut c.replace_book-book.result c.args.posing.now.automaton c.args.solution.found c.as_slice.result.now (place_of c.args.at.now.places) laid.book (place_of laid.places) laid.own laid.boolean laid.integer)
-    (IsPartLaidOut c.args.self.now.book c.args.posing.now c.args.solution c.args.root c.args.around.now c.args.at.now)
+    (IsPartLaidOut c.args.self.now.book c.args.posing.now c.args.solution c.args.root c.args.around.now c.args.at.now.scheme c.args.at.now.places)
     (λ laid (is : IsClosedBook c.replace_book-book.result → LaysOut c.replace_book-book.result c.args.posing.now.automaton c.args.solution.found c.as_slice.result.now (place_of c.args.at.now.places) laid.book (place_of laid.places) laid.own laid.boolean laid.integer). record {
       pairs = c.in_ok-pairs.pairs;
       met = subst (λ (env : List EnvEntry). AreMet (record { automaton = c.args.solution.automaton; env = env; root = record { 0 = c.args.root } }) c.args.at.now.scheme c.in_ok-pairs.pairs) c.in_ok-env_of.ensures c.in_ok-pairs.ensures.met;

@@ -19,7 +19,7 @@ pub returns : goal.returns
 returns c = record {
   binders = c.in_ok-binders.binders;
   are_binders = c.in_ok-binders.ensures;
-  around = refl;
+  is_around = refl;
   posed = subst (λ (xs : List ℕ). IsPartPosed c.args.nodes.now c.args.self.now.known.globals c.args.self.now.known.lets xs c.args.list.now c.in_ok-posing.posing) c.as_slice.ensures c.in_ok-posing.ensures;
   related = subst (λ (goals : List Goal). HoldsJust c.in_ok-solution.solution.found (IsRelated c.in_ok-posing.posing.automaton (IsGoal goals))) c.as_slice-2.ensures c.in_ok-solution.ensures.related;
   states = c.in_ok-solution.ensures.states;

@@ -18,6 +18,7 @@ use Rattle.mls_term.specs.declared.term.TermForm.TheVariants as form
 use Rattle.mls_term.specs.declared.term.TermNode.{TermNode}
 use Rattle.mls_deriv.specs.Steps.{form_at}
 use Rattle.mls_layout.specs.declared.layout.LaidOut.{LaidOut}
+use Rattle.mls_layout.specs.declared.layout.Places.{Places}
 use Rattle.mls_layout.specs.LaidOut.{place_of, IsTypeLaidOut, LaysOut}
 use Rattle.mls_layout.specs.Walks.{AreMet}
 use Rattle.mls_parts.specs.declared.binders.PartBinders.{PartBinders}
@@ -31,23 +32,22 @@ use Rattle.mls_parts.specs.Posings.{binder_in, root_in}
 use Rattle.mls_parts.specs.SolvedTypes.{HasBindersOf, solved_scheme}
 use Rattle.mls_parts.specs.TermParts.{IsTermPart}
 use Rattle.mls_parts.specs.declared.solve.Solution.{Solution}
-use Rattle.mls_emit.specs.declared.derive.section.SolvedPart.{SolvedPart}
-use Rattle.mls_emit.specs.declared.derive.section.TypeAt.{TypeAt}
 
 -- binders with their states
 abbrev pub around_states : Posing → List ℕ → List (ℕ × ℕ)
 around_states p xs = map (λ x. (x, binder_in p x)) xs
 
 -- the constraint of a part over the binders that it names, and what it is solved to, with the binders around the part
-pub record IsPartSolved (nodes : List TermNode) (known : KnownTypes) (part : List ℕ) (s : SolvedPart) : Type 0 where
+pub record IsPartSolved (nodes : List TermNode) (known : KnownTypes) (part : List ℕ) (p : Posing) (s : Solution)
+    (around : List ℕ) : Type 0 where
   pub binders : PartBinders
   pub are_binders : ArePartBinders nodes known.lets part binders
-  pub around : s.around ≡ binders.around
-  pub posed : IsPartPosed nodes known.globals known.lets binders.all part s.posing
-  pub related : HoldsJust s.solution.found (IsRelated s.posing.automaton (IsGoal s.posing.goals))
-  pub states : HoldsStates s.posing.automaton s.solution.found
-  pub solved : IsSolved s.posing.automaton (Holds s.solution.found) s.solution.automaton
-  pub closed : IsClosed s.solution.automaton
+  pub is_around : around ≡ binders.around
+  pub posed : IsPartPosed nodes known.globals known.lets binders.all part p
+  pub related : HoldsJust s.found (IsRelated p.automaton (IsGoal p.goals))
+  pub states : HoldsStates p.automaton s.found
+  pub solved : IsSolved p.automaton (Holds s.found) s.automaton
+  pub closed : IsClosed s.automaton
 
 -- A deterministic type with these binders and no others, which subsumes what the solved automaton gives the root and
 -- these, as that subsumes it.
@@ -61,19 +61,20 @@ pub record IsFirstType (solved : Automaton) (root : ℕ) (binders : List (ℕ ×
 
 -- The type of a first part is laid out behind the nodes of the first book, all its places are in the second, and its
 -- variables, one for each edge, are numbered from `first` up to `next`.
-pub record IsFirstLaid (old : List Node) (first : ℕ) (new : List Node) (next : ℕ) (at : TypeAt) : Type 0 where
+pub record IsFirstLaid (old : List Node) (first : ℕ) (new : List Node) (next : ℕ) (type : Scheme) (places : Places) :
+    Type 0 where
   pub closed : IsClosedBook old → IsClosedBook new
-  pub inside : (s : ℕ) → place_of at.places s < length new
-  pub layout : IsClosedBook old → IsTypeLaidOut old at.scheme.automaton first new (place_of at.places)
-  pub variables : next ≡ first + length at.scheme.automaton.flows
+  pub inside : (s : ℕ) → place_of places s < length new
+  pub layout : IsClosedBook old → IsTypeLaidOut old type.automaton first new (place_of places)
+  pub variables : next ≡ first + length type.automaton.flows
 
 -- the nodes of a part, laid out behind this book for the pairs that are met from the ends of its solved constraint and of
 -- its type
-pub record IsPartLaidOut (book : List Node) (p : Posing) (s : Solution) (root : ℕ) (around : List ℕ) (at : TypeAt)
-    (laid : LaidOut) : Type 0 where
+pub record IsPartLaidOut (book : List Node) (p : Posing) (s : Solution) (root : ℕ) (around : List ℕ) (type : Scheme)
+    (places : Places) (laid : LaidOut) : Type 0 where
   pub pairs : List StatePair
-  pub met : AreMet (solved_scheme s.automaton root (around_states p around)) at.scheme pairs
-  pub nodes : IsClosedBook book → LaysOut book p.automaton s.found pairs (place_of at.places) laid.book
+  pub met : AreMet (solved_scheme s.automaton root (around_states p around)) type pairs
+  pub nodes : IsClosedBook book → LaysOut book p.automaton s.found pairs (place_of places) laid.book
       (place_of laid.places) laid.own laid.boolean laid.integer
 
 -- The type that is known of a let was made of its first part, which has this root: the part has its constraint over the

@@ -9,7 +9,7 @@ use Rattle.mls_term.specs.declared.term.TermNode.{TermNode}
 use Rattle.mls_term.specs.WellFormed.{binders_of, field_binders_of, IsScoped, AreScoped, IsTerm, HasRisingBinders, HaveRisingBinders, HasRisingTree}
 use Rattle.mls_layout.proofs.WorkedParts.{nothing}
 use Rattle.mls_layout.specs.PosedNodes.{IsNamed, IsRising, AreRising}
-use Rattle.mls_emit.specs.LetScopes.{HasScopes, HaveScopes}
+use Rattle.mls_allowed.specs.LetScopes.{HasScopes, HaveScopes}
 
 module _ (let_scope : ℕ → List ℕ) (globals : ℕ) where
   -- what is around a tree: the binders in use are in scope, and so are those around each let in use

@@ -1,0 +1,19 @@
+use Rattle.mls_solver.proofs.Answered.{always_ok}
+use Rattle.mls_layout.specs.declared.layout.LaidOut.{LaidOut}
+use Rattle.mls_lines.specs.Writer.{Lengthens}
+use Rattle.mls_lines.proofs.Lengthening.{lengthens_grown, lengthens_kept, lengthens_then}
+use Rattle.mls_lines.proofs.writer.Writer.make.Goals as goal
+use Rattle.mls_lines.proofs.writer.Writer.make.Goals.{in-true, in-false+in_ok-root-in-false}
+
+pub returns : goal.returns
+returns c =
+    let old : LaidOut = c.args.self.now.laid in
+    let now : LaidOut = c.parts.new.self.laid in
+    let last : LaidOut = c.if-eq.self.laid in
+    let so_far : Lengthens old now = lengthens_kept old c.env_of_parts.new.self.laid now (lengthens_grown c.args.self.now c.env_of_parts.new.self c.in_ok-env.ensures.grows) c.in_ok-steps.ensures.laid in
+    let all : Lengthens old last = elim c.if-eq.branch [
+      | in-true w ↦ lengthens_kept old now last so_far (λ n. (w.self-is n).laid)
+      | in-false+in_ok-root-in-false w ↦
+          lengthens_kept old w.own_record.new.self.laid last (lengthens_then old now w.own_record.new.self.laid so_far w.in_ok-root-in-false.ensures) (λ n. (w.self-is n).laid)
+    ] in
+    always_ok c.step.result (Lengthens old last) all
