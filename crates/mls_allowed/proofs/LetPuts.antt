@@ -3,6 +3,7 @@
 --     let_puts            so what is put in is what a use asks for
 --     let_puts_low        and it is nodes of the book
 --     node_of_copy        the node of the copy of a state
+--     edges_weaker        what is put in for edges, by another property of nodes
 use Rattle.std.proofs.Common.{◌≡◌, inl, inr, ℕ, ◌+◌, ◌<◌, List, length, sym, ap, ◌∙◌, subst, slice_get, arith, Some}
 use Rattle.mls_book.specs.declared.book.Node.{Node}
 use Rattle.mls_automaton.specs.declared.automaton.Flow.{Flow}
@@ -21,7 +22,7 @@ use Rattle.mls_parts.specs.MetCopies.{IsCopyMet, IsOfNoBinder}
 use Rattle.mls_parts.specs.declared.pose.Posing.{Posing}
 use Rattle.mls_parts.specs.Posings.{binder_in}
 use Rattle.mls_lines.specs.Puts.{ArePutsOfEdges, IsCopyIn, IsNodeOfCopy, IsPutOfEdge}
-use Rattle.mls_lines.proofs.PutLists.{puts_hold, puts_there}
+use Rattle.mls_lines.proofs.PutLists.{puts_hold, puts_there, puts_weaker}
 
 module _ (b : Automaton) (closed : IsClosed b) (first : ℕ) (place copy : ℕ → ℕ) (IsNode : ℕ → ℕ → Type 0) (nodes : (s i : ℕ) → s < length b.states → IsNode s i → i ≡ place (copy s)) (puts : List Put) (stand : ArePutsOfEdges IsNode b.flows first puts) where
   pub let_put : (k : ℕ) (edge : Flow) → slice_get b.flows k ≡ Some edge → put_at puts (first + k) ≡ Some (place (copy edge.negative.0))
@@ -54,3 +55,13 @@ node_of_copy a p known copy met from plain places s i low (c, is_copy, is) = is 
     go : IsCopyIn p known from s c → c ≡ copy s
     go (inl (entry, there, at, c_is)) = c_is ∙ (sym (met.bound entry there) ∙ ap copy at)
     go (inr (none, c_is)) = c_is ∙ sym (plain s low none)
+
+-- what is put in for edges, by another property of nodes
+pub edges_weaker : (b : Automaton) → IsClosed b → (IsNode Other : ℕ → ℕ → Type 0) → ((s n : ℕ) → s < length b.states → IsNode s n → Other s n) → (first : ℕ) (puts : List Put)
+    → ArePutsOfEdges IsNode b.flows first puts → ArePutsOfEdges Other b.flows first puts
+edges_weaker b closed IsNode Other weaker first puts it = record {
+  count = it.count;
+  each =
+      puts_weaker (IsPutOfEdge IsNode b.flows first) (IsPutOfEdge Other b.flows first)
+      (λ x n w. (w.0, w.1, w.2, w.3, weaker w.1.negative.0 n (closed.negative w.1 (slice_get-contains b.flows w.0 w.1 w.2)).in_range w.4)) first puts it.each;
+}

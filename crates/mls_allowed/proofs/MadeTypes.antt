@@ -2,6 +2,7 @@
 --     lets_in                 the binders around each let are in scope
 --     posed_kept, binders_kept, made_kept
 --                             what was made of a first part stays so while more types become known
+--     type_new                a let whose first part has the next root has no type before
 --     first_needs             a type that was made needs no binders but those around its let
 --     firsts_start, firsts_same, firsts_more, firsts_added
 --                             the types of first parts, one root after another
@@ -120,7 +121,7 @@ module _ (nodes : List TermNode) (globals old new : BTreeMap ℕ Scheme) (kept :
   same_known : (k : ℕ) → HasOwnType (known_in old k) → known_in new k ≡ known_in old k
   same_known k own = own_kept k (known_in old k) refl own
 
-  know_kept : (f : TermForm) → KnowsType globals old f → KnowsType globals new f
+  pub know_kept : (f : TermForm) → KnowsType globals old f → KnowsType globals new f
   know_kept (form.Bound x) it = it
   know_kept (form.Inner k) it = subst HasOwnType (sym (same_known k it)) it
   know_kept (form.Global g) it = it
@@ -170,7 +171,7 @@ module _ (nodes : List TermNode) (globals old new : BTreeMap ℕ Scheme) (kept :
       around = λ x. ((λ there. let is = (it.around x).0 there in (named_to x is.0, is.1)), (λ is. (it.around x).1 (named_from x is.0, is.1)));
     }
 
-  pub made_kept : (r : ℕ) (own : Scheme) → IsFirstMade nodes globals old r own → IsFirstMade nodes globals new r own
+  unfoldable pub made_kept : (r : ℕ) (own : Scheme) → IsFirstMade nodes globals old r own → IsFirstMade nodes globals new r own
   made_kept r own it = record {
     part = it.part;
     is_part = it.is_part;
@@ -235,18 +236,21 @@ module _ (nodes : List TermNode) (globals : BTreeMap ℕ Scheme) (let_scope : �
       go i k j l e (inl less) low = it.made i k j l e less
       go i k j l e (inr (d, at)) low = let same : j ≡ r = omega (arith, at, low) in absurd (none i k l (subst (λ m. form_at nodes i ≡ Some (form.Let k m l)) same e))
 
+  -- a let whose first part has this root has no type before
+  pub type_new : HaveOwnLets nodes → (old : BTreeMap ℕ Scheme) (r i k l : ℕ) → form_at nodes i ≡ Some (form.Let k r l) → AreFirstsMade nodes globals old let_scope r → IsSome (known_in old k) → ⊥
+  type_new own_lets old r i k l e it some =
+      let at = it.only k some in
+      let same : i ≡ at.0 = own_lets i at.0 k r l at.1 at.2 e at.3 in
+      let one : form.Let k r l ≡ form.Let k at.1 at.2 = one_form nodes i (form.Let k r l) (form.Let k at.1 at.2) e (subst (λ m. form_at nodes m ≡ Some (form.Let k at.1 at.2)) (sym same) at.3) in
+      let root : r ≡ at.1 = cc in
+      let low : at.1 < r = at.4 in
+      omega arith
+
   -- the type of the first part with this root
   module _ (own_lets : HaveOwnLets nodes) (old new : BTreeMap ℕ Scheme) (r i k l : ℕ) (e : form_at nodes i ≡ Some (form.Let k r l)) (own : Scheme) (updates : Updates nat_cmp old new k (Some own)) (it : AreFirstsMade nodes globals old let_scope r)
       (mine : IsFirstMade nodes globals old r own) where
-    -- the let had no type before, since its first part has this root
     new_let : IsSome (known_in old k) → ⊥
-    new_let some =
-        let at = it.only k some in
-        let same : i ≡ at.0 = own_lets i at.0 k r l at.1 at.2 e at.3 in
-        let one : form.Let k r l ≡ form.Let k at.1 at.2 = one_form nodes i (form.Let k r l) (form.Let k at.1 at.2) e (subst (λ m. form_at nodes m ≡ Some (form.Let k at.1 at.2)) (sym same) at.3) in
-        let root : r ≡ at.1 = cc in
-        let low : at.1 < r = at.4 in
-        omega arith
+    new_let some = type_new own_lets old r i k l e it some
 
     -- what is known of a let in the end
     at_key : (q : ℕ) → ((k ≡ q) × (known_in new q ≡ Some own)) ⊎ ((k ≡ q → ⊥) × (known_in new q ≡ known_in old q))

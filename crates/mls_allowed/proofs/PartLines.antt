@@ -6,7 +6,7 @@
 --     stands_in           it stands in each longer book that is closed
 --     can_write           the nodes of the part can be written over it
 --     type_places_low     the nodes of the type are nodes of its book
---     part_lines          the lines of the part
+--     part_lines          the lines of the part, with the number of the last step
 use Rattle.std.proofs.Common.{◌≡◌, ◌≢◌, ◌⊎◌, inl, inr, ℕ, ◌<◌, ◌==◌, Bool, true, false, List, [], ◌∷◌, ◌++◌, length, map, refl, sym, ap, ◌∙◌, subst, Contains, Option, Some, None}
 use Rattle.std.specs.Prelude.{IsTrue, cond, find, option_map}
 use Rattle.std.specs.List.{flat_map}
@@ -137,33 +137,38 @@ module _ (old : List Node) (p : Posing) (found : Room) (pairs : List StatePair) 
     writes : Writes stands.0.layout.parts
     writes = subst Writes (sym stands.1) (whole.writing b longer refl names are put_in)
 
-    pub part_lines : (own_globals lets : BTreeMap ℕ Scheme) (around : List ℕ) (known : List FirstPart) (names_of : List ℕ) (is_place : ℕ → ℕ → Bool) (partner : ℕ → ℕ)
+    pub part_lines : (root : ℕ) → whole.root ≡ root → (own_globals lets : BTreeMap ℕ Scheme) (around : List ℕ) (known : List FirstPart) (names_of : List ℕ) (is_place : ℕ → ℕ → Bool) (partner : ℕ → ℕ)
         → ((k : ℕ) → Contains names_of k → Contains known (names.first k) × ((names.first k).number ≡ k) × (env.find nat_cmp k b.lets ≡ Some (names.step k)))
-        → ((scope : List ℕ) (i : ℕ) → IsUseAround b.term_nodes own_globals lets p scope i → IsUseRead b p.automaton (record { root = root_in p; binder = binder_in p; place = place_of laid.places; parts = own_parts }) names names_of (λ j s. IsTrue (is_place j s)) (IsPartNode b.book (place_of laid.places) (place_of places)) scope i)
+        → ((scope : List ℕ) (i : ℕ) → IsUseAround b.term_nodes own_globals lets p members scope i → IsUseRead b p.automaton (record { root = root_in p; binder = binder_in p; place = place_of laid.places; parts = own_parts }) names names_of (λ j s. IsTrue (is_place j s)) (IsPartNode b.book (place_of laid.places) (place_of places)) scope i)
         → ((x : ℕ) → Contains around x → state_of special.env x ≡ Some (partner x))
-        → HasLines b own_globals lets (steps_of begun.lines) known whole.root (env_of (type_binders special places)) (place_of places special.root.0) (flat_map whole.plan members ++ whole.lines) members around p special pairs partner
-    part_lines own_globals lets around known names_of is_place partner are_known uses partners = record {
-      place = place_of laid.places;
-      type_place = place_of places;
-      laid_out = stands.0;
-      names = names;
-      names_of = names_of;
-      are_known = are_known;
-      is_place = is_place;
-      uses = subst
-          (λ parts. (scope : List ℕ) (i : ℕ) → IsUseAround b.term_nodes own_globals lets p scope i → IsUseRead b p.automaton (record { root = root_in p; binder = binder_in p; place = place_of laid.places; parts = parts }) names names_of (λ j s. IsTrue (is_place j s)) (IsPartNode b.book (place_of laid.places) (place_of places)) scope i)
-          (sym stands.1) uses;
-      writing = writes.0;
-      binders = type_binders special places;
-      fits = type_fits places b special stands.0.closed stands.0.type_places rise;
-      envs = λ x there. type_binder places special x ∙ ap (option_map (place_of places)) (partners x there);
-      env = refl;
-      is_type = refl;
-      lines = whole.lines;
-      number = number;
-      brought = brought_to (sym writes.1) (sym writes.2);
-      is_plan = ap (λ plan. flat_map plan members ++ whole.lines) (sym writes.1);
-    }
+        → (it : HasLines b own_globals lets (steps_of begun.lines) known root (env_of (type_binders special places)) (place_of places special.root.0) (flat_map whole.plan members ++ whole.lines) members around p special pairs partner) × (it.number ≡ number)
+    part_lines root root_is own_globals lets around known names_of is_place partner are_known uses partners = (
+      record {
+        place = place_of laid.places;
+        type_place = place_of places;
+        laid_out = stands.0;
+        names = names;
+        names_of = names_of;
+        are_known = are_known;
+        is_place = is_place;
+        uses = subst
+            (λ parts. (scope : List ℕ) (i : ℕ) → IsUseAround b.term_nodes own_globals lets p members scope i → IsUseRead b p.automaton (record { root = root_in p; binder = binder_in p; place = place_of laid.places; parts = parts }) names names_of (λ j s. IsTrue (is_place j s)) (IsPartNode b.book (place_of laid.places) (place_of places)) scope i)
+            (sym stands.1) uses;
+        writing = writes.0;
+        binders = type_binders special places;
+        fits = type_fits places b special stands.0.closed stands.0.type_places rise;
+        envs = λ x there. type_binder places special x ∙ ap (option_map (place_of places)) (partners x there);
+        env = refl;
+        is_type = refl;
+        lines = whole.lines;
+        number = number;
+        brought =
+            subst (λ i. IsBrought (writes.0.of i) (length (steps_of begun.lines ++ planned_steps (flat_map writes.0.plan members))) i (type_binders special places) (place_of places special.root.0) whole.lines number) root_is
+            (brought_to (sym writes.1) (sym writes.2));
+        is_plan = ap (λ plan. flat_map plan members ++ whole.lines) (sym writes.1);
+      },
+      refl,
+    )
       where
         brought_to : whole.plan ≡ writes.0.plan → whole.of ≡ writes.0.of
             → IsBrought (writes.0.of whole.root) (length (steps_of begun.lines ++ planned_steps (flat_map writes.0.plan members))) whole.root (type_binders special places) (place_of places special.root.0) whole.lines number

@@ -17,14 +17,14 @@ use Rattle.mls_layout.specs.Posed.{IsPosed, ArePosed}
 use Rattle.mls_layout.specs.PosedNodes.{IsNodePosed, HasPartsIn, IsRising, AreRising, IsUsable}
 
 module _ (nodes : List TermNode) (a : Automaton) (IsGoal : ℕ → ℕ → Type 0) (root binder : ℕ → ℕ) (IsUse : ℕ → TermForm → Type 0) (InPart : ℕ → Type 0) (let_scope : ℕ → List ℕ)
-    (IsUseIn : List ℕ → ℕ → Type 0) (use_in : (scope : List ℕ) (i : ℕ) (f : TermForm) → form_at nodes i ≡ Some f → IsUsable let_scope scope f → IsUse i f → IsUseIn scope i)
+    (IsUseIn : List ℕ → ℕ → Type 0) (use_in : (scope : List ℕ) (i : ℕ) (f : TermForm) → InPart i → form_at nodes i ≡ Some f → IsUsable let_scope scope f → IsUse i f → IsUseIn scope i)
     (children : (i : ℕ) (f : TermForm) → InPart i → form_at nodes i ≡ Some f → HasPartsIn InPart f)
     (each : (i : ℕ) (f : TermForm) → InPart i → form_at nodes i ≡ Some f → IsNodePosed a IsGoal root binder IsUse i f) where
   mutual
     pub posed_tree : (scope : List ℕ) (t : TermTree) (i : ℕ) → IsTreeAt nodes i t → InPart i → IsRising let_scope scope t → IsPosed nodes a IsGoal root binder IsUseIn scope i t
     posed_tree scope (bound at x) i is inside rises = (is, rises, each i (form.Bound x) inside is)
-    posed_tree scope (inner at k) i is inside rises = (is, use_in scope i (form.Inner k) is rises (each i (form.Inner k) inside is))
-    posed_tree scope (global at g) i is inside rises = (is, use_in scope i (form.Global g) is tt (each i (form.Global g) inside is))
+    posed_tree scope (inner at k) i is inside rises = (is, use_in scope i (form.Inner k) inside is rises (each i (form.Inner k) inside is))
+    posed_tree scope (global at g) i is inside rises = (is, use_in scope i (form.Global g) inside is tt (each i (form.Global g) inside is))
     posed_tree scope (number at value) i is inside rises = let at_node = each i (form.Number value) inside is in (is, at_node.0, at_node.1)
     posed_tree scope (truth at value) i is inside rises = let at_node = each i (form.Truth value) inside is in (is, at_node.0, at_node.1)
     posed_tree scope (fun at x e) i (j, is, body) inside rises =
@@ -46,7 +46,7 @@ module _ (nodes : List TermNode) (a : Automaton) (IsGoal : ℕ → ℕ → Type 
         (j, k, l, at_node.0, at_node.1, is, at_node.2, at_node.3, at_node.4, at_node.5, at_node.6, posed_tree scope c j first parts.0 rises.0, posed_tree scope e k second parts.1 rises.1, posed_tree scope f l third parts.2 rises.2)
     posed_tree scope (local at k e f) i (j, l, is, first, second) inside rises =
         let at_node = each i (form.Let k j l) inside is in
-        (j, l, is, at_node.0, use_in scope i (form.Let k j l) is rises.0 at_node.1, posed_tree scope f l second (children i (form.Let k j l) inside is) rises.1)
+        (j, l, is, at_node.0, use_in scope i (form.Let k j l) inside is rises.0 at_node.1, posed_tree scope f l second (children i (form.Let k j l) inside is) rises.1)
     posed_tree scope (fix at x e) i (j, is, body) inside rises =
         let at_node = each i (form.Rec x j) inside is in
         (j, is, rises.0, at_node.0, at_node.1, posed_tree (scope ++ x ∷ []) e j body (children i (form.Rec x j) inside is) rises.1)

@@ -1,4 +1,5 @@
 -- The uses of names and the lets of a part are read as its lines ask, where it is told what is put in at them.
+--     state_entry         the entry of a binder that has a state
 --     global_read         a name of the environment
 --     first_copy          the nodes of the type of a let's first part, at a use of it
 --     first_bound         the binders of that type are around
@@ -31,22 +32,22 @@ use Rattle.mls_layout.specs.Rows.{Fits}
 use Rattle.mls_layout.specs.Uses.{IsCopyOf}
 use Rattle.mls_layout.proofs.EdgeVariables.{edge_variables}
 use Rattle.mls_parts.specs.declared.pose.Posing.{Posing}
-use Rattle.mls_parts.specs.MetCopies.{IsCopyMet, IsOfNoBinder}
+use Rattle.mls_parts.specs.MetCopies.{IsCopyMet}
 use Rattle.mls_parts.specs.Posings.{binder_in, or_zero, root_in}
 use Rattle.mls_lines.specs.Conclusions.{AreClear}
 use Rattle.mls_lines.specs.NodeLines.{NamesKnown, Standing}
 use Rattle.mls_lines.specs.PlainParts.{type_binders}
-use Rattle.mls_lines.specs.Puts.{AreJoins, ArePutsOfEdges, IsNodeOfCopy}
+use Rattle.mls_lines.specs.Puts.{AreJoins, ArePutsOfEdges}
 use Rattle.mls_lines.specs.Showing.{ShowTops}
 use Rattle.mls_allowed.specs.WrittenUses.{IsGlobalRead, IsInnerRead, IsLetRead}
 use Rattle.mls_allowed.proofs.GlobalPuts.{global_copy}
-use Rattle.mls_allowed.proofs.LetPuts.{let_puts, let_puts_low, node_of_copy}
+use Rattle.mls_allowed.proofs.LetPuts.{let_puts, let_puts_low}
 use Rattle.mls_allowed.proofs.NameLayouts.{name_layout}
 use Rattle.mls_allowed.proofs.PartLines.{type_binder, type_fits}
 use Rattle.mls_allowed.proofs.UseCopies.{use_copy}
 
 -- the entry of a binder that has a state
-state_entry : (entries : List EnvEntry) (x s : ℕ) → state_of entries x ≡ Some s → (e : EnvEntry) × Contains entries e × (e.binder ≡ x) × (e.state.0 ≡ s)
+pub state_entry : (entries : List EnvEntry) (x s : ℕ) → state_of entries x ≡ Some s → (e : EnvEntry) × Contains entries e × (e.binder ≡ x) × (e.state.0 ≡ s)
 state_entry [] x s e = absurd (cc)
 state_entry (first ∷ rest) x s found = go (eqb_tells first.binder x) (state_entry rest x s)
   where
@@ -86,10 +87,10 @@ module _ (b : Before) (a : Automaton) (at : Standing) (names : NamesKnown) (lets
       }
 
 -- A use of the name of a let, or the let, whose first part has a type that is laid out, with a variable for each edge, and
--- has a copy whose states stand from one on, but for those of binders.
+-- has a copy.
 module _ (b : Before) (a : Automaton) (p : Posing) (places : Places) (parts : ℕ → List ℕ) (names : NamesKnown) (lets : List ℕ) (is_place : ℕ → ℕ → Bool) (Own : ℕ → Type 0) (scope : List ℕ) (i k : ℕ) (known : Scheme) (is : IsScheme known) (old : List Node) (first : ℕ) (type_places : Places)
-    (laid : IsTypeLaidOut old known.automaton first b.book (place_of type_places)) (inside : (s : ℕ) → place_of type_places s < length b.book) (own_inside : (s : ℕ) → place_of places s < length b.book) (copy : ℕ → ℕ) (met : IsCopyMet a (binder_in p) known copy) (from : ℕ)
-    (copies : (s : ℕ) → s < length known.automaton.states → IsOfNoBinder known s → copy s ≡ from + s) (edges : ArePutsOfEdges (IsNodeOfCopy places p known from) known.automaton.flows first (names.puts i)) (all : (s : ℕ) → IsTrue (is_place i s))
+    (laid : IsTypeLaidOut old known.automaton first b.book (place_of type_places)) (inside : (s : ℕ) → place_of type_places s < length b.book) (own_inside : (s : ℕ) → place_of places s < length b.book) (copy : ℕ → ℕ) (met : IsCopyMet a (binder_in p) known copy)
+    (edges : ArePutsOfEdges (λ s n. n ≡ place_of places (copy s)) known.automaton.flows first (names.puts i)) (all : (s : ℕ) → IsTrue (is_place i s))
     (scoped : (x : ℕ) → IsSome (state_of known.env x) → Contains scope x) (first_env : (names.first k).env ≡ env_of (type_binders known type_places)) (known_there : Contains lets k) where
   abbrev IsPlace : ℕ → Type 0
   IsPlace s = IsTrue (is_place i s)
@@ -101,8 +102,8 @@ module _ (b : Before) (a : Automaton) (p : Posing) (places : Places) (parts : �
   unfolding name_layout use_copy
   first_copy = (
     use_copy b.book a (binder_in p) known copy met is IsPlace all (place_of type_places) (place_of places) laid.layout (edge_variables known.automaton is.automaton old b.book first (place_of type_places) laid) (names.puts i)
-        (let_puts known.automaton is.automaton first (place_of places) copy (IsNodeOfCopy places p known from) (node_of_copy a p known copy met from copies places) (names.puts i) edges old b.book (place_of type_places) laid IsPlace all)
-        (let_puts_low known.automaton is.automaton first (place_of places) copy (IsNodeOfCopy places p known from) (node_of_copy a p known copy met from copies places) (names.puts i) edges b.book own_inside),
+        (let_puts known.automaton is.automaton first (place_of places) copy (λ s n. n ≡ place_of places (copy s)) (λ s n low same. same) (names.puts i) edges old b.book (place_of type_places) laid IsPlace all)
+        (let_puts_low known.automaton is.automaton first (place_of places) copy (λ s n. n ≡ place_of places (copy s)) (λ s n low same. same) (names.puts i) edges b.book own_inside),
     refl,
     refl,
     refl,

@@ -1,7 +1,8 @@
 -- A part that is ready, and has its lines, is written.
 --     posed_uses              what a posed tree asks of its uses
 --     ready_written
-use Rattle.std.proofs.Common.{ℕ, List, [], ◌∷◌, ◌++◌}
+--     ready_number            its last step is that of the lines
+use Rattle.std.proofs.Common.{◌≡◌, ℕ, List, [], ◌∷◌, ◌++◌, refl}
 use Rattle.std.specs.BTreeMap.{BTreeMap}
 use Rattle.mls_book.specs.Schemes.{Env}
 use Rattle.mls_automaton.specs.declared.automaton.FieldSet.{FieldSet}
@@ -85,3 +86,9 @@ ready_written b globals lets begun known part d type plan members binders p spec
   brought = it.brought;
   is_plan = it.is_plan;
 }
+
+pub ready_number : (b : Before) (globals lets : BTreeMap ℕ Scheme) (begun : List StepLine) (known : List FirstPart) (part : ℕ) (d : Env) (type : ℕ) (plan : List PlannedLine) (members : List ℕ) (binders : PartBinders) (p : Posing) (special : Scheme) (walked : List StatePair)
+    → (ready : IsPartReady b.term_nodes globals lets part members binders p special walked) (it : HasLines b globals lets begun known part d type plan members binders.around p special walked ready.partner)
+    → (ready_written b globals lets begun known part d type plan members binders p special walked ready it).number ≡ it.number
+unfolding ready_written
+ready_number b globals lets begun known part d type plan members binders p special walked ready it = refl

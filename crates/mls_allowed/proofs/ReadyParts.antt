@@ -222,10 +222,10 @@ module _ (nodes : List TermNode) (globals lets : BTreeMap ℕ Scheme) (let_scope
   top_in = is_part.all (n + before t) (at_top refl)
 
   -- the tree of the part is posed
-  pub part_tree : IsPosed nodes p.automaton (IsGoalOf c) (root_in p) (binder_in p) (IsUseAround nodes globals lets p) binders.around (n + before t) t
+  pub part_tree : IsPosed nodes p.automaton (IsGoalOf c) (root_in p) (binder_in p) (IsUseAround nodes globals lets p part.nodes) binders.around (n + before t) t
   part_tree =
       posed_tree nodes p.automaton (IsGoalOf c) (root_in p) (binder_in p) (IsUseMet (known_in globals) (known_in lets) p.automaton (root_in p) (binder_in p) p.copies) (Contains part.nodes) (needed_by lets)
-      (IsUseAround nodes globals lets p) (λ scope i f e usable it. (f, e, usable, it))
+      (IsUseAround nodes globals lets p part.nodes) (λ scope i f there e usable it. (there, f, e, usable, it))
       (λ i f there e. own_parts_in (Contains part.nodes) f (λ j own. closed_part nodes lets let_scope count needs part binders are n t numbers is_part around i j f there e own))
       (λ i f there e. node_goals p.automaton (IsGoal p.goals) (IsGoalOf c) (root_in p) (binder_in p) (IsUseMet (known_in globals) (known_in lets) p.automaton (root_in p) (binder_in p) p.copies) goal_of i f (posed.posed i f there e))
       binders.around t (n + before t) (tree_at_numbers nodes t n numbers) top_in
@@ -277,6 +277,10 @@ module _ (nodes : List TermNode) (globals lets : BTreeMap ℕ Scheme) (let_scope
           } in
           (met (binder_in p x) s).1 (end (inr (x, state_there p binders.around x there, e)) alike)
 
+      partner_at : (x : ℕ) (o : Option ℕ) → state_of special.env x ≡ o → IsSome o → state_of special.env x ≡ Some (or_zero (state_of special.env x))
+      partner_at x None e some = absurd (cc)
+      partner_at x (Some s) e some = e ∙ ap Some (sym (ap or_zero e))
+
       last : (earlier : List ℕ) × (part.nodes ≡ earlier ++ (n + before t) ∷ [])
       last = last_of part.nodes (n + before t) is_part.rises top_in (λ j there. node_low nodes tree (n + before t) j is_part.root (is_part.only j there).1)
 
@@ -291,6 +295,7 @@ module _ (nodes : List TermNode) (globals lets : BTreeMap ℕ Scheme) (let_scope
         tree_posed = part_tree;
         partner = partner;
         paired = λ x there. ((binder_state x there).polarity, paired x there (state_of special.env x) refl (own x there));
+        partner_is = λ x there. partner_at x (state_of special.env x) refl (own x there);
         earlier = last.0;
         last = last.1;
         nodes_are = λ m there. written_node nodes (n + before t) m (is_part.only m there).1;

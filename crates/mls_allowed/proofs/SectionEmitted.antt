@@ -76,7 +76,7 @@ module _ (b : Before) where
         (sym (are.1 ∙ ap (λ (l : List SectionLine). line.Let k number ∷ l) are.2)) (let_run (after b steps lets) k number);
   }
 
-find_last : (lets : List (ℕ × ℕ)) (k n : ℕ) → env.find nat_cmp k lets ≡ None → env.find nat_cmp k (lets ++ (k, n) ∷ []) ≡ Some n
+pub find_last : (lets : List (ℕ × ℕ)) (k n : ℕ) → env.find nat_cmp k lets ≡ None → env.find nat_cmp k (lets ++ (k, n) ∷ []) ≡ Some n
 find_last [] k n none_yet = ap (λ t. cond t (Some n) None) (itself_key k)
 find_last (entry ∷ lets) k n none_yet = go (eq_by_cmp nat_cmp k entry.0) none_yet (find_last lets k n)
   where
@@ -85,7 +85,7 @@ find_last (entry ∷ lets) k n none_yet = go (eq_by_cmp nat_cmp k entry.0) none_
     go true e later = absurd (cc)
     go false e later = later e
 
-find_kept : (lets more : List (ℕ × ℕ)) (k n : ℕ) → env.find nat_cmp k lets ≡ Some n → env.find nat_cmp k (lets ++ more) ≡ Some n
+pub find_kept : (lets more : List (ℕ × ℕ)) (k n : ℕ) → env.find nat_cmp k lets ≡ Some n → env.find nat_cmp k (lets ++ more) ≡ Some n
 find_kept [] more k n found = absurd (cc)
 find_kept (entry ∷ lets) more k n found = go (eq_by_cmp nat_cmp k entry.0) found (find_kept lets more k n)
   where

@@ -23,7 +23,7 @@ use Rattle.mls_allowed.specs.MadeFirsts.{around_states, AddsFirst, AreAdded, IsF
 use Rattle.mls_allowed.specs.SectionParts.{AddsFirstPart, HaveCome, SoFar, start, same, more, whole}
 
 -- the type of a first part was made of the part
-pub first_made : (nodes : List TermNode) (known : KnownTypes) (r : ℕ) (part : TermPart) → IsTermPart nodes r part → KnowTypes known.globals known.lets nodes part.nodes → (posing : Posing) (solution : Solution) (around : List ℕ)
+unfoldable pub first_made : (nodes : List TermNode) (known : KnownTypes) (r : ℕ) (part : TermPart) → IsTermPart nodes r part → KnowTypes known.globals known.lets nodes part.nodes → (posing : Posing) (solution : Solution) (around : List ℕ)
     → IsPartSolved nodes known part.nodes posing solution around → (own : Scheme) → IsFirstType solution.automaton (root_in posing r) (around_states posing around) own → BindersRise own.env → IsFirstMade nodes known.globals known.lets r own
 first_made nodes known r part is_part know posing solution around it own type rise = record {
   part = part;

@@ -9,6 +9,7 @@ use Rattle.mls_book.specs.Schemes.{Env}
 use Rattle.mls_automaton.specs.declared.automaton.Polarity.TheVariants.{Negative}
 use Rattle.mls_automaton.specs.declared.scheme.Scheme.{Scheme}
 use Rattle.mls_automaton.specs.Automata.{polarity_at}
+use Rattle.mls_automaton.specs.Schemes.{state_of}
 use Rattle.mls_subsume.specs.declared.verdict.StatePair.{StatePair}
 use Rattle.mls_subsume.specs.Walks.{IsIn}
 use Rattle.mls_term.specs.declared.term.TermForm.{TermForm}
@@ -45,11 +46,12 @@ needed_binders (Some s) = binders_in s.env
 abbrev pub needed_by : BTreeMap ℕ Scheme → ℕ → List ℕ
 needed_by lets k = needed_binders (known_in lets k)
 
--- A use of a name, or a let: the binders that its type needs are in scope, and its type has a copy, whose first state is
--- noted.
-abbrev pub IsUseAround : List TermNode → (globals lets : BTreeMap ℕ Scheme) → Posing → List ℕ → ℕ → Type 0
-IsUseAround nodes globals lets p scope i =
-    (f : TermForm) × (form_at nodes i ≡ Some f) × IsUsable (needed_by lets) scope f
+-- A use of a name, or a let, among these nodes: the binders that its type needs are in scope, and its type has a copy,
+-- whose first state is noted.
+abbrev pub IsUseAround : List TermNode → (globals lets : BTreeMap ℕ Scheme) → Posing → (members : List ℕ) → List ℕ → ℕ
+    → Type 0
+IsUseAround nodes globals lets p members scope i = Contains members i
+    × (f : TermForm) × (form_at nodes i ≡ Some f) × IsUsable (needed_by lets) scope f
     × IsUseMet (known_in globals) (known_in lets) p.automaton (root_in p) (binder_in p) p.copies i f
 
 -- The part with this root and these nodes is ready, where names have these known types, and `special` is its own type.
@@ -63,10 +65,11 @@ pub record IsPartReady (nodes : List TermNode) (globals lets : BTreeMap ℕ Sche
   pub is_root : root_in p part ≡ general.root.0
   pub tree : TermTree
   pub tree_posed : IsPosed nodes p.automaton (IsGoalOf (constraint_of p)) (root_in p) (binder_in p)
-      (IsUseAround nodes globals lets p) binders.around part tree
+      (IsUseAround nodes globals lets p members) binders.around part tree
   pub partner : ℕ → ℕ
   pub paired : (x : ℕ) → Contains binders.around x
       → (polarity_at p.automaton (binder_in p x) ≡ Negative) × IsIn walked (binder_in p x) (partner x)
+  pub partner_is : (x : ℕ) → Contains binders.around x → state_of special.env x ≡ Some (partner x)
   pub earlier : List ℕ
   pub last : members ≡ earlier ++ part ∷ []
   pub nodes_are : (m : ℕ) → Contains members m → IsNodeOf nodes part m
@@ -84,7 +87,7 @@ pub record HasLines (b : Before) (globals lets : BTreeMap ℕ Scheme) (begun : L
   pub are_known : (k : ℕ) → Contains names_of k → Contains known (names.first k) × ((names.first k).number ≡ k)
       × (env.find nat_cmp k b.lets ≡ Some (names.step k))
   pub is_place : ℕ → ℕ → Bool
-  pub uses : (scope : List ℕ) (i : ℕ) → IsUseAround b.term_nodes globals lets p scope i
+  pub uses : (scope : List ℕ) (i : ℕ) → IsUseAround b.term_nodes globals lets p members scope i
       → IsUseRead b p.automaton
       (record { root = root_in p; binder = binder_in p; place = place; parts = laid_out.layout.parts }) names names_of
       (λ i s. IsTrue (is_place i s)) (IsPartNode b.book place type_place) scope i

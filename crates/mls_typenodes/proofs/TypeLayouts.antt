@@ -187,7 +187,7 @@ module _ (book : List Node) (n : ℕ) (nodes : List Node) (from : HasFrom book n
 same_id : (j : NodeId) → raised_id 0 j ≡ j
 same_id j = let same : 0 + j.0 ≡ j.0 = omega arith in λ i. record { 0 = same i }
 
-raised_none : (x : Node) → raised 0 x ≡ x
+pub raised_none : (x : Node) → raised 0 x ≡ x
 raised_none node.Bot = refl
 raised_none node.Top = refl
 raised_none (node.Var x) = refl

@@ -4,7 +4,7 @@
 --     used_read                  the automaton is read from the book with these tops
 --     read_laid                  so its states have these places
 --     whole_laid                 in a book that begins with its nodes
-use Rattle.std.proofs.Common.{◌≡◌, inl, inr, ℕ, zero, suc, ◌+◌, ◌<◌, ◌≤◌, Bool, true, false, List, [], ◌∷◌, ◌++◌, map, length, get_or, refl, sym, ap, ◌∙◌, subst, arith, Contains, All, Option, Some, None}
+use Rattle.std.proofs.Common.{◌≡◌, ◌⊎◌, inl, inr, ℕ, zero, suc, ◌+◌, ◌<◌, ◌≤◌, Bool, true, false, List, [], ◌∷◌, ◌++◌, map, length, get_or, refl, sym, ap, ◌∙◌, subst, arith, Contains, All, Option, Some, None}
 use Rattle.std.specs.Prelude.{IsTrue, cond, ◌==◌, option_map, find, bytes_eq}
 use Rattle.std.specs.List.{flat_map}
 use Rattle.std.specs.Ordering.{nat_cmp, is_eq}
@@ -43,6 +43,7 @@ use Rattle.mls_deriv.specs.Steps.{HasFrom}
 use Rattle.mls_layout.specs.declared.layout.Places.{Places}
 use Rattle.mls_layout.specs.LaidOut.{place_of}
 use Rattle.mls_layout.specs.Layouts.{IsTypeLayout}
+use Rattle.mls_layout.specs.Trees.{none_node}
 use Rattle.mls_layout.proofs.WorkedParts.{nothing, contains_one}
 use Rattle.mls_typenodes.specs.OneEach.{HaveOneEach, HasOneEach, HasRisingSets, AreNoneNodes, read_place}
 use Rattle.mls_typenodes.specs.ReadPlaces.{arm_names, record_names, has_part, own_if, state_names, names_below, flow_ends, states_in_use, is_in, none_at, AreReadPlaces, IsReadLaid}
@@ -363,6 +364,20 @@ module _ (read : ReadScheme) (s : Scheme) (it : IsReadFromBook read s) (is : IsS
   same_places : own_place ≡ place_of places
   same_places = λ i q. same_place q i
 
+  -- each place is a node that was read, or that of no member
+  none_is : (p : Polarity) → node_at book (none_at bot top p) ≡ none_node p
+  none_is Positive = is_bot
+  none_is Negative = is_top
+
+  own_node : (b : Bool) (q : ℕ) → is_used q ≡ b → (own_place q < length read.book) ⊎ ((p : Polarity) × (node_at book (own_place q) ≡ none_node p))
+  own_node true q e =
+      let at : own_place q ≡ 0 + q = λ i. cond (e i) (0 + q) (none_at bot top (polarity_at s.automaton q)) in
+      let low : q < length read.book = low_used q e in
+      inl (omega (arith, at, low))
+  own_node false q e =
+      let at : own_place q ≡ none_at bot top (polarity_at s.automaton q) = λ i. cond (e i) (0 + q) (none_at bot top (polarity_at s.automaton q)) in
+      inr (polarity_at s.automaton q, ap (node_at book) at ∙ none_is (polarity_at s.automaton q))
+
   root_place : place_of places read.root.0 ≡ read.root.0
   root_place =
       let used : is_used read.root.0 ≡ true = used_root read.book read.root.0 s it.automaton it.root is.automaton.labels old_one in
@@ -375,6 +390,9 @@ module _ (read : ReadScheme) (s : Scheme) (it : IsReadFromBook read s) (is : IsS
       let new : IsReadFrom read.book read.root.0 s.automaton = used_read read.book read.root.0 s it.automaton it.root is.automaton.labels old_one in
       record {
         root = ap (place_of places) it.root ∙ root_place;
+        nodes =
+            subst (λ (place : ℕ → ℕ). (q : ℕ) → (place q < length read.book) ⊎ ((p : Polarity) × (node_at book (place q) ≡ none_node p))) same_places
+            (λ q. own_node (is_used q) q refl);
         inside =
             subst (λ (place : ℕ → ℕ). (q : ℕ) → place q < length book) same_places
             (places_low book 0 read.book from new.closed new.sign new.polarised read.root.0 is_used new.tops s.automaton new.automaton new_one (none_at bot top) are_none);

@@ -1,8 +1,9 @@
 -- The nodes of the states of a type that was read, in a book that begins with its nodes.
-use Rattle.std.specs.Prelude.{◌≡◌, ℕ, zero, suc, ◌<◌, ◌≤◌, ◌==◌, ◌||◌, Bool, true, false, if◌then◌else◌, is_some, List}
-use Rattle.std.specs.Prelude.{[], ◌∷◌, ◌++◌, length, Option, Some, None}
+use Rattle.std.specs.Prelude.{◌≡◌, ◌⊎◌, ℕ, zero, suc, ◌<◌, ◌≤◌, ◌==◌, ◌||◌, Bool, true, false, if◌then◌else◌, is_some}
+use Rattle.std.specs.Prelude.{List, [], ◌∷◌, ◌++◌, length, Option, Some, None}
 use Rattle.std.specs.List.{flat_map, list_any}
 use Rattle.mls_book.specs.declared.book.Node.{Node}
+use Rattle.mls_book.specs.Books.{node_at}
 use Rattle.mls_automaton.specs.declared.automaton.Arms.{Arms}
 use Rattle.mls_automaton.specs.declared.automaton.FieldSet.{FieldSet}
 use Rattle.mls_automaton.specs.declared.automaton.Flow.{Flow}
@@ -16,6 +17,7 @@ use Rattle.mls_typetext.specs.declared.scheme.ReadScheme.{ReadScheme}
 use Rattle.mls_layout.specs.declared.layout.Places.{Places}
 use Rattle.mls_layout.specs.LaidOut.{place_of}
 use Rattle.mls_layout.specs.Layouts.{IsTypeLayout}
+use Rattle.mls_layout.specs.Trees.{none_node}
 
 -- the states that the function of a head names, and those that its record names
 abbrev pub arm_names : Option Arms → List ℕ
@@ -72,10 +74,13 @@ pub record AreReadPlaces (s : Scheme) (bot top : ℕ) (places : Places) : Type 0
   pub inside : (q : ℕ) → q < length s.automaton.states → place_of places q ≡ used_place s bot top q
   pub past : (q : ℕ) → length s.automaton.states ≤ q → place_of places q ≡ bot
 
--- The type that was read is laid out in the book: its root stands at the node that was read as such, all places are in
--- the book and are a layout of its automaton, and that is deterministic.
+-- The type that was read is laid out in the book: its root stands at the node that was read as such, each place is a node
+-- that was read or that of no member, all of them are in the book and are a layout of its automaton, and that is
+-- deterministic.
 pub record IsReadLaid (read : ReadScheme) (book : List Node) (s : Scheme) (places : Places) : Type 0 where
   pub root : place_of places s.root.0 ≡ read.root.0
+  pub nodes : (q : ℕ) → (place_of places q < length read.book)
+      ⊎ ((p : Polarity) × (node_at book (place_of places q) ≡ none_node p))
   pub inside : (q : ℕ) → place_of places q < length book
   pub layout : IsTypeLayout book s.automaton (place_of places)
   pub deterministic : IsDeterministic s.automaton

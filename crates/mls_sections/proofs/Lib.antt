@@ -1,0 +1,11 @@
+pub mod Found
+pub mod Updated
+pub mod NamesOfPart
+pub mod UsesRead
+pub mod ShownVariables
+pub mod FirstsWritten
+pub mod PartsWritten
+pub mod SectionsGo
+pub mod NameBooks
+pub mod SectionsCome
+pub mod SectionsAllowed

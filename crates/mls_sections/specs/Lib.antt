@@ -1,0 +1,3 @@
+pub mod KnownFirsts
+pub mod KnownNames
+pub mod SectionsGoing
