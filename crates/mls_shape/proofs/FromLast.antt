@@ -1,12 +1,14 @@
--- States whose heads name later states alone get their classes from the last one to the first.
+-- States whose heads name alone later states, and states whose heads name none, get their classes from the last one to
+-- the first.
 --     knows_new                      a key that was not there
 --     counted_more, ordered_more     one number after another
---     upwards_none, upwards_more     one state after another
+--     keyed_none, leaf_more          one state after another whose head names none
+--     others_none, others_more       and one after another of those that are left
 --     upwards_keep                   alike states are together
 --     joined_keep                    and stay so with other numbers
 --     own_classes                    where each state has a class of its own, the classes are those of alike states
 use Rattle.std.proofs.Common.{◌≡◌, ◌⊎◌, inl, inr, ℕ, zero, suc, ◌+◌, ◌<◌, ◌≤◌, Bool, true, false, List, [], ◌∷◌, ◌++◌, refl, sym, ap, ◌∙◌, subst, arith, length, All, Some, None}
-use Rattle.std.specs.Prelude.{Option, cond, set}
+use Rattle.std.specs.Prelude.{◌&&◌, Option, cond, is_none, set}
 use Rattle.std.specs.List.{flat_map}
 use Rattle.std.specs.BTreeMap.{BTreeMap, get, Updates}
 use Rattle.std.specs.FinMap.{nat_cmp-IsAntisymmetric}
@@ -34,7 +36,7 @@ use Rattle.mls_shape.specs.declared.classes.Classes.{Classes}
 use Rattle.mls_shape.specs.Alike.{AreHeadsAlike, IsAlike, IsAlikeness, IsAlikePair}
 use Rattle.mls_shape.specs.steps.Classes.{class_in, one_of, function_code, field_code, record_code, head_code, bit_code, AreApart, AreClasses, IsKeyOf, KeepsAlike}
 use Rattle.mls_shape.specs.steps.Registers.{sign}
-use Rattle.mls_shape.specs.steps.Upwards.{AreCounted, AreFromLast, AreInOrder, AreJoined, Knows, NamesLater}
+use Rattle.mls_shape.specs.steps.Upwards.{AreCounted, AreInOrder, AreJoined, AreKeyed, Classifies, IsLeafBelow, IsLeafOrLast, Knows, NamesLater, StandsBehind, is_leaf, names_none}
 use Rattle.mls_shape.proofs.AlikeStates.{alike-refl}
 use Rattle.mls_shape.proofs.HeadsAlike.{alike-known, alike-more, Known}
 use Rattle.mls_shape.proofs.StateKeys.{key_unique, alike_key}
@@ -156,49 +158,113 @@ states_both Q R p h one two = record { function = arms h.function one.function t
     rows None one two = tt
     rows (Some fs) one two = λ k d low i e low'. (one k d low i e low', two k d low i e low')
 
-pub upwards_none : (a : Automaton) (classes : List ℕ) (known : BTreeMap (List ℕ) ℕ) → length classes ≡ length a.states → AreFromLast a 0 classes known
-upwards_none a classes known size = record { size = size; keyed = λ s low there. absurd (omega arith) }
+-- a head that names none names only what one likes
+none_named : (Q : Polarity → ℕ → Type 0) (p : Polarity) (h : Head) → names_none h ≡ true → HasStatesIn Q p h
+none_named Q p h none = record { function = arms h.function (both.0); fields = rows h.fields (both.1) }
+  where
+    split : (x y : Bool) → (x && y) ≡ true → (x ≡ true) × (y ≡ true)
+    split true y e = (refl, e)
+    split false y e = let wrong : false ≡ true = e in absurd (cc)
 
-module _ (a : Automaton) (single : IsDeterministic a) (later : NamesLater a) where
-  -- the classes of states behind this one are those before
-  unmoved : (classes : List ℕ) (s class t : ℕ) → s < t → t < length a.states → HasStatesIn (λ q c. class_in classes c ≡ class_in (set classes s class) c) (polarity_at a t) (head_at a t)
-  unmoved classes s class t behind low =
-      states_more (λ q c. t < c) (λ q c. class_in classes c ≡ class_in (set classes s class) c)
-      (λ q c more. sym (get_or-set_other classes s c class 0 (λ same. absurd (omega (arith, same))))) (polarity_at a t) (head_at a t) (later t low)
+    both : (is_none h.function ≡ true) × (is_none h.fields ≡ true)
+    both = split (is_none h.function) (is_none h.fields) none
 
-  pub upwards_more : (k s : ℕ) (classes : List ℕ) (known known' : BTreeMap (List ℕ) ℕ) (key : List ℕ) (class : ℕ) → AreFromLast a k classes known → suc (s + k) ≡ length a.states
-      → IsKeyOf a (class_in classes) s key → Knows (slice_cmp nat_cmp) key class known known' → AreFromLast a (k + 1) (set classes s class) known'
-  upwards_more k s classes known known' key class it place has knows = record {
-    size = length-set classes s class ∙ it.size;
-    keyed = λ t low there. go t low there (cases_eq t s);
-  }
+    arms : (o : Option Arms) → is_none o ≡ true → HasArmsIn Q p o
+    arms None e = tt
+    arms (Some f) e = let wrong : false ≡ true = e in absurd (cc)
+
+    rows : (o : Option (List FieldSet)) → is_none o ≡ true → HasFieldsIn Q p o
+    rows None e = tt
+    rows (Some fs) e = let wrong : false ≡ true = e in absurd (cc)
+
+pub keyed_none : (a : Automaton) (classes : List ℕ) (known : BTreeMap (List ℕ) ℕ) → length classes ≡ length a.states → AreKeyed a (IsLeafBelow a 0) classes known
+keyed_none a classes known size = record { size = size; keyed = λ s low done. let less : s < 0 = done.1 in absurd (omega arith) }
+
+module _ (a : Automaton) (single : IsDeterministic a) where
+  -- one state more has the class of its key, where no head of these states names it
+  keyed_more : (IsDone IsDone' : ℕ → Type 0) (s : ℕ) (classes classes' : List ℕ) (known known' : BTreeMap (List ℕ) ℕ) → s < length a.states → AreKeyed a IsDone classes known → Classifies a s classes known classes' known'
+      → ((t : ℕ) → IsDone' t → (t ≡ s → ⊥) → IsDone t) → ((t : ℕ) → t < length a.states → IsDone' t → HasStatesIn (λ q c. c ≡ s → ⊥) (polarity_at a t) (head_at a t)) → AreKeyed a IsDone' classes' known'
+  keyed_more IsDone IsDone' s classes classes' known known' low it gets others free =
+      subst (λ xs. AreKeyed a IsDone' xs known') (sym gets.stored) (record {
+        size = length-set classes s gets.class ∙ it.size;
+        keyed = λ t low' done. go t low' done (cases_eq t s);
+      })
     where
-      within : s < length classes
-      within = let size : length classes ≡ length a.states = it.size in omega (arith, place)
+      moved : (t : ℕ) → t < length a.states → IsDone' t → HasStatesIn (λ q c. class_in classes c ≡ class_in (set classes s gets.class) c) (polarity_at a t) (head_at a t)
+      moved t low' done =
+          states_more (λ q c. c ≡ s → ⊥) (λ q c. class_in classes c ≡ class_in (set classes s gets.class) c)
+          (λ q c apart. sym (get_or-set_other classes s c gets.class 0 apart)) (polarity_at a t) (head_at a t) (free t low' done)
 
-      own_states : HasStatesIn (λ q c. class_in classes c ≡ class_in (set classes s class) c) (polarity_at a s) (head_at a s)
-      own_states =
-          states_more (λ q c. s < c) (λ q c. class_in classes c ≡ class_in (set classes s class) c)
-          (λ q c more. sym (get_or-set_other classes s c class 0 (λ same. absurd (omega (arith, same))))) (polarity_at a s) (head_at a s) (later s (omega (arith, place)))
+      here : class_in (set classes s gets.class) s ≡ gets.class
+      here = get_or-set_same classes s gets.class 0 (let size : length classes ≡ length a.states = it.size in omega (arith, low))
 
-      here : class_in (set classes s class) s ≡ class
-      here = get_or-set_same classes s class 0 within
-
-      go : (t : ℕ) → t < length a.states → length a.states ≤ t + (k + 1) → (t ≡ s) ⊎ (t ≡ s → ⊥)
-          → (other : List ℕ) × IsKeyOf a (class_in (set classes s class)) t other × (get (slice_cmp nat_cmp) known' other ≡ Some (class_in (set classes s class) t))
-      go t low there (inl same) =
-          subst (λ t. (other : List ℕ) × IsKeyOf a (class_in (set classes s class)) t other × (get (slice_cmp nat_cmp) known' other ≡ Some (class_in (set classes s class) t))) (sym same)
-          (key, key_moved (class_in classes) (class_in (set classes s class)) a single s key own_states has, knows.now ∙ ap Some (sym here))
-      go t low there (inr apart) =
-          let behind : s < t = omega (arith, place, apart) in
-          let old = it.keyed t low (omega (arith, place, behind)) in (
+      go : (t : ℕ) → t < length a.states → IsDone' t → (t ≡ s) ⊎ (t ≡ s → ⊥)
+          → (other : List ℕ) × IsKeyOf a (class_in (set classes s gets.class)) t other × (get (slice_cmp nat_cmp) known' other ≡ Some (class_in (set classes s gets.class) t))
+      go t low' done (inl same) =
+          subst (λ t. (other : List ℕ) × IsKeyOf a (class_in (set classes s gets.class)) t other × (get (slice_cmp nat_cmp) known' other ≡ Some (class_in (set classes s gets.class) t))) (sym same) (
+            gets.key,
+            key_moved (class_in classes) (class_in (set classes s gets.class)) a single s gets.key (subst (λ t. HasStatesIn (λ q c. class_in classes c ≡ class_in (set classes s gets.class) c) (polarity_at a t) (head_at a t)) same (moved t low' done)) gets.has,
+            gets.knows.now ∙ ap Some (sym here),
+          )
+      go t low' done (inr apart) =
+          let old = it.keyed t low' (others t done apart) in (
             old.0,
-            key_moved (class_in classes) (class_in (set classes s class)) a single t old.0 (unmoved classes s class t behind low) old.1,
-            knows.kept old.0 (class_in classes t) old.2 ∙ ap Some (sym (get_or-set_other classes s t class 0 apart)),
+            key_moved (class_in classes) (class_in (set classes s gets.class)) a single t old.0 (moved t low' done) old.1,
+            gets.knows.kept old.0 (class_in classes t) old.2 ∙ ap Some (sym (get_or-set_other classes s t gets.class 0 apart)),
           )
 
+  -- one state after another whose head names none
+  pub leaf_more : (s : ℕ) (classes classes' : List ℕ) (known known' : BTreeMap (List ℕ) ℕ) → s < length a.states → AreKeyed a (IsLeafBelow a s) classes known → Classifies a s classes known classes' known' → AreKeyed a (IsLeafBelow a (s + 1)) classes' known'
+  leaf_more s classes classes' known known' low it gets =
+      keyed_more (IsLeafBelow a s) (IsLeafBelow a (s + 1)) s classes classes' known known' low it gets
+      (λ t done apart. (done.0, let less : t < s + 1 = done.1 in omega (arith, apart)))
+      (λ t low' done. none_named (λ q c. c ≡ s → ⊥) (polarity_at a t) (head_at a t) done.0)
+
+  pub leaf_skip : (s : ℕ) (classes : List ℕ) (known : BTreeMap (List ℕ) ℕ) → is_leaf a s ≡ false → AreKeyed a (IsLeafBelow a s) classes known → AreKeyed a (IsLeafBelow a (s + 1)) classes known
+  leaf_skip s classes known other it = record { size = it.size; keyed = λ t low done. it.keyed t low (done.0, before t done (cases_eq t s)) }
+    where
+      before : (t : ℕ) → IsLeafBelow a (s + 1) t → (t ≡ s) ⊎ (t ≡ s → ⊥) → t < s
+      before t done (inl same) = let wrong : true ≡ false = sym done.0 ∙ (ap (is_leaf a) same ∙ other) in absurd (cc)
+      before t done (inr apart) = let less : t < s + 1 = done.1 in omega (arith, apart)
+
+  -- the other states, from the last one on
+  pub others_none : (classes : List ℕ) (known : BTreeMap (List ℕ) ℕ) → AreKeyed a (IsLeafBelow a (length a.states)) classes known → AreKeyed a (IsLeafOrLast a 0) classes known
+  others_none classes known it = record { size = it.size; keyed = λ t low done. it.keyed t low (leaf t low done, low) }
+    where
+      leaf : (t : ℕ) → t < length a.states → IsLeafOrLast a 0 t → is_leaf a t ≡ true
+      leaf t low (inl is) = is
+      leaf t low (inr past) = let more : length a.states ≤ t + 0 = past in absurd (omega (arith, low))
+
+  pub others_skip : (k s : ℕ) (classes : List ℕ) (known : BTreeMap (List ℕ) ℕ) → suc (s + k) ≡ length a.states → is_leaf a s ≡ true → AreKeyed a (IsLeafOrLast a k) classes known → AreKeyed a (IsLeafOrLast a (k + 1)) classes known
+  others_skip k s classes known place leaf it = record { size = it.size; keyed = λ t low done. it.keyed t low (before t done (cases_eq t s)) }
+    where
+      before : (t : ℕ) → IsLeafOrLast a (k + 1) t → (t ≡ s) ⊎ (t ≡ s → ⊥) → IsLeafOrLast a k t
+      before t done (inl same) = inl (ap (is_leaf a) same ∙ leaf)
+      before t (inl is) (inr apart) = inl is
+      before t (inr last) (inr apart) = inr (let more : length a.states ≤ t + (k + 1) = last in omega (arith, place, apart))
+
+module _ (a : Automaton) (single : IsDeterministic a) (later : NamesLater a) where
+  pub others_more : (k s : ℕ) (classes classes' : List ℕ) (known known' : BTreeMap (List ℕ) ℕ) → suc (s + k) ≡ length a.states → is_leaf a s ≡ false → AreKeyed a (IsLeafOrLast a k) classes known → Classifies a s classes known classes' known'
+      → AreKeyed a (IsLeafOrLast a (k + 1)) classes' known'
+  others_more k s classes classes' known known' place other it gets =
+      keyed_more a single (IsLeafOrLast a k) (IsLeafOrLast a (k + 1)) s classes classes' known known' (omega (arith, place)) it gets before free
+    where
+      before : (t : ℕ) → IsLeafOrLast a (k + 1) t → (t ≡ s → ⊥) → IsLeafOrLast a k t
+      before t (inl is) apart = inl is
+      before t (inr last) apart = inr (let more : length a.states ≤ t + (k + 1) = last in omega (arith, place, apart))
+
+      apart : (t c : ℕ) → s ≤ t → StandsBehind a t c → c ≡ s → ⊥
+      apart t c more (inl behind) same = let less : t < c = behind in absurd (omega (arith, more, same))
+      apart t c more (inr leaf) same = let wrong : true ≡ false = sym leaf ∙ (ap (is_leaf a) same ∙ other) in absurd (cc)
+
+      free : (t : ℕ) → t < length a.states → IsLeafOrLast a (k + 1) t → HasStatesIn (λ q c. c ≡ s → ⊥) (polarity_at a t) (head_at a t)
+      free t low (inl is) = none_named (λ q c. c ≡ s → ⊥) (polarity_at a t) (head_at a t) is
+      free t low (inr last) =
+          states_more (λ q c. StandsBehind a t c) (λ q c. c ≡ s → ⊥)
+          (λ q c behind. apart t c (let more : length a.states ≤ t + (k + 1) = last in omega (arith, place)) behind) (polarity_at a t) (head_at a t) (later t low)
+
   -- in the end alike states are together
-  module _ (closed : IsClosed a) (classes : List ℕ) (known : BTreeMap (List ℕ) ℕ) (it : AreFromLast a (length a.states) classes known) where
+  module _ (closed : IsClosed a) (classes : List ℕ) (known : BTreeMap (List ℕ) ℕ) (it : AreKeyed a (IsLeafOrLast a (length a.states)) classes known) where
     abbrev n : ℕ
     n = length a.states
 
@@ -207,8 +273,8 @@ module _ (a : Automaton) (single : IsDeterministic a) (later : NamesLater a) whe
 
     one_class : (i j : ℕ) → i < n → j < n → IsAlikePair a (λ x y. class x ≡ class y) i j → class i ≡ class j
     one_class i j low low' pair =
-        let one = it.keyed i low (omega arith) in
-        let two = it.keyed j low' (omega arith) in
+        let one = it.keyed i low (inr (omega arith)) in
+        let two = it.keyed j low' (inr (omega arith)) in
         let equal : one.0 ≡ two.0 = key_unique a closed single class j one.0 two.0 (alike_key a closed single class i j one.0 pair one.1) two.1 in
         let some : Some (class i) ≡ Some (class j) = sym one.2 ∙ (ap (get (slice_cmp nat_cmp) known) equal ∙ two.2) in
         cc
@@ -216,16 +282,33 @@ module _ (a : Automaton) (single : IsDeterministic a) (later : NamesLater a) whe
     inside : (s : ℕ) → HasStatesIn (λ q c. c < n) (polarity_at a s) (head_at a s)
     inside s = states_more (IsState a) (λ q c. c < n) (λ q c state. state.in_range) (polarity_at a s) (head_at a s) (closed.heads s)
 
+    -- states whose heads name none
+    leaves_together : (x y : ℕ) → is_leaf a x ≡ true → x < n → y < n → (table : ℕ → ℕ → _) → IsAlikeness a (Holds table) → Holds table x y → class x ≡ class y
+    leaves_together x y leaf low low' table are holds =
+        let pair = are x y low low' holds in
+        let heads : AreHeadsAlike (λ u v. class u ≡ class v) (parts_of (head_at a x)) (parts_of (head_at a y)) =
+        alike-more (Known (Holds table) (λ c. ⊥) (λ c. c < n)) (λ u v. class u ≡ class v)
+        (λ u v known. absurd known.1)
+        (parts_of (head_at a x)) (parts_of (head_at a y))
+        (alike-known (Holds table) (λ c. ⊥) (λ c. c < n) (polarity_at a x) (polarity_at a y) (parts_of (head_at a x)) (parts_of (head_at a y))
+        (parts_in (λ q c. ⊥) (polarity_at a x) (head_at a x) (none_named (λ q c. ⊥) (polarity_at a x) (head_at a x) leaf))
+        (parts_in (λ q c. c < n) (polarity_at a y) (head_at a y) (inside y)) pair.heads) in
+        one_class x y low low' (record { polarity = pair.polarity; heads = heads; outgoing = pair.outgoing; incoming = pair.incoming })
+
     together : (fuel x y : ℕ) → n < fuel + x → x < n → y < n → (table : ℕ → ℕ → _) → IsAlikeness a (Holds table) → Holds table x y → class x ≡ class y
     together zero x y more low low' table are holds = absurd (omega arith)
     together (suc fuel) x y more low low' table are holds =
         let pair = are x y low low' holds in
         let heads : AreHeadsAlike (λ u v. class u ≡ class v) (parts_of (head_at a x)) (parts_of (head_at a y)) =
-        alike-more (Known (Holds table) (λ c. (x < c) × (c < n)) (λ c. c < n)) (λ u v. class u ≡ class v)
-        (λ u v known. together fuel u v (let behind : x < u = known.1.0 in omega arith) known.1.1 known.2 table are known.0)
+        alike-more (Known (Holds table) (λ c. StandsBehind a x c × (c < n)) (λ c. c < n)) (λ u v. class u ≡ class v)
+        (λ u v known.
+        elim known.1.0 [
+          | inl behind ↦ together fuel u v (let less : x < u = behind in omega arith) known.1.1 known.2 table are known.0
+          | inr leaf ↦ leaves_together u v leaf known.1.1 known.2 table are known.0
+        ])
         (parts_of (head_at a x)) (parts_of (head_at a y))
-        (alike-known (Holds table) (λ c. (x < c) × (c < n)) (λ c. c < n) (polarity_at a x) (polarity_at a y) (parts_of (head_at a x)) (parts_of (head_at a y))
-        (parts_in (λ q c. (x < c) × (c < n)) (polarity_at a x) (head_at a x) (states_both (λ c. x < c) (λ c. c < n) (polarity_at a x) (head_at a x) (later x low) (inside x)))
+        (alike-known (Holds table) (λ c. StandsBehind a x c × (c < n)) (λ c. c < n) (polarity_at a x) (polarity_at a y) (parts_of (head_at a x)) (parts_of (head_at a y))
+        (parts_in (λ q c. StandsBehind a x c × (c < n)) (polarity_at a x) (head_at a x) (states_both (StandsBehind a x) (λ c. c < n) (polarity_at a x) (head_at a x) (later x low) (inside x)))
         (parts_in (λ q c. c < n) (polarity_at a y) (head_at a y) (inside y)) pair.heads) in
         one_class x y low low' (record { polarity = pair.polarity; heads = heads; outgoing = pair.outgoing; incoming = pair.incoming })
 

@@ -28,9 +28,10 @@ pub struct Classes {
 /// Up to so many states, rounds alone are quicker than a refinement before them.
 const SMALL: usize = 16;
 
-/// The classes of alike states. Where heads name later states alone, one look at each state from the last one on tells
-/// them. Otherwise rounds do, which begin with the blocks of a refinement where there are many states, so that there
-/// are few of them. Each takes time linear in heads and edges, with the binary digits of the number of states.
+/// The classes of alike states. Where heads name alone later states, and states whose heads name none, one look at each
+/// state from the last one on tells them. Otherwise rounds do, which begin with the blocks of a refinement where there
+/// are many states, so that there are few of them. Each takes time linear in heads and edges, with the binary digits of
+/// the number of states.
 ///
 /// # Errors
 ///

@@ -1,28 +1,60 @@
--- Classes of states whose heads name later states alone, from the last state to the first.
-use Rattle.std.specs.Prelude.{◌≡◌, ℕ, ◌<◌, ◌≤◌, ◌+◌, List, length, Some}
+-- Classes of states whose heads name alone later states, and states whose heads name none, from the last state to the
+-- first.
+use Rattle.std.specs.Prelude.{◌≡◌, ◌⊎◌, ◌&&◌, ℕ, ◌<◌, ◌≤◌, ◌+◌, Bool, true, List, length, set, is_none, Some}
 use Rattle.std.specs.BTreeMap.{BTreeMap, get}
 use Rattle.std.specs.Ordering.{nat_cmp}
 use Rattle.std.specs.declared.cmp.Ordering.{Ordering}
 use Rattle.std.specs.Cmp.Lexicographic.{slice_cmp}
+use Rattle.mls_automaton.specs.declared.automaton.Head.{Head}
 use Rattle.mls_automaton.specs.Automata.{Automaton, polarity_at, head_at}
 use Rattle.mls_automaton.specs.Models.{HasStatesIn}
 use Rattle.mls_shape.specs.steps.Classes.{class_in, IsKeyOf}
 
--- each head names later states alone
+-- whether a head names no state
+abbrev pub names_none : Head → Bool
+names_none h = is_none h.function && is_none h.fields
+
+-- whether the head of a state names none
+abbrev pub is_leaf : Automaton → ℕ → Bool
+is_leaf a s = names_none (head_at a s)
+
+-- the state comes later, or its head names none
+abbrev pub StandsBehind : Automaton → ℕ → ℕ → Type 0
+StandsBehind a s c = (s < c) ⊎ (is_leaf a c ≡ true)
+
+-- each head names such states alone
 abbrev pub NamesLater : Automaton → Type 0
-NamesLater a = (s : ℕ) → s < length a.states → HasStatesIn (λ q c. s < c) (polarity_at a s) (head_at a s)
+NamesLater a = (s : ℕ) → s < length a.states
+    → HasStatesIn (λ q c. StandsBehind a s c) (polarity_at a s) (head_at a s)
 
 -- the key has this number from now on, and others keep theirs
 pub record Knows {K : Type 0} (cmp : K → K → Ordering) (key : K) (number : ℕ) (old new : BTreeMap K ℕ) : Type 0 where
   pub now : get cmp new key ≡ Some number
   pub kept : (other : K) (n : ℕ) → get cmp old other ≡ Some n → get cmp new other ≡ Some n
 
--- the last k states have the classes of their keys
-pub record AreFromLast (a : Automaton) (k : ℕ) (classes : List ℕ) (known : BTreeMap (List ℕ) ℕ) : Type 0 where
+-- these states have the classes of their keys
+pub record AreKeyed (a : Automaton) (IsDone : ℕ → Type 0) (classes : List ℕ) (known : BTreeMap (List ℕ) ℕ) : Type 0 where
   pub size : length classes ≡ length a.states
-  pub keyed : (s : ℕ) → s < length a.states → length a.states ≤ s + k
+  pub keyed : (s : ℕ) → s < length a.states → IsDone s
       → (key : List ℕ) × IsKeyOf a (class_in classes) s key
       × (get (slice_cmp nat_cmp) known key ≡ Some (class_in classes s))
+
+-- the head of the state names none, and it is one of the first k
+abbrev pub IsLeafBelow : Automaton → ℕ → ℕ → Type 0
+IsLeafBelow a k s = (is_leaf a s ≡ true) × (s < k)
+
+-- the head of the state names none, or it is one of the last k
+abbrev pub IsLeafOrLast : Automaton → ℕ → ℕ → Type 0
+IsLeafOrLast a k s = (is_leaf a s ≡ true) ⊎ (length a.states ≤ s + k)
+
+-- the state gets the class of its key
+pub record Classifies (a : Automaton) (s : ℕ) (old : List ℕ) (known : BTreeMap (List ℕ) ℕ) (new : List ℕ)
+    (known' : BTreeMap (List ℕ) ℕ) : Type 0 where
+  pub key : List ℕ
+  pub class : ℕ
+  pub has : IsKeyOf a (class_in old) s key
+  pub knows : Knows (slice_cmp nat_cmp) key class known known'
+  pub stored : new ≡ set old s class
 
 -- the first k states have the numbers of their classes
 pub record AreInOrder (k : ℕ) (classes : List ℕ) (numbers : BTreeMap ℕ ℕ) (ordered : List ℕ) : Type 0 where
