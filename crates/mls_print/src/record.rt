@@ -10,11 +10,11 @@ ghost use Rattle.mls_automaton.specs.Heads.{AreRising, set_at};
 ghost use Rattle.mls_automaton.specs.Models.{HasRisingLabels, IsClosed};
 ghost use Rattle.mls_print.specs.steps.Tables.{IsRecordOf};
 ghost use Rattle.mls_print.specs.steps.Grouping.{record_of_all, field_in, fields_in, entry_fields, is_shown, grown};
-ghost use Rattle.mls_print.specs.steps.Grouping.{set_in_record, sets_at_label};
+ghost use Rattle.mls_print.specs.steps.Grouping.{set_in_record, sets_at_label, whole_field};
 
 use crate::label::{Label, LabelSets};
 use mls_automaton::automaton::{Automaton, FieldSet, FieldSets, Head, Polarity};
-use mls_automaton::state_set::StateId;
+use mls_automaton::state_set::{StateId, StateSet};
 use mls_base::memory::Memory;
 use mls_book::name::Name;
 use std::alloc::Global;
@@ -39,6 +39,10 @@ pub fn joined_record<'a>(
     ensures { IfOk result (λ fields. IsRecordOf (record_of_all automaton.now polarity set.now)
         (option_map fields_in fields)) }
 {
+    if set.len() == 1 {
+        let whole = record_of_one(alloc, automaton.head(StateId(set[0])))?;
+        return Ok(whole);
+    }
     let records = count_records(automaton, set);
     if records == 0 {
         return Ok(None);
@@ -46,6 +50,54 @@ pub fn joined_record<'a>(
     let groups = grouped(alloc, automaton, set)?;
     let fields = shown_fields(alloc, &groups, polarity, records)?;
     Ok(Some(fields))
+}
+
+// The record of a set with one member: all its fields are shown, and their labels are in order.
+fn record_of_one<'a>(alloc: Global, head: &'a Head) -> Result<Option<Vec<JoinedField<'a>>>, Memory>
+    ensures { IfOk result (λ fields. option_map fields_in fields ≡ option_map (map whole_field) head.now.fields) }
+{
+    match &head.fields {
+        None => Ok(None),
+        Some(fields) => {
+            let joined = whole_fields(alloc, fields.as_slice())?;
+            Ok(Some(joined))
+        }
+    }
+}
+
+// All fields, each with its own set.
+fn whole_fields<'a>(alloc: Global, fields: &'a [FieldSet]) -> Result<Vec<JoinedField<'a>>, Memory>
+    ensures { IfOk result (λ joined. fields_in joined ≡ map whole_field fields.now) }
+{
+    let mut joined = Vec::with_capacity(alloc, fields.len())?;
+    for field in fields {
+        push_whole(alloc, &mut joined, field)?;
+    }
+    Ok(joined)
+}
+
+// Adds a field with its own set.
+fn push_whole<'a>(
+    alloc: Global,
+    joined: &mut Vec<JoinedField<'a>>,
+    field: &'a FieldSet,
+) -> Result<(), Memory>
+    ensures { OnOk result (fields_in joined.new ≡ fields_in joined.old ++ whole_field field.now ∷ []) }
+{
+    let states = states_in(alloc, &field.set)?;
+    joined.push(JoinedField {
+        label: &field.label,
+        states,
+    })?;
+    Ok(())
+}
+
+// The members of a set, in order.
+fn states_in(alloc: Global, set: &StateSet) -> Result<Vec<usize>, Memory>
+    ensures { IfOk result (λ states. states.items ≡ set.now) }
+{
+    let states = set.as_slice().to_vec(alloc)?;
+    Ok(states)
 }
 
 // How many members have a record.

@@ -23,6 +23,10 @@ field_in field = record { label = field.label.now; set = field.states.items }
 abbrev pub fields_in : Vec JoinedField → List LabelledSet
 fields_in fields = map field_in fields.items
 
+-- a field with its own set
+abbrev pub whole_field : FieldSet → LabelledSet
+whole_field field = record { label = field.label; set = field.set }
+
 -- the set of a state at a label
 abbrev pub set_in_record : List ℕ → Option (List FieldSet) → Option (List ℕ)
 set_in_record label None = None

@@ -1,10 +1,14 @@
-use Rattle.std.proofs.Common.{◌≡◌, ◌∙◌, ◌<◌, ap, sym, subst, rules, length, Some}
-use Rattle.std.specs.Prelude.{is_some, filter}
+use Rattle.std.proofs.Common.{◌≡◌, ◌∙◌, ◌<◌, ap, sym, subst, rules, length, get_or, Some}
+use Rattle.std.specs.Prelude.{is_some, filter, option_map}
 use Rattle.mls_automaton.specs.Automata.{head_at}
 use Rattle.mls_print.specs.steps.Grouping.{record_of_all, fields_in, entry_fields}
 use Rattle.mls_print.specs.steps.Tables.{IsRecordOf}
 use Rattle.mls_print.proofs.Grouped.{no_record_found, record_found}
+use Rattle.mls_print.proofs.OneRecord.{one_answer}
 use Rattle.mls_print.proofs.record.joined_record.Goals as goal
+
+pub returns-then-set-eq1 : goal.returns-then-set-eq1
+returns-then-set-eq1 c = one_answer c.args.automaton.now c.args.polarity c.args.set.now c.if-set-eq1.true c.head.result.now c.head.ensures (c.requires.closed.labels (get_or c.args.set.now 0 0)) (option_map fields_in c.in_ok-whole.whole) c.in_ok-whole.ensures
 
 pub returns-then-records-eq0 : goal.returns-then-records-eq0
 returns-then-records-eq0 c =
