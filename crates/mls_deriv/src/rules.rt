@@ -192,7 +192,24 @@ fn are_raised(n: usize, fields: &[Field], others: &[Field]) -> bool
 fn is_raised_field(n: usize, field: &Field, other: &Field) -> bool
     ensures { IsTrue result ↔ (field.now ≡ raised_field n other.now) }
 {
-    field.label == other.label && is_sum(field.node.0, n, other.node.0)
+    are_same_bytes(field.label.bytes(), other.label.bytes())
+        && is_sum(field.node.0, n, other.node.0)
+}
+
+// Whether both are the same bytes. For a few bytes, as labels have, it takes a fraction of the time of `==`; each use of
+// a name compares all labels of its type.
+fn are_same_bytes(bytes: &[u8], others: &[u8]) -> bool
+    ensures { IsTrue result ↔ (bytes.now ≡ others.now) }
+{
+    if bytes.len() != others.len() {
+        return false;
+    }
+    for i in 0..others.len() {
+        if bytes[i] != others[i] {
+            return false;
+        }
+    }
+    true
 }
 
 /// A number or a truth value.

@@ -92,7 +92,15 @@ impl<'a> Steps<'a> {
 pub fn is_same(env: &[BinderNode], other: &[BinderNode]) -> bool
     ensures { IsTrue result ↔ (env.now ≡ other.now) }
 {
-    env == other
+    if env.len() != other.len() {
+        return false;
+    }
+    for i in 0..other.len() {
+        if env[i] != other[i] {
+            return false;
+        }
+    }
+    true
 }
 
 /// Whether the environment is the other one without this binder.
