@@ -6,6 +6,7 @@ use mls_book::book::{Book, Field, Fields, Node, NodeId};
 use mls_deriv::derivation::{
     BinderNode, BinderNodes, SectionLine, SectionLines, StepLine, StepRule,
 };
+use mls_deriv::steps::is_same;
 use mls_lines::copies::push_checked;
 use std::alloc::Global;
 
@@ -118,6 +119,16 @@ struct Numbers {
     numbers: Vec<usize>,
 }
 
+// From so many binders on an environment is compared with the last one before its nodes are looked up.
+const LONG: usize = 8;
+
+// The last long environment, and the same one with the new numbers. Steps behind one another often have the same.
+#[derive(Drop)]
+struct LastEnv<'a> {
+    old: &'a [BinderNode],
+    new: BinderNodes,
+}
+
 impl Numbers {
     // The numbers of the nodes that serve follow each other.
     fn of(alloc: Global, serves: &[bool]) -> Result<Numbers, Memory> {
@@ -162,7 +173,24 @@ impl Numbers {
         }
     }
 
-    fn env(&self, alloc: Global, env: &[BinderNode]) -> Result<BinderNodes, Memory> {
+    // An environment with the new numbers.
+    fn env<'a>(
+        &self,
+        alloc: Global,
+        last: &mut LastEnv<'a>,
+        env: &'a [BinderNode],
+    ) -> Result<BinderNodes, Memory> {
+        if env.len() < LONG {
+            return self.renumbered(alloc, env);
+        }
+        if !is_same(env, last.old) {
+            last.new = self.renumbered(alloc, env)?;
+            last.old = env;
+        }
+        Ok(last.new.clone()?)
+    }
+
+    fn renumbered(&self, alloc: Global, env: &[BinderNode]) -> Result<BinderNodes, Memory> {
         let mut copy = BinderNodes::new(alloc);
         copy.reserve(env.len())?;
         for entry in env {
@@ -191,19 +219,29 @@ impl Numbers {
         }
     }
 
-    fn step(&self, alloc: Global, step: &StepLine) -> Result<StepLine, Memory> {
+    fn step<'a>(
+        &self,
+        alloc: Global,
+        last: &mut LastEnv<'a>,
+        step: &'a StepLine,
+    ) -> Result<StepLine, Memory> {
         Ok(StepLine {
             node: step.node,
             rule: self.rule(alloc, &step.rule)?,
-            env: self.env(alloc, step.env.as_slice())?,
+            env: self.env(alloc, last, step.env.as_slice())?,
             root: self.at(step.root)?,
         })
     }
 
-    fn line(&self, alloc: Global, line: &SectionLine) -> Result<SectionLine, Memory> {
+    fn line<'a>(
+        &self,
+        alloc: Global,
+        last: &mut LastEnv<'a>,
+        line: &'a SectionLine,
+    ) -> Result<SectionLine, Memory> {
         match line {
             SectionLine::Let(k, step) => Ok(SectionLine::Let(*k, *step)),
-            SectionLine::Step(step) => Ok(SectionLine::Step(self.step(alloc, step)?)),
+            SectionLine::Step(step) => Ok(SectionLine::Step(self.step(alloc, last, step)?)),
             SectionLine::Put(variable, id) => Ok(SectionLine::Put(*variable, self.at(*id)?)),
             SectionLine::Pair(mode, left, right) => {
                 Ok(SectionLine::Pair(*mode, self.at(*left)?, self.at(*right)?))
@@ -214,8 +252,12 @@ impl Numbers {
     fn lines(&self, alloc: Global, lines: &[SectionLine]) -> Result<SectionLines, Memory> {
         let mut copies = SectionLines::new(alloc);
         copies.reserve(lines.len())?;
+        let mut last = LastEnv {
+            old: &[],
+            new: BinderNodes::new(alloc),
+        };
         for line in lines {
-            copies.push(self.line(alloc, line)?)?;
+            copies.push(self.line(alloc, &mut last, line)?)?;
         }
         Ok(copies)
     }
