@@ -20,7 +20,7 @@ use crate::known::{FirstParts, Globals};
 use crate::spines::Spines;
 use crate::steps::{Conclusion, Steps};
 use mls_base::memory::Memory;
-use mls_book::book::NodeId;
+use mls_book::book::{Node, NodeId};
 use mls_deriv::derivation::{BinderNodes, StepRule};
 use mls_layout::layout::LaidOut;
 use mls_parts::pose::{KnownTypes, Posing};
@@ -79,6 +79,39 @@ impl Writer {
         Ok(own)
     }
 
+    // The domain of what the node in front of this one has as its type: where this one is an argument without parts,
+    // that is the function. A binder has its own node.
+    fn domain_before(&self, view: &PartView, node: usize) -> Option<NodeId> {
+        let before = node.checked_sub(1)?;
+        let root = match self.concluded.get(&before)? {
+            Concluded::Bound(x) => self.place(view.posing.binder(*x)),
+            Concluded::Step(of) => of.root,
+        };
+        let arrow = self.arrow_at(root)?;
+        Some(arrow.from)
+    }
+
+    // Whether both nodes are `int`, or both are `bool`.
+    fn are_one_kind(&self, first: NodeId, second: NodeId) -> bool {
+        let book = &self.laid.book;
+        if first.0 >= book.len() || second.0 >= book.len() {
+            return false;
+        }
+        matches!(
+            (book.node(first), book.node(second)),
+            (Node::Int, Node::Int) | (Node::Bool, Node::Bool)
+        )
+    }
+
+    // The type of a literal: what the function asks for of which it is the argument, so that no step by pairs brings it
+    // there, or else this one of its kind.
+    fn asked(&self, view: &PartView, node: usize, own: NodeId) -> NodeId {
+        match self.domain_before(view, node) {
+            Some(domain) if self.are_one_kind(domain, own) => domain,
+            _ => own,
+        }
+    }
+
     // What a node concludes by its rule, behind what its rule asks for.
     fn write_form(
         &mut self,
@@ -93,8 +126,14 @@ impl Writer {
             TermForm::Bound(x) => Ok(Concluded::Bound(*x)),
             TermForm::Inner(k) => stepped(self.inner(alloc, view, node, *k)),
             TermForm::Global(g) => stepped(self.global(alloc, view, node, *g)),
-            TermForm::Number(_) => stepped(self.literal(alloc, node, self.laid.integer)),
-            TermForm::Truth(_) => stepped(self.literal(alloc, node, self.laid.boolean)),
+            TermForm::Number(_) => {
+                let root = self.asked(view, node, self.laid.integer);
+                stepped(self.literal(alloc, node, root))
+            }
+            TermForm::Truth(_) => {
+                let root = self.asked(view, node, self.laid.boolean);
+                stepped(self.literal(alloc, node, root))
+            }
             TermForm::Fun(x, body) => stepped(self.fun(alloc, view, node, *x, *body)),
             TermForm::Apply(function, argument) => {
                 stepped(self.apply(alloc, view, node, *function, *argument))

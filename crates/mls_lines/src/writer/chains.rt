@@ -2,7 +2,7 @@
 ghost use Rattle.std.specs.Prelude.{OnOk};
 ghost use Rattle.mls_lines.specs.Writer.{Lengthens};
 
-use crate::steps::copied;
+use crate::steps::whole_copy;
 use crate::writer::joined::MEMBERS;
 use crate::writer::{PartView, Writer};
 use mls_base::memory::Memory;
@@ -55,7 +55,7 @@ impl Writer {
             self.chains.insert(first, env)?;
         }
         match self.chains.get(&first) {
-            Some(env) if !env.is_empty() => Ok(Some(copied(alloc, env.as_slice())?)),
+            Some(env) if !env.is_empty() => Ok(Some(whole_copy(env)?)),
             _ => Ok(None),
         }
     }

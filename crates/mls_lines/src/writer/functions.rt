@@ -83,15 +83,20 @@ impl Writer {
         Ok(own)
     }
 
-    // The type of the function of an application: that which the function has, if it is one of functions, or else that
-    // of the goal. A binder may have the type of its own node.
-    fn applied(&self, view: &PartView, node: usize, function: usize) -> Result<ArrowNode, Memory> {
+    // The type of the function of an application, and whether the function has it: that is so if its own type is one of
+    // functions, and else it is that of the goal. A binder may have the type of its own node.
+    fn applied(
+        &self,
+        view: &PartView,
+        node: usize,
+        function: usize,
+    ) -> Result<(ArrowNode, bool), Memory> {
         if let Some(root) = self.placed_type(view, function)? {
             if let Some(arrow) = self.arrow_at(root) {
-                return Ok(arrow);
+                return Ok((arrow, true));
             }
         }
-        self.function(behind(view.posing.root(node), 2)?)
+        Ok((self.function(behind(view.posing.root(node), 2)?)?, false))
     }
 
     // The type of the function of an application and the environment of both parts. Where a function of this type needs
@@ -107,7 +112,7 @@ impl Writer {
     ) -> Result<Applied, Memory>
         ensures { OnOk result (Lengthens self.old.laid self.new.laid) }
     {
-        let arrow = self.applied(view, node, function)?;
+        let (arrow, is_own) = self.applied(view, node, function)?;
         let own = self.own_type(argument, arrow.from)?;
         let env = self.env_of_application(
             alloc,
@@ -116,8 +121,7 @@ impl Writer {
             (function, arrow.node),
             (argument, own),
         )?;
-        let is_there = self.placed_type(view, function)? == Some(arrow.node)
-            && self.has_env(function, arrow.node, env.as_slice());
+        let is_there = is_own && self.has_env(function, arrow.node, env.as_slice());
         if is_there || own == arrow.from || !self.has_env(argument, own, env.as_slice()) {
             return Ok(Applied { arrow, env });
         }

@@ -9,7 +9,7 @@ ghost use Rattle.mls_lines.specs.Stepping.{binder_node, conclusion_of};
 ghost use Rattle.mls_lines.specs.Writer.{Grows, HaveRisingSteps, Offers, own_node};
 
 use crate::envs::{both, with};
-use crate::steps::{Conclusion, are_same, copied, node_of};
+use crate::steps::{Conclusion, are_same, copied, node_of, whole_copy};
 use crate::writer::nodes::behind;
 use crate::writer::{Concluded, PartView, Writer};
 use mls_base::memory::Memory;
@@ -54,11 +54,10 @@ impl Writer {
         ensures { IsRising of.now.env → (u : ℕ) → IfOk result
             (IsOffered (own_node self.now view.now.posing.now) (by_step (conclusion_of of.now)) u) }
     {
-        let env = of.env.as_slice();
         if of.puts.is_empty() {
-            return copied(alloc, env);
+            return whole_copy(&of.env);
         }
-        self.placed(alloc, view, env)
+        self.placed(alloc, view, of.env.as_slice())
     }
 
     /// The environment in which a node has this type with least effort: a binder may have it itself, and what still
@@ -90,7 +89,7 @@ impl Writer {
                 [only] => only.binder == *x && only.node == root,
                 _ => false,
             },
-            Some(Concluded::Step(of)) => of.puts.is_empty() && of.env.as_slice() == env,
+            Some(Concluded::Step(of)) => of.puts.is_empty() && are_same(of.env.as_slice(), env),
             None => false,
         }
     }
