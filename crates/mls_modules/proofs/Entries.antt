@@ -35,7 +35,7 @@ use Rattle.mls_infer.specs.declared.fault.InferFault.TheVariants as fault
 use Rattle.mls_infer.specs.Inference.{AreNames, schemes_in, IsBestFor, IsFirstWithout}
 use Rattle.mls_shape.specs.Simplified.{IsSimplified}
 use Rattle.mls_print.specs.Laws.{ReadsBack}
-use Rattle.mls_print.specs.Printed.{IsPrinted}
+use Rattle.mls_print.specs.Printed.{HasNamedFields, IsPrinted}
 use Rattle.mls_iface.specs.declared.interface.Interface.{Interface}
 use Rattle.mls_iface.specs.declared.signature.SigEntry.{SigEntry}
 use Rattle.mls_iface.specs.declared.signature.Signature.{Signature}
@@ -67,10 +67,10 @@ printed_alike s printed read (other, other_reads, alike) reads t is_t =
 
 -- the entry of a binding whose term has this scheme, of which this is printed
 pub is_entry : (known : Names) (b : ResolvedBinding) (s : Scheme) (e : SigEntry)
-    → IsTerm (length known.schemes) b.term.nodes b.term.binders b.term.lets → e.name ≡ b.name → IsName b.name → IsScheme s → IsSimplified s → IsBestFor known b.term s
+    → IsTerm (length known.schemes) b.term.nodes b.term.binders b.term.lets → e.name ≡ b.name → IsName b.name → IsScheme s → IsSimplified s → s.env ≡ [] → HasNamedFields s.automaton → IsBestFor known b.term s
     → IsPrinted s e.text → ReadsBack s e.text → IsPlain e.text → IsTypeText e.text e.scheme
     → (imports : List Interface) (earlier : List SigEntry) → MeanAfter imports earlier known → IsEntryOf imports earlier b e
-is_entry known b s e term same name is simple best shown back plain reads imports earlier mean = record {
+is_entry known b s e term same name is simple free named best shown back plain reads imports earlier mean = record {
   name = same;
   is_entry = record { name = subst IsName (sym same) name; plain = plain; reads = reads };
   term_tree = term.tree;
@@ -79,7 +79,7 @@ is_entry known b s e term same name is simple best shown back plain reads import
       let K : Known → Type 0 = λ known. IsBest known term.tree (scheme_of e.scheme) in
       subst K (ap at_start mean)
       (printed_best (at_start (schemes_in known)) term.tree s e.text e.scheme is back reads (λ u of. best term.tree u term.nodes_are of));
-  printed = record { scheme = s; is = is; simplified = simple; printed = shown; equivalent = printed_alike s e.text e.scheme back reads };
+  printed = record { scheme = s; is = is; simplified = simple; free = free; named = named; printed = shown; equivalent = printed_alike s e.text e.scheme back reads };
 }
 
 -- what stands at a number of a list with one member more

@@ -1,5 +1,5 @@
 -- The entries of a module's signature.
-use Rattle.std.specs.Prelude.{◌≡◌, ℕ, List, length, take, slice_get, Some}
+use Rattle.std.specs.Prelude.{◌≡◌, ℕ, List, [], length, take, slice_get, Some}
 use Rattle.mls_book.specs.Schemes as book
 use Rattle.mls_book.specs.Schemes.{AreEquivalent}
 use Rattle.mls_term.specs.declared.term.Resolved.{Resolved}
@@ -14,7 +14,7 @@ use Rattle.mls_typetext.specs.Schemes.{scheme_of}
 use Rattle.mls_automaton.specs.declared.scheme.Scheme.{Scheme}
 use Rattle.mls_automaton.specs.Schemes.{IsScheme, IsSchemeOf}
 use Rattle.mls_shape.specs.Simplified.{IsSimplified}
-use Rattle.mls_print.specs.Printed.{IsPrinted}
+use Rattle.mls_print.specs.Printed.{HasNamedFields, IsPrinted}
 use Rattle.mls_iface.specs.declared.interface.Interface.{Interface}
 use Rattle.mls_iface.specs.declared.matching.MatchAnswer.{MatchAnswer}
 use Rattle.mls_iface.specs.declared.signature.SigEntry.{SigEntry}
@@ -23,11 +23,14 @@ use Rattle.mls_iface.specs.Matches.{IsMatchAnswer}
 use Rattle.mls_iface.specs.Signatures.{IsEntry}
 use Rattle.mls_modules.specs.Environments.{declared_names, known_after}
 
--- the text is printed of a simplified scheme, which is equivalent to what the text is read as
+-- the text is printed of a simplified scheme, which needs no binder, whose labels are names, and which is equivalent to
+-- what the text is read as
 pub record IsSimplyPrinted (text : List ℕ) (read : ReadScheme) : Type 0 where
   pub scheme : Scheme
   pub is : IsScheme scheme
   pub simplified : IsSimplified scheme
+  pub free : scheme.env ≡ []
+  pub named : HasNamedFields scheme.automaton
   pub printed : IsPrinted scheme text
   pub equivalent : (t : book.Scheme) → IsSchemeOf scheme t → AreEquivalent (scheme_of read) t
 

@@ -1,8 +1,8 @@
 //! A type scheme as the text of a type.
-ghost use Rattle.std.specs.Prelude.{◌≡◌, [], IfOk};
+ghost use Rattle.std.specs.Prelude.{◌≡◌, [], IfOk, OnOk};
 ghost use Rattle.mls_automaton.specs.Schemes.{IsScheme};
 ghost use Rattle.mls_print.specs.Laws.{ReadsBack, IsOneLine};
-ghost use Rattle.mls_print.specs.Printed.{IsPrinted};
+ghost use Rattle.mls_print.specs.Printed.{HasNamedFields, IsPrinted};
 
 use crate::layout::layout_of;
 use crate::spelled::read_labels;
@@ -15,7 +15,7 @@ use mls_base::memory::Memory;
 use std::alloc::Global;
 
 /// The printed text of a scheme that needs no binder. It is read as an equivalent scheme, and has no newline and no
-/// comment.
+/// comment. The labels of a scheme are names, as their type says.
 ///
 /// # Errors
 ///
@@ -26,6 +26,7 @@ pub fn print_scheme(alloc: Global, s: &Scheme) -> Result<Vec<u8>, Memory>
     ensures text { IfOk result (λ text. IsPrinted s.now text.items) }
     ensures reads_back { IfOk result (λ text. ReadsBack s.now text.items) }
     ensures one_line { IfOk result (λ text. IsOneLine text.items) }
+    ensures named { OnOk result (HasNamedFields s.now.automaton) }
 {
     let automaton = &s.automaton;
     read_labels(automaton);

@@ -46,3 +46,6 @@ returns-clause-one_line c =
     let small : c.in_ok-text.text.cap < 9223372036854775808 = c.in_ok-text.text.small in
     let short : length c.in_ok-text.text.items < 18446744073709551616 = omega arith in
     printed_is_one_line c.args.s.now c.in_ok-text.text.items c.requires.scheme c.read_labels.ensures c.requires.env (returns-clause-text c) short
+
+pub returns-clause-named : goal.returns-clause-named
+returns-clause-named c = c.read_labels.ensures
