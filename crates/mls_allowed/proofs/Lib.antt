@@ -73,3 +73,4 @@ pub mod SectionParts
 pub mod KnownBooks
 pub mod LetPuts
 pub mod GlobalPuts
+pub mod Updated

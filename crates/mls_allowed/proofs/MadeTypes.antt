@@ -7,11 +7,11 @@
 --     firsts_start, firsts_same, firsts_more, firsts_added
 --                             the types of first parts, one root after another
 --     have_first_types        so all lets have such types
-use Rattle.std.proofs.Common.{◌≡◌, ◌⊎◌, inl, inr, ℕ, ◌+◌, ◌<◌, Bool, true, false, cond, arith, List, [], ◌∷◌, ◌++◌, length, refl, sym, ap, ◌∙◌, subst, Contains, Option, Some, None}
+use Rattle.std.proofs.Common.{◌≡◌, ◌⊎◌, inl, inr, ℕ, ◌+◌, ◌<◌, arith, List, [], ◌∷◌, ◌++◌, length, refl, sym, ap, ◌∙◌, subst, Contains, Option, Some, None}
 use Rattle.std.specs.Prelude.{◌↔◌, IsSome, is_some}
-use Rattle.std.specs.BTreeMap.{BTreeMap, get, is_at, Updates}
+use Rattle.std.specs.BTreeMap.{BTreeMap, is_at, Updates}
 use Rattle.std.specs.Map.{lookup}
-use Rattle.std.specs.Ordering.{nat_cmp, is_eq}
+use Rattle.std.specs.Ordering.{nat_cmp}
 use Rattle.std.proofs.lemmas.List.Elements.{Contains-push_cases}
 use Rattle.mls_book.proofs.LongerBooks.{below_or_more}
 use Rattle.mls_automaton.specs.declared.scheme.Scheme.{Scheme}
@@ -27,7 +27,6 @@ use Rattle.mls_term.specs.WellFormed.{IsTerm, HasRisingTree}
 use Rattle.mls_typing.proofs.Lists.{Contains-here, Contains-later}
 use Rattle.mls_deriv.specs.Steps.{form_at}
 use Rattle.mls_layout.specs.PosedNodes.{IsNodePosed}
-use Rattle.mls_layout.proofs.KeySets.{number_same, number_self}
 use Rattle.mls_parts.specs.declared.binders.PartBinders.{PartBinders}
 use Rattle.mls_parts.specs.declared.pose.KnownTypes.{KnownTypes}
 use Rattle.mls_parts.specs.declared.pose.Posing.{Posing}
@@ -52,6 +51,7 @@ use Rattle.mls_allowed.proofs.AroundParts.{part_around}
 use Rattle.mls_allowed.proofs.FirstScopes.{IsFirstAround, first_around}
 use Rattle.mls_allowed.proofs.FirstTypes.{made_first_type}
 use Rattle.mls_allowed.proofs.ReadyParts.{state_back}
+use Rattle.mls_allowed.proofs.Updated.{updated_at, updated_own}
 
 -- the binders around each let of a tree are in scope, in whichever order
 module _ (let_scope : ℕ → List ℕ) where
@@ -252,19 +252,8 @@ module _ (nodes : List TermNode) (globals : BTreeMap ℕ Scheme) (let_scope : �
     new_let : IsSome (known_in old k) → ⊥
     new_let some = type_new own_lets old r i k l e it some
 
-    -- what is known of a let in the end
-    at_key : (q : ℕ) → ((k ≡ q) × (known_in new q ≡ Some own)) ⊎ ((k ≡ q → ⊥) × (known_in new q ≡ known_in old q))
-    at_key q = go (is_eq (nat_cmp k q)) refl
-      where
-        go : (b : Bool) → is_eq (nat_cmp k q) ≡ b → ((k ≡ q) × (known_in new q ≡ Some own)) ⊎ ((k ≡ q → ⊥) × (known_in new q ≡ known_in old q))
-        go true same = inl (number_same k q same, updates.0 q ∙ (λ i. cond (same i) (Some own) (get nat_cmp old q)))
-        go false other = inr (
-          (λ same. absurd (let wrong : is_eq (nat_cmp k q) ≡ true = subst (λ x. is_eq (nat_cmp k x) ≡ true) same (number_self k) in cc)),
-          updates.0 q ∙ (λ i. cond (other i) (Some own) (get nat_cmp old q)),
-        )
-
     kept : IsKept old new
-    kept q s known = elim (at_key q) [
+    kept q s known = elim (updated_at old new k own updates q) [
       | inl at ↦ absurd (new_let (subst (λ m. IsSome (known_in old m)) (sym at.0) (ap is_some known)))
       | inr other ↦ other.1 ∙ known
     ]
@@ -281,18 +270,18 @@ module _ (nodes : List TermNode) (globals : BTreeMap ℕ Scheme) (let_scope : �
         let one : i ≡ h = tree.one i h r (form.Let k r l) (form.Let q r m) e here (Contains-here r (l ∷ [])) (Contains-here r (m ∷ [])) in
         let form : form.Let k r l ≡ form.Let q r m = one_form nodes h (form.Let k r l) (form.Let q r m) (subst (λ z. form_at nodes z ≡ Some (form.Let k r l)) one e) here in
         let number : k ≡ q = cc in
-        let known : known_in new k ≡ Some own = elim (at_key k) [ inl own_at ↦ own_at.1 | inr other ↦ absurd (other.0 refl) ] in
+        let known : known_in new k ≡ Some own = updated_own old new k own updates in
         (own, subst (λ z. known_in new z ≡ Some own) number known, subst (λ z. IsFirstMade nodes globals new z own) (sym root) (made_kept nodes globals old new kept r own mine))
 
     pub firsts_more : AreFirstsMade nodes globals new let_scope (r + 1)
     unfolding Made
     firsts_more = record {
       made = λ h q j m at low. made_at h q j m at (below_or_more j r) low;
-      only = λ q some. elim (at_key q) [
+      only = λ q some. elim (updated_at old new k own updates q) [
         | inl own_at ↦ (i, r, l, subst (λ z. form_at nodes i ≡ Some (form.Let z r l)) own_at.0 e, omega arith)
         | inr other ↦ (let at = it.only q (subst (λ o. IsSome o) other.1 some) in let low : at.1 < r = at.4 in (at.0, at.1, at.2, at.3, omega (arith, low)))
       ];
-      needs = λ q x need. elim (at_key q) [
+      needs = λ q x need. elim (updated_at old new k own updates q) [
         | inl own_at ↦ subst (λ z. Contains (let_scope z) x) own_at.0 (first_needs old it.needs i k r l e own mine x (subst (λ o. NeedsBinder o x) own_at.1 need))
         | inr other ↦ it.needs q x (subst (λ o. NeedsBinder o x) other.1 need)
       ];

@@ -1,9 +1,8 @@
 -- The types of the names of a part are known before it is written.
---     term_nodes            the nodes of a term, and of each term of a module
+--     of_term, term_at      the nodes of a term, and each term of a module
 --     read_type             a type that was read has no binders, so it may be copied everywhere
 --     no_name, one_name, same_name, name_form, no_form
 --                           what is known of no name, of one name more, of one that is known, and of a node
---     at_key, at_own, at_other        what a map knows after a name was added
 --     all_before            binders before one of rising binders are below it
 --     globals_none, globals_more      what is known of the names of the environment, one node after another
 --     firsts_none           no first part stands before the first node
@@ -27,7 +26,7 @@ use Rattle.mls_automaton.specs.Schemes.{IsScheme}
 use Rattle.mls_automaton.specs.Sets.{Rises}
 use Rattle.mls_automaton.proofs.Passing.{states_more}
 use Rattle.mls_typetext.specs.declared.scheme.ReadScheme.{ReadScheme}
-use Rattle.mls_scheme.specs.ReadTypes.{IsReadFromBook}
+use Rattle.mls_scheme.specs.ReadTypes.{IsEquivalentToRead, IsReadFromBook}
 use Rattle.mls_term.specs.declared.term.ResolvedBinding.{ResolvedBinding}
 use Rattle.mls_term.specs.declared.term.TermForm.{TermForm}
 use Rattle.mls_term.specs.declared.term.TermForm.TheVariants as form
@@ -36,7 +35,6 @@ use Rattle.mls_term.specs.WellFormed.{IsTerm}
 use Rattle.mls_typing.proofs.Lists.{Contains-here}
 use Rattle.mls_deriv.specs.Laws.{AreTerms}
 use Rattle.mls_deriv.specs.Steps.{form_at}
-use Rattle.mls_layout.proofs.KeySets.{number_same, number_self}
 use Rattle.mls_layout.proofs.WorkedParts.{nothing}
 use Rattle.mls_parts.specs.declared.pose.KnownTypes.{KnownTypes}
 use Rattle.mls_parts.specs.declared.pose.Posing.{Posing}
@@ -51,22 +49,25 @@ use Rattle.mls_parts.specs.TreeNodes.{AreTreeNodes}
 use Rattle.mls_parts.proofs.SplitParts.{own_labels, behind_firsts, first_before_let, first_before_use}
 use Rattle.mls_parts.proofs.TreeNodes.{tree_nodes}
 use Rattle.mls_allowed.specs.MadeFirsts.{around_states, same, more, IsFirstMade, IsNoFirst}
-use Rattle.mls_emit.specs.Drafts.{AreNameTypes, AreTermNodes, HaveNoBinders, KnowGlobals, KnowFirsts, KnowsBefore, KnowsForm, KnowsFirst, KnowsName}
+use Rattle.mls_sections.specs.KnownNames.{AreNameTypes}
+use Rattle.mls_allowed.proofs.Updated.{updated_at, updated_other, updated_own}
+use Rattle.mls_emit.specs.Drafts.{AreTermNodes, HaveNoBinders, KnowGlobals, KnowFirsts, KnowsBefore, KnowsForm, KnowsFirst, KnowsName}
 
 -- the nodes of a term, and of each term of a module
-of_term : (globals : ℕ) (nodes : List TermNode) (binders lets : ℕ) → IsTerm globals nodes binders lets → AreTermNodes nodes
+pub of_term : (globals : ℕ) (nodes : List TermNode) (binders lets : ℕ) → IsTerm globals nodes binders lets → AreTermNodes nodes
 of_term globals nodes binders lets term = record {
   tree = tree_nodes nodes term.tree term.nodes_are;
   labels = own_labels globals nodes binders lets term;
   firsts = behind_firsts globals nodes binders lets term;
 }
 
-pub term_nodes : (count : ℕ) (bindings : List ResolvedBinding) → AreTerms count bindings → (k : ℕ) (b : ResolvedBinding) → slice_get bindings k ≡ Some b → AreTermNodes b.term.nodes
-term_nodes count [] all k b is = absurd (cc)
-term_nodes count (first ∷ rest) all zero b is =
+pub term_at : (count : ℕ) (bindings : List ResolvedBinding) → AreTerms count bindings → (k : ℕ) (b : ResolvedBinding) → slice_get bindings k ≡ Some b
+    → (many : ℕ) × IsTerm many b.term.nodes b.term.binders b.term.lets
+term_at count [] all k b is = absurd (cc)
+term_at count (first ∷ rest) all zero b is =
     let same : first ≡ b = cc in
-    subst (λ (c : ResolvedBinding). AreTermNodes c.term.nodes) same (of_term count first.term.nodes first.term.binders first.term.lets all.0)
-term_nodes count (first ∷ rest) all (suc k) b is = term_nodes (suc count) rest all.1 k b is
+    subst (λ (c : ResolvedBinding). (many : ℕ) × IsTerm many c.term.nodes c.term.binders c.term.lets) same (count, all.0)
+term_at count (first ∷ rest) all (suc k) b is = term_at (suc count) rest all.1 k b is
 
 -- a type without binders
 pub read_type : (s : Scheme) → IsScheme s → s.env ≡ [] → IsKnownType [] s
@@ -100,51 +101,28 @@ all_before p binders rises i low k d less =
     let at : (get_or (entries_of states) k d).binder ≡ get_or binders k 0 = ap (λ (e : EnvEntry). e.binder) first ∙ ap (λ (q : ℕ × ℕ). q.0) second ∙ third in
     subst (λ x. x < get_or binders i 0) (sym at) (rises k i under low)
 
--- what a map knows after a name was added
-pub at_key : {X : Type 0} (old new : BTreeMap ℕ X) (k : ℕ) (s : X) → Updates nat_cmp old new k (Some s) → (q : ℕ) → (get nat_cmp new q ≡ Some s) ⊎ ((k ≡ q → ⊥) × (get nat_cmp new q ≡ get nat_cmp old q))
-at_key old new k s updates q = go (is_eq (nat_cmp k q)) refl
-  where
-    go : (b : Bool) → is_eq (nat_cmp k q) ≡ b → (get nat_cmp new q ≡ Some s) ⊎ ((k ≡ q → ⊥) × (get nat_cmp new q ≡ get nat_cmp old q))
-    go true e = inl (updates.0 q ∙ (λ i. cond (e i) (Some s) (get nat_cmp old q)))
-    go false e = inr (
-      (λ same. absurd (let wrong : is_eq (nat_cmp k q) ≡ true = subst (λ x. is_eq (nat_cmp k x) ≡ true) same (number_self k) in cc)),
-      updates.0 q ∙ (λ i. cond (e i) (Some s) (get nat_cmp old q)),
-    )
-
-pub at_own : {X : Type 0} (old new : BTreeMap ℕ X) (k : ℕ) (s : X) → Updates nat_cmp old new k (Some s) → get nat_cmp new k ≡ Some s
-at_own old new k s updates =
-    let e : is_eq (nat_cmp k k) ≡ true = number_self k in
-    updates.0 k ∙ (λ i. cond (e i) (Some s) (get nat_cmp old k))
-
--- the other names are known as before
-pub at_other : {X : Type 0} (old new : BTreeMap ℕ X) (k : ℕ) (s : X) → Updates nat_cmp old new k (Some s) → (q : ℕ) → (q ≢ k) → get nat_cmp new q ≡ get nat_cmp old q
-at_other old new k s updates q apart = go (is_eq (nat_cmp k q)) refl
-  where
-    go : (b : Bool) → is_eq (nat_cmp k q) ≡ b → get nat_cmp new q ≡ get nat_cmp old q
-    go true e = absurd (apart (sym (number_same k q e)))
-    go false e = updates.0 q ∙ (λ i. cond (e i) (Some s) (get nat_cmp old q))
-
+-- no name is known
 pub no_name : (reads : List ReadScheme) (globals : BTreeMap ℕ Scheme) → IsEmpty globals → AreNameTypes reads globals
 no_name reads globals none g s is =
     let empty : known_in globals g ≡ None = ap (lookup (is_at (nat_cmp g))) none in
     absurd (let wrong : None ≡ Some s = sym empty ∙ is in cc)
 
-pub one_name : (old new : BTreeMap ℕ Scheme) (g : ℕ) (read : ReadScheme) (s : Scheme) → Updates nat_cmp old new g (Some s) → IsKnownType [] s → IsReadFromBook read s → KnowsName old new g read
-one_name old new g read s updates is from = record {
-  there = ap is_some (at_own old new g s updates);
-  kept = λ h has. elim (at_key old new g s updates h) [
-    | inl at ↦ ap is_some at
+pub one_name : (old new : BTreeMap ℕ Scheme) (g : ℕ) (read : ReadScheme) (s : Scheme) → Updates nat_cmp old new g (Some s) → IsKnownType [] s → IsReadFromBook read s → IsEquivalentToRead read s → KnowsName old new g read
+one_name old new g read s updates is from equivalent = record {
+  there = ap is_some (updated_own old new g s updates);
+  kept = λ h has. elim (updated_at old new g s updates h) [
+    | inl at ↦ ap is_some at.1
     | inr other ↦ ap is_some other.1 ∙ has
   ];
   back = λ h t has. go h t has (cases_eq h g);
 }
   where
-    go : (h : ℕ) (t : Scheme) → known_in new h ≡ Some t → (h ≡ g) ⊎ (h ≢ g) → (known_in old h ≡ Some t) ⊎ ((h ≡ g) × IsKnownType [] t × IsReadFromBook read t)
+    go : (h : ℕ) (t : Scheme) → known_in new h ≡ Some t → (h ≡ g) ⊎ (h ≢ g) → (known_in old h ≡ Some t) ⊎ ((h ≡ g) × IsKnownType [] t × IsReadFromBook read t × IsEquivalentToRead read t)
     go h t has (inl here) =
-        let at : known_in new h ≡ Some s = subst (λ k. known_in new k ≡ Some s) (sym here) (at_own old new g s updates) in
+        let at : known_in new h ≡ Some s = subst (λ k. known_in new k ≡ Some s) (sym here) (updated_own old new g s updates) in
         let alike : s ≡ t = (let both : Some s ≡ Some t = sym at ∙ has in cc) in
-        inr (here, subst (IsKnownType []) alike is, subst (IsReadFromBook read) alike from)
-    go h t has (inr apart) = inl (sym (at_other old new g s updates h apart) ∙ has)
+        inr (here, subst (IsKnownType []) alike is, subst (IsReadFromBook read) alike from, subst (IsEquivalentToRead read) alike equivalent)
+    go h t has (inr apart) = inl (sym (updated_other old new g s updates h apart) ∙ has)
 
 pub same_name : (old : BTreeMap ℕ Scheme) (g : ℕ) (read : ReadScheme) → IsSome (known_in old g) → KnowsName old old g read
 same_name old g read there = record {
@@ -158,7 +136,7 @@ pub name_form : (reads : List ReadScheme) (old new : BTreeMap ℕ Scheme) (g : �
 name_form reads old new g read types is name = record {
   types = λ h s has. elim (name.back h s has) [
     | inl before ↦ types h s before
-    | inr it ↦ record { known = it.1; read = read; is = subst (λ k. slice_get reads k ≡ Some read) (sym it.0) is; from = it.2 }
+    | inr it ↦ record { known = it.1; read = read; is = subst (λ k. slice_get reads k ≡ Some read) (sym it.0) is; from = it.2; equivalent = it.3 }
   ];
   there = λ h same. (let alike : g ≡ h = cc in subst (λ j. IsSome (known_in new j)) alike name.there);
   kept = name.kept;
@@ -202,8 +180,8 @@ module _ (nodes : List TermNode) (r : ℕ) where
 
   pub firsts_more : AreTreeNodes nodes → (old new : BTreeMap ℕ Scheme) (i k l : ℕ) → KnowFirsts nodes old r → form_at nodes i ≡ Some (form.Let k r l) → (s : Scheme) → KnowsFirst old new k s
       → KnowFirsts nodes new (r + 1)
-  firsts_more tree old new i k l know is s first j h f m e low = elim (at_key old new k s first.updates h) [
-    | inl at ↦ subst HasOwnType (sym at) first.own
+  firsts_more tree old new i k l know is s first j h f m e low = elim (updated_at old new k s first.updates h) [
+    | inl at ↦ subst HasOwnType (sym at.1) first.own
     | inr other ↦ subst HasOwnType (sym other.1) (elim (below_or_more f r) [
       | inl before ↦ know j h f m e before
       | inr it ↦ absurd (other.0 (alike it.0 it.1))

@@ -2,3 +2,4 @@ pub mod KnownNames
 pub mod PlacedNames
 pub mod KeptDrafts
 pub mod AddedParts
+pub mod PlainSections

@@ -12,7 +12,7 @@ use Rattle.std.specs.Ordering.{nat_cmp}
 use Rattle.mls_book.specs.declared.book.Node.{Node}
 use Rattle.mls_book.proofs.LongerBooks.{below_or_more}
 use Rattle.mls_typetext.specs.declared.scheme.ReadScheme.{ReadScheme}
-use Rattle.mls_iface.specs.Matches.{IsRead}
+use Rattle.mls_typetext.specs.Laws.{IsReadScheme}
 use Rattle.mls_term.specs.declared.term.TermForm.{TermForm}
 use Rattle.mls_term.specs.declared.term.TermForm.TheVariants as form
 use Rattle.mls_term.specs.declared.term.TermNode.{TermNode}
@@ -22,7 +22,7 @@ use Rattle.mls_lines.specs.declared.known.GlobalAt.{GlobalAt}
 use Rattle.mls_lines.specs.Globals.{IsGlobalAt}
 use Rattle.mls_lines.proofs.Lengthening.{global_kept}
 use Rattle.mls_emit.specs.Drafts.{AreGlobalsIn, HavePlaces, IsGlobalIn, PlacesForm}
-use Rattle.mls_emit.proofs.KnownNames.{at_key, at_other, at_own}
+use Rattle.mls_allowed.proofs.Updated.{updated_at, updated_other, updated_own}
 
 -- no name has a place at first
 pub no_globals : (reads : List ReadScheme) (book : List Node) (next : ℕ) (globals : BTreeMap ℕ GlobalAt) → IsEmpty globals → AreGlobalsIn reads book next globals
@@ -33,37 +33,34 @@ no_globals reads book next globals none g global is =
 -- a place stays in a longer book, where later variables have greater numbers
 kept_in : (reads : List ReadScheme) (old new : List Node) (next later g : ℕ) (global : GlobalAt) → IsLonger old new → next ≤ later → IsGlobalIn reads old next g global → IsGlobalIn reads new later g global
 kept_in reads old new next later g global longer more it = record {
-  read = it.read;
-  is = it.is;
-  is_read = it.is_read;
-  at = global_kept old new it.read global longer it.at;
-  below = (let below : it.read.vars ≤ next = it.below in omega (arith, below, more));
+  of = record { read = it.of.read; is = it.of.is; good = it.of.good; at = global_kept old new it.of.read global longer it.of.at };
+  below = (let below : it.of.read.vars ≤ next = it.below in omega (arith, below, more));
 }
 
 pub globals_kept : (reads : List ReadScheme) (old new : List Node) (next later : ℕ) (globals : BTreeMap ℕ GlobalAt) → IsLonger old new → next ≤ later → AreGlobalsIn reads old next globals → AreGlobalsIn reads new later globals
 globals_kept reads old new next later globals longer more it g global is = kept_in reads old new next later g global longer more (it g global is)
 
 -- one name more
-pub place_more : (reads : List ReadScheme) (book : List Node) (next : ℕ) (old new : BTreeMap ℕ GlobalAt) (g : ℕ) (read : ReadScheme) (global : GlobalAt) → slice_get reads g ≡ Some read → IsRead read → IsGlobalAt book read global
+pub place_more : (reads : List ReadScheme) (book : List Node) (next : ℕ) (old new : BTreeMap ℕ GlobalAt) (g : ℕ) (read : ReadScheme) (global : GlobalAt) → slice_get reads g ≡ Some read → IsReadScheme read → IsGlobalAt book read global
     → read.vars ≤ next → AreGlobalsIn reads book next old → Updates nat_cmp old new g (Some global) → PlacesForm reads book next old new (form.Global g)
-place_more reads book next old new g read global is is_read at below before updates = record {
+place_more reads book next old new g read global is good at below before updates = record {
   globals = λ h other found. each h other found (cases_eq h g);
-  there = λ h same. (let alike : g ≡ h = cc in subst (λ j. IsSome (get nat_cmp new j)) alike (ap is_some (at_own old new g global updates)));
-  kept = λ h has. elim (at_key old new g global updates h) [
-    | inl here ↦ ap is_some here
+  there = λ h same. (let alike : g ≡ h = cc in subst (λ j. IsSome (get nat_cmp new j)) alike (ap is_some (updated_own old new g global updates)));
+  kept = λ h has. elim (updated_at old new g global updates h) [
+    | inl here ↦ ap is_some here.1
     | inr other ↦ ap is_some other.1 ∙ has
   ];
 }
   where
     own : IsGlobalIn reads book next g global
-    own = record { read = read; is = is; is_read = is_read; at = at; below = below }
+    own = record { of = record { read = read; is = is; good = good; at = at }; below = below }
 
     each : (h : ℕ) (other : GlobalAt) → get nat_cmp new h ≡ Some other → (h ≡ g) ⊎ (h ≢ g) → IsGlobalIn reads book next h other
     each h other found (inl here) =
-        let there : get nat_cmp new h ≡ Some global = subst (λ k. get nat_cmp new k ≡ Some global) (sym here) (at_own old new g global updates) in
+        let there : get nat_cmp new h ≡ Some global = subst (λ k. get nat_cmp new k ≡ Some global) (sym here) (updated_own old new g global updates) in
         let alike : global ≡ other = (let both : Some global ≡ Some other = sym there ∙ found in cc) in
         subst (λ k. IsGlobalIn reads book next k other) (sym here) (subst (IsGlobalIn reads book next g) alike own)
-    each h other found (inr apart) = before h other (sym (at_other old new g global updates h apart) ∙ found)
+    each h other found (inr apart) = before h other (sym (updated_other old new g global updates h apart) ∙ found)
 
 pub place_same : (reads : List ReadScheme) (book : List Node) (next : ℕ) (globals : BTreeMap ℕ GlobalAt) (g : ℕ) → AreGlobalsIn reads book next globals → IsSome (get nat_cmp globals g)
     → PlacesForm reads book next globals globals (form.Global g)

@@ -1,26 +1,26 @@
 -- What is known of the names of a term while its section is written, part by part.
-use Rattle.std.specs.Prelude.{◌≡◌, ◌⊎◌, ℕ, ◌<◌, ◌≤◌, List, [], ◌++◌, length, map, slice_get, IsSome, Some}
+use Rattle.std.specs.Prelude.{◌≡◌, ◌⊎◌, ℕ, ◌<◌, ◌≤◌, List, [], length, IsSome, Some}
 use Rattle.std.specs.BTreeMap.{BTreeMap, Updates, get}
 use Rattle.std.specs.Ordering.{nat_cmp}
 use Rattle.mls_book.specs.declared.book.Node.{Node}
+use Rattle.mls_book.specs.Books.{IsClosedBook}
 use Rattle.mls_automaton.specs.declared.scheme.Scheme.{Scheme}
 use Rattle.mls_automaton.specs.Environments.{BindersRise}
 use Rattle.mls_typetext.specs.declared.scheme.ReadScheme.{ReadScheme}
-use Rattle.mls_scheme.specs.ReadTypes.{IsReadFromBook}
-use Rattle.mls_iface.specs.Matches.{IsRead}
-use Rattle.mls_iface.specs.declared.signature.SigEntry.{SigEntry}
+use Rattle.mls_scheme.specs.ReadTypes.{IsEquivalentToRead, IsReadFromBook}
 use Rattle.mls_term.specs.declared.term.TermForm.{TermForm}
 use Rattle.mls_term.specs.declared.term.TermForm.TheVariants as form
 use Rattle.mls_term.specs.declared.term.TermNode.{TermNode}
 use Rattle.mls_deriv.specs.Steps.{form_at}
+use Rattle.mls_layout.specs.LaidOut.{IsLonger}
 use Rattle.mls_parts.specs.declared.pose.KnownTypes.{KnownTypes}
 use Rattle.mls_parts.specs.PartUses.{AreBehindFirsts, HasOwnType, HaveOwnLabels}
 use Rattle.mls_parts.specs.PosedParts.{IsKnownType}
 use Rattle.mls_parts.specs.Posings.{known_in}
 use Rattle.mls_parts.specs.TreeNodes.{AreTreeNodes}
 use Rattle.mls_lines.specs.declared.known.GlobalAt.{GlobalAt}
-use Rattle.mls_lines.specs.Globals.{IsGlobalAt}
 use Rattle.mls_allowed.specs.MadeFirsts.{AreAdded}
+use Rattle.mls_sections.specs.KnownNames.{AreNameTypes, IsGlobalOf}
 
 -- Nodes of one tree, in which no record has a label twice, and each use of a let's name stands behind the let's first
 -- part.
@@ -33,26 +33,13 @@ pub record AreTermNodes (nodes : List TermNode) : Type 0 where
 abbrev pub HaveNoBinders : BTreeMap ℕ Scheme → Type 0
 HaveNoBinders globals = (g : ℕ) (s : Scheme) → known_in globals g ≡ Some s → IsKnownType [] s
 
--- what the names of the environment mean, by their numbers: what is declared, and behind it what the entries say
-abbrev pub names_read : List ReadScheme → List SigEntry → List ReadScheme
-names_read declared entries = declared ++ map (λ (entry : SigEntry). entry.scheme) entries
-
--- a type without binders, read from the book of what the name means
-pub record IsNameType (reads : List ReadScheme) (g : ℕ) (s : Scheme) : Type 0 where
-  pub known : IsKnownType [] s
-  pub read : ReadScheme
-  pub is : slice_get reads g ≡ Some read
-  pub from : IsReadFromBook read s
-
-abbrev pub AreNameTypes : List ReadScheme → BTreeMap ℕ Scheme → Type 0
-AreNameTypes reads globals = (g : ℕ) (s : Scheme) → known_in globals g ≡ Some s → IsNameType reads g s
-
 -- the second map knows the type of this name besides, read from its book, if the first one does not
 pub record KnowsName (old new : BTreeMap ℕ Scheme) (g : ℕ) (read : ReadScheme) : Type 0 where
   pub there : IsSome (known_in new g)
   pub kept : (h : ℕ) → IsSome (known_in old h) → IsSome (known_in new h)
   pub back : (h : ℕ) (s : Scheme) → known_in new h ≡ Some s
-      → (known_in old h ≡ Some s) ⊎ ((h ≡ g) × IsKnownType [] s × IsReadFromBook read s)
+      → (known_in old h ≡ Some s)
+      ⊎ ((h ≡ g) × IsKnownType [] s × IsReadFromBook read s × IsEquivalentToRead read s)
 
 -- the types are known of the names of the environment that stand among the first n nodes
 abbrev pub KnowGlobals : List TermNode → BTreeMap ℕ Scheme → ℕ → Type 0
@@ -81,11 +68,8 @@ pub record KnowsForm (reads : List ReadScheme) (old new : BTreeMap ℕ Scheme) (
 
 -- The type of name g stands in the book, and its variables are below this number.
 pub record IsGlobalIn (reads : List ReadScheme) (book : List Node) (next g : ℕ) (global : GlobalAt) : Type 0 where
-  pub read : ReadScheme
-  pub is : slice_get reads g ≡ Some read
-  pub is_read : IsRead read
-  pub at : IsGlobalAt book read global
-  pub below : read.vars ≤ next
+  pub of : IsGlobalOf book reads g global
+  pub below : of.read.vars ≤ next
 
 -- so do the types of all names of the environment that have places
 abbrev pub AreGlobalsIn : List ReadScheme → List Node → (next : ℕ) → BTreeMap ℕ GlobalAt → Type 0
@@ -96,6 +80,12 @@ AreGlobalsIn reads book next globals =
 abbrev pub HavePlaces : List TermNode → BTreeMap ℕ GlobalAt → ℕ → Type 0
 HavePlaces nodes globals n =
     (i g : ℕ) → i < n → form_at nodes i ≡ Some (form.Global g) → IsSome (get nat_cmp globals g)
+
+-- The second book is the first and more nodes, which leave it closed, and the number of the next variable is no less.
+pub record IsGrown (old new : List Node) (before next : ℕ) : Type 0 where
+  pub longer : IsLonger old new
+  pub closed : IsClosedBook old → IsClosedBook new
+  pub variable : before ≤ next
 
 -- The second map has a place for each name that has one in the first, and for that of a node of this form, if it is one
 -- of the environment.

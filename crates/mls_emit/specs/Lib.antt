@@ -1,3 +1,4 @@
+pub mod Derivable
 pub mod Derived
 pub mod Drafts
 pub mod PlainSections

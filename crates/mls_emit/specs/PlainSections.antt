@@ -1,8 +1,9 @@
 -- A section of which the lines are written plainly, part by part.
-use Rattle.std.specs.Prelude.{◌≡◌, ℕ, List, [], ◌∷◌, ◌++◌, length, Some}
+use Rattle.std.specs.Prelude.{◌≡◌, ℕ, ◌≤◌, List, [], ◌∷◌, ◌++◌, length, Some}
 use Rattle.std.specs.BTreeMap.{Updates}
 use Rattle.std.specs.Ordering.{nat_cmp}
 use Rattle.mls_book.specs.declared.book.Node.{Node}
+use Rattle.mls_book.specs.Books.{IsClosedBook}
 use Rattle.mls_automaton.specs.declared.scheme.Scheme.{Scheme}
 use Rattle.mls_term.specs.declared.term.TermNode.{TermNode}
 use Rattle.mls_typetext.specs.declared.scheme.ReadScheme.{ReadScheme}
@@ -13,7 +14,8 @@ use Rattle.mls_layout.specs.LaidOut.{node_of}
 use Rattle.mls_lines.specs.PlainParts.{type_binders}
 use Rattle.mls_allowed.specs.SectionParts.{HaveCome, IsBegun, SoFar}
 use Rattle.mls_emit.specs.declared.derive.section.Draft.{Draft}
-use Rattle.mls_emit.specs.Drafts.{AreGlobalsIn, AreNameTypes, HavePlaces, KnowGlobals, KnowsFirst}
+use Rattle.mls_sections.specs.KnownNames.{AreNameTypes}
+use Rattle.mls_emit.specs.Drafts.{AreGlobalsIn, HavePlaces, KnowGlobals, KnowsFirst}
 
 -- what a draft has of its section
 abbrev pub so_far : Draft → SoFar
@@ -39,11 +41,14 @@ pub record NamesFirst (old new : SoFar) (k step variable : ℕ) (type : Scheme) 
   pub lines : new.steps.lines ≡ old.steps.lines ++ line.Let k step ∷ []
   pub count : new.steps.count ≡ old.steps.count
 
--- What there is before the first part is written: a section without lines, which knows the types of all names of the
--- environment that the term has, and their places in its book.
+-- What there is before the first part is written: a section without lines over a closed book, which knows the types of
+-- all names of the environment that the term has, and their places in the book. The variables of first parts come
+-- behind those of the type that was read.
 pub record KnowsNames (reads : List ReadScheme) (nodes : List TermNode) (read : ReadScheme) (begun : SoFar) :
     Type 0 where
   pub begun_so : IsBegun read begun
+  pub closed : IsClosedBook begun.book
+  pub variables : read.vars ≤ begun.variable
   pub types : AreNameTypes reads begun.known.globals
   pub known : KnowGlobals nodes begun.known.globals (length nodes)
   pub globals : AreGlobalsIn reads begun.book begun.variable begun.globals

@@ -1,13 +1,17 @@
 //! Derivations of the types of a signature.
-ghost use Rattle.std.specs.Prelude.{◌≡◌, ℕ, length, slice_get, All, IfOk, IfSome, Some};
+ghost use Rattle.std.specs.Prelude.{◌≡◌, ◌<◌, ◌^◌, ℕ, length, slice_get, All, IfOk, IfSome, OnOk, Some};
 ghost use Rattle.mls_deriv.specs.Laws.{AreDerivable, AreTerms};
 ghost use Rattle.mls_deriv.specs.Spellings.{derivation_text};
 ghost use Rattle.mls_deriv.specs.Texts.{IsTextOf};
 ghost use Rattle.mls_infer.specs.Inference.{AreNames};
 ghost use Rattle.mls_iface.specs.Matches.{IsRead};
 ghost use Rattle.mls_iface.specs.Signatures.{IsEntry};
+ghost use Rattle.mls_term.specs.WellFormed.{IsTerm};
+ghost use Rattle.mls_deriv.specs.Sections.{schemes_of, AreSectionsAllowed, IsSectionAllowed};
+ghost use Rattle.mls_sections.specs.KnownNames.{AreNameTypes};
+ghost use Rattle.mls_emit.specs.declared.derive.Way.TheVariants.{Plain};
+ghost use Rattle.mls_emit.specs.Derivable.{CanAllBeDerived, CanBeDerived, names_read};
 ghost use Rattle.mls_emit.specs.Derived.{AreDerivations, entry_names, entry_texts, section_names, section_texts};
-ghost use Rattle.mls_emit.specs.Drafts.{AreNameTypes, AreTermNodes, names_read};
 
 mod known;
 mod prune;
@@ -42,39 +46,44 @@ fn copied_name(name: &Name) -> Result<Name, Memory>
     Ok(copy)
 }
 
-// The same bytes once more.
+// The same bytes once more, as many as a machine word counts.
 fn copied_bytes(alloc: Global, bytes: &[u8]) -> Result<List<u8>, Memory>
-    ensures { IfOk result (λ copy. copy ≡ bytes.now) }
+    ensures copy { IfOk result (λ copy. copy ≡ bytes.now) }
+    ensures short { OnOk result (length bytes.now < 2 ^ 64) }
 {
     let mut copy = List::new(alloc);
+    copy.reserve(bytes.len())?;
     for byte in bytes {
         copy.push(*byte)?;
     }
     Ok(copy)
 }
 
-// The section of a binding with this entry, where names mean what is declared and what the entries say.
+// The section of a binding with this entry, where names mean what is declared and what the entries before it say.
 fn section_of(
     alloc: Global,
     way: Way,
     declared: &[ReadScheme],
-    entries: &[SigEntry],
+    earlier: &[SigEntry],
     schemes: &mut Schemes,
     binding: &ResolvedBinding,
     entry: &SigEntry,
 ) -> Result<Section, Memory>
     requires declared { All IsRead declared.now }
-    requires entries { All IsEntry entries.now }
+    requires earlier { All IsEntry earlier.now }
     requires entry { IsEntry entry.now }
-    requires types { AreNameTypes (names_read declared.now entries.now) schemes.old }
-    requires term { AreTermNodes binding.now.term.nodes }
-    ensures types { AreNameTypes (names_read declared.now entries.now) schemes.new }
+    requires types { AreNameTypes (names_read declared.now earlier.now) schemes.old }
+    requires term { (count : ℕ) × IsTerm count binding.now.term.nodes binding.now.term.binders binding.now.term.lets }
+    ensures types { AreNameTypes (names_read declared.now earlier.now) schemes.new }
     ensures name { IfOk result (λ s. s.name ≡ entry.now.name) }
     ensures text { IfOk result (λ s. s.text ≡ entry.now.text) }
+    ensures allowed { way ≡ Plain → CanBeDerived (names_read declared.now earlier.now) binding.now entry.now
+        → IfOk result (λ s. IsSectionAllowed (schemes_of (names_read declared.now earlier.now)) binding.now s
+        entry.now.scheme) }
 {
     let nodes = binding.term.nodes.as_slice();
     let read = scheme_of(entry);
-    let written = write_section(alloc, way, declared, entries, schemes, nodes, read)?;
+    let written = write_section(alloc, way, declared, earlier, schemes, nodes, read)?;
     Ok(Section {
         name: copied_name(&entry.name)?,
         text: copied_bytes(alloc, entry.text.as_slice())?,
@@ -106,21 +115,57 @@ fn sections_of(
     requires entries { All IsEntry entries.now }
     ensures names { IfOk result (λ sections. section_names sections ≡ entry_names entries.now) }
     ensures texts { IfOk result (λ sections. section_texts sections ≡ entry_texts entries.now) }
+    ensures allowed { way ≡ Plain → CanAllBeDerived declared.now bindings.now entries.now
+        → IfOk result (AreSectionsAllowed declared.now bindings.now) }
 {
     let mut sections = Sections::new(alloc);
     let mut schemes = Schemes::new(alloc);
-    for entry in entries {
-        let binding = binding_at(bindings, sections.len())?;
-        let section = section_of(alloc, way, declared, entries, &mut schemes, binding, entry)?;
+    for k in 0..entries.len() {
+        let binding = binding_at(bindings, k)?;
+        let earlier = &entries[..k];
+        let section = section_of(
+            alloc,
+            way,
+            declared,
+            earlier,
+            &mut schemes,
+            binding,
+            &entries[k],
+        )?;
         sections.push(section)?;
     }
     Ok(sections)
 }
 
-// A derivation whose lines are written in this way, if the check allows it and it has a text.
-fn checked(
+// A derivation whose lines are written in this way.
+fn written(
     alloc: Global,
     way: Way,
+    module: &Resolved,
+    declared: &Names,
+    signature: &Signature,
+) -> Result<Derivation, Memory>
+    requires names { AreNames declared.now }
+    requires terms { AreTerms (length declared.now.schemes) «module».now.bindings }
+    requires entries { All IsEntry signature.now.entries }
+    ensures names { IfOk result (λ d. section_names d.sections ≡ entry_names signature.now.entries) }
+    ensures texts { IfOk result (λ d. section_texts d.sections ≡ entry_texts signature.now.entries) }
+    ensures allowed { way ≡ Plain → CanAllBeDerived declared.now.schemes «module».now.bindings signature.now.entries
+        → IfOk result (λ d. AreSectionsAllowed declared.now.schemes «module».now.bindings d.sections) }
+{
+    let sections = sections_of(
+        alloc,
+        way,
+        module.bindings.as_slice(),
+        declared.schemes.as_slice(),
+        signature.entries.as_slice(),
+    )?;
+    Ok(Derivation { sections })
+}
+
+// A derivation whose lines are short ones, if the check allows it and it has a text.
+fn short_derivation_of(
+    alloc: Global,
     module: &Resolved,
     declared: &Names,
     signature: &Signature,
@@ -134,15 +179,9 @@ fn checked(
         «module».now.bindings d.sections)) }
     ensures text { IfOk result (λ found. IfSome found (λ d. IsTextOf (derivation_text d) d)) }
 {
-    let sections = sections_of(
-        alloc,
-        way,
-        module.bindings.as_slice(),
-        declared.schemes.as_slice(),
-        signature.entries.as_slice(),
-    )?;
-    let derivation = Derivation { sections };
-    if !has_text(alloc, &derivation)? {
+    let derivation = written(alloc, Way::Short, module, declared, signature)?;
+    let spelled = has_text(alloc, &derivation)?;
+    if !spelled {
         return Ok(None);
     }
     match verify(alloc, &derivation, module, declared)? {
@@ -151,7 +190,7 @@ fn checked(
     }
 }
 
-// A derivation whose lines are written plainly.
+// A derivation whose lines are written plainly, which needs no check.
 fn plain_derivation_of(
     alloc: Global,
     module: &Resolved,
@@ -161,25 +200,29 @@ fn plain_derivation_of(
     requires names { AreNames declared.now }
     requires terms { AreTerms (length declared.now.schemes) «module».now.bindings }
     requires entries { All IsEntry signature.now.entries }
+    requires derivable { CanAllBeDerived declared.now.schemes «module».now.bindings signature.now.entries }
     ensures steps { IfOk result (λ d. AreDerivations declared.now.schemes «module».now.bindings signature.now.entries
         d.sections) }
     ensures derivable { IfOk result (λ d. AreDerivable declared.now.schemes «module».now.bindings d.sections) }
     ensures text { IfOk result (λ d. IsTextOf (derivation_text d) d) }
 {
-    match checked(alloc, Way::Plain, module, declared, signature)? {
-        Some(derivation) => Ok(derivation),
-        None => Err(Memory),
+    let derivation = written(alloc, Way::Plain, module, declared, signature)?;
+    if !has_text(alloc, &derivation)? {
+        return Err(Memory);
     }
+    Ok(derivation)
 }
 
 /// A derivation of the signature of a module over the schemes of its environment: the operators, and what its imports
-/// declare. There is one section for each entry, each step is allowed, and what `print_derivation` writes of it is read
-/// back as the same derivation. Its lines are short ones, and where the check refuses these, plain ones.
+/// declare. There is one entry for each binding, whose type the rules derive, and whose text is printed. The derivation
+/// has one section for each entry, each step is allowed, and what `print_derivation` writes of it is read back as the
+/// same derivation. Its lines are short ones, which are checked; where the check refuses these, they are plain ones,
+/// which are always allowed.
 ///
 /// # Errors
 ///
-/// `Memory` where memory is wanting, or where the check refuses what was written or it has no text. That neither ever
-/// happens for a signature that `infer_module` gives is tested, and not proved.
+/// `Memory` where memory is wanting, or where plain lines have no text. That they always have one is tested, and not
+/// proved.
 pub fn derivation_of(
     alloc: Global,
     module: &Resolved,
@@ -189,12 +232,13 @@ pub fn derivation_of(
     requires names { AreNames declared.now }
     requires terms { AreTerms (length declared.now.schemes) «module».now.bindings }
     requires entries { All IsEntry signature.now.entries }
+    requires derivable { CanAllBeDerived declared.now.schemes «module».now.bindings signature.now.entries }
     ensures steps { IfOk result (λ d. AreDerivations declared.now.schemes «module».now.bindings signature.now.entries
         d.sections) }
     ensures derivable { IfOk result (λ d. AreDerivable declared.now.schemes «module».now.bindings d.sections) }
     ensures text { IfOk result (λ d. IsTextOf (derivation_text d) d) }
 {
-    match checked(alloc, Way::Short, module, declared, signature)? {
+    match short_derivation_of(alloc, module, declared, signature)? {
         Some(derivation) => Ok(derivation),
         None => plain_derivation_of(alloc, module, declared, signature),
     }

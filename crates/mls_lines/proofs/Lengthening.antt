@@ -4,6 +4,7 @@
 --     longer_from             the nodes of another book stay where they are
 --     global_kept             so does the type of a name of the environment
 --     copied_more, copied_from    copies of nodes, one after the other
+--     copied_closed           a closed book behind a closed one
 use Rattle.std.proofs.Common.{◌≡◌, ℕ, ◌+◌, ◌<◌, ◌≤◌, List, [], ◌∷◌, ◌++◌, map, take, length, refl, sym, ap, ◌∙◌, subst, arith, append_assoc, length-append}
 use Rattle.std.specs.Prelude.{IfOk, Ok, OnOk, Result}
 use Rattle.std.proofs.lemmas.Result.{on_ok_weaker}
@@ -11,7 +12,8 @@ use Rattle.std.proofs.Math.ListN.{get_or-append, get_or-map}
 use Rattle.std.proofs.lemmas.List.{get_or-append-add, length-map, map-append, take_more}
 use Rattle.mls_book.specs.declared.book.Node.{Node}
 use Rattle.mls_book.specs.declared.book.Node.TheVariants as node
-use Rattle.mls_book.specs.Books.{node_at}
+use Rattle.mls_book.specs.Books.{node_at, IsClosedBook}
+use Rattle.mls_book.proofs.LongerBooks.{renamed, Extends-both}
 use Rattle.mls_deriv.specs.Steps.{raised, HasFrom}
 use Rattle.mls_layout.specs.declared.layout.LaidOut.{LaidOut}
 use Rattle.mls_layout.specs.LaidOut.{IsLonger}
@@ -103,3 +105,20 @@ copied_from old book other n first is = record {
       ∙ (ap (λ m. node_at (old ++ map (raised n) other) (m + i)) first
       ∙ (get_or-append-add old (map (raised n) other) i node.Bot ∙ get_or-map (raised n) other i node.Bot));
 }
+
+-- a closed book behind a closed one
+raised_renamed : (n : ℕ) (x : Node) → renamed (λ i. n + i) (λ v. v) x ≡ raised n x
+raised_renamed n node.Bot = refl
+raised_renamed n node.Top = refl
+raised_renamed n (node.Var x) = refl
+raised_renamed n node.Bool = refl
+raised_renamed n node.Int = refl
+raised_renamed n (node.Arrow j k) = refl
+raised_renamed n (node.Rcd fields) = refl
+raised_renamed n (node.Join j k) = refl
+raised_renamed n (node.Meet j k) = refl
+
+pub copied_closed : (old book other : List Node) (n : ℕ) → n ≡ length old → book ≡ old ++ map (raised n) other → IsClosedBook old → IsClosedBook other → IsClosedBook book
+copied_closed old book other n first is closed own =
+    subst IsClosedBook (ap (λ (f : Node → Node). old ++ map f other) (λ i x. raised_renamed (length old) x i) ∙ (ap (λ k. old ++ map (raised k) other) (sym first) ∙ sym is))
+    (Extends-both old other closed own).closed

@@ -1,5 +1,6 @@
 //! Nodes of a book once more in another one.
 ghost use Rattle.std.specs.Prelude.{◌≡◌, ◌++◌, ◌∷◌, [], length, map, IfOk, OnOk};
+ghost use Rattle.mls_book.specs.Books.{IsClosedBook};
 ghost use Rattle.mls_deriv.specs.Steps.{HasFrom, raised, raised_field, raised_id};
 ghost use Rattle.mls_layout.specs.LaidOut.{IsLonger};
 
@@ -77,6 +78,7 @@ pub fn push_book(alloc: Global, book: &mut Book, other: &Book) -> Result<usize, 
     ensures first { IfOk result (λ first. first ≡ length book.old) }
     ensures longer { OnOk result (IsLonger book.old book.new) }
     ensures from { IfOk result (λ first. HasFrom book.new first other.now) }
+    ensures closed { OnOk result (IsClosedBook book.old → IsClosedBook other.now → IsClosedBook book.new) }
 {
     let first = book.len();
     for i in 0..other.len() {

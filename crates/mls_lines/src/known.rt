@@ -2,6 +2,7 @@
 ghost use Rattle.std.specs.Prelude.{◌≡◌, IfOk, OnOk, Some};
 ghost use Rattle.std.specs.BTreeMap.{get};
 ghost use Rattle.std.specs.Ordering.{nat_cmp};
+ghost use Rattle.mls_book.specs.Books.{IsClosedBook};
 ghost use Rattle.mls_iface.specs.Matches.{IsRead};
 ghost use Rattle.mls_layout.specs.LaidOut.{IsLonger};
 ghost use Rattle.mls_lines.specs.Globals.{IsGlobalAt};
@@ -78,6 +79,7 @@ pub fn put_global(alloc: Global, book: &mut Book, read: &ReadScheme) -> Result<G
     requires { IsRead read.now }
     ensures longer { OnOk result (IsLonger book.old book.new) }
     ensures at { IfOk result (IsGlobalAt book.new read.now) }
+    ensures closed { OnOk result (IsClosedBook book.old → IsClosedBook book.new) }
 {
     let first = push_book(alloc, book, &read.book)?;
     let root = first.checked_add(read.root.0).ok_or(Memory)?;

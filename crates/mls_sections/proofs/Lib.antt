@@ -1,5 +1,4 @@
 pub mod Found
-pub mod Updated
 pub mod NamesOfPart
 pub mod UsesRead
 pub mod ShownVariables

@@ -60,7 +60,7 @@ use Rattle.mls_allowed.proofs.SectionEmitted.{find_kept, find_last, find_other}
 use Rattle.mls_allowed.proofs.SectionParts.{come_added, first_made}
 use Rattle.mls_sections.proofs.SectionsGo.{come_goes, globals_old, nothing_at, types_same, first_longer, first_made_closed, first_made_longer}
 use Rattle.mls_sections.proofs.ShownVariables.{same_shown}
-use Rattle.mls_sections.proofs.Updated.{updated_at, updated_own}
+use Rattle.mls_allowed.proofs.Updated.{updated_at, updated_own}
 
 -- What holds of a term and of the types of its lets and names, so that its first parts are ready: it has a type in its
 -- place, and the types of first parts were made of these.

@@ -29,7 +29,7 @@ use Rattle.mls_allowed.specs.SectionParts.{AddsFirstPart, AddsWhole, HaveCome, I
 use Rattle.mls_sections.specs.SectionsGoing.{CanGoOn}
 use Rattle.mls_sections.proofs.FirstsWritten.{no_step}
 use Rattle.mls_sections.proofs.PartsWritten.{made_longer, part_closed, part_counted, part_longer, type_low}
-use Rattle.mls_sections.proofs.Updated.{updated_at}
+use Rattle.mls_allowed.proofs.Updated.{updated_at}
 
 -- nothing is in an empty map
 pub nothing_at : {A : Type 0} (m : BTreeMap ℕ A) → IsEmpty m → (k : ℕ) → get nat_cmp m k ≡ None

@@ -28,3 +28,4 @@ pub mod Telling
 pub mod VerifiedModules
 pub mod WordsFound
 pub mod Written
+pub mod DerivableEntries

@@ -20,8 +20,11 @@ ghost use Rattle.mls_parts.specs.PartUses.{HaveOwnLabels, KnowTypes};
 ghost use Rattle.mls_parts.specs.PosedParts.{IsPartList};
 ghost use Rattle.mls_parts.specs.SolvedTypes.{entries_of};
 ghost use Rattle.mls_parts.specs.TermParts.{AreTermParts, IsTermPart};
-ghost use Rattle.mls_emit.specs.Drafts.{AreGlobalsIn, AreNameTypes, AreTermNodes, HavePlaces, KnowGlobals};
-ghost use Rattle.mls_emit.specs.Drafts.{KnowsBefore, KnowsForm, PlacesForm, names_read};
+ghost use Rattle.mls_book.specs.Books.{IsClosedBook};
+ghost use Rattle.mls_sections.specs.KnownNames.{AreNameTypes};
+ghost use Rattle.mls_emit.specs.Drafts.{AreGlobalsIn, AreTermNodes, HavePlaces, IsGrown, KnowGlobals};
+ghost use Rattle.mls_emit.specs.Derivable.{names_read};
+ghost use Rattle.mls_emit.specs.Drafts.{KnowsBefore, KnowsForm, PlacesForm};
 ghost use Rattle.mls_emit.specs.PlainSections.{so_far, IsPlainSection, NamesFirst};
 ghost use Rattle.mls_allowed.specs.SectionParts.{AddsFirstPart, AddsWhole, HaveCome, IsBegun, IsWholeType, SoFar};
 ghost use Rattle.mls_allowed.specs.MadeFirsts.{around_states, IsFirstLaid, IsFirstType, IsPartLaidOut, IsPartSolved};
@@ -165,7 +168,10 @@ fn type_env(alloc: Global, at: &TypeAt) -> Result<BinderNodes, Memory>
 impl Draft {
     // A section that begins with the nodes of a type, where the types of these names were read before.
     fn new(alloc: Global, way: Way, read: &ReadScheme, schemes: Schemes) -> Result<Draft, Memory>
+        requires { IsRead read.now }
         ensures begins { IfOk result (λ draft. IsBegun read.now (so_far draft)) }
+        ensures closed { IfOk result (λ draft. IsClosedBook draft.book) }
+        ensures variable { IfOk result (λ draft. read.now.vars ≤ draft.variable) }
         ensures globals { IfOk result (λ draft. draft.known.globals ≡ schemes) }
         ensures way { IfOk result (λ draft. draft.way ≡ way) }
         ensures places { IfOk result (λ draft. IsEmpty draft.globals) }
@@ -189,7 +195,7 @@ impl Draft {
     // Puts the type of a name into the book.
     fn place_global(&mut self, alloc: Global, read: &ReadScheme, g: usize) -> Result<(), Memory>
         requires { IsRead read.now }
-        ensures longer { OnOk result (IsLonger self.old.book self.new.book) }
+        ensures grown { OnOk result (IsGrown self.old.book self.new.book self.old.variable self.new.variable) }
         ensures kept { self.new ≡ record self.old {
           book = self.new.book;
           globals = self.new.globals;
@@ -220,7 +226,7 @@ impl Draft {
         requires types { AreNameTypes (names_read declared.now entries.now) self.old.known.globals }
         requires places { AreGlobalsIn (names_read declared.now entries.now) self.old.book self.old.variable
             self.old.globals }
-        ensures longer { OnOk result (IsLonger self.old.book self.new.book) }
+        ensures grown { OnOk result (IsGrown self.old.book self.new.book self.old.variable self.new.variable) }
         ensures form { OnOk result (KnowsForm (names_read declared.now entries.now) self.old.known.globals
             self.new.known.globals (form.Global g)) }
         ensures places { OnOk result (PlacesForm (names_read declared.now entries.now) self.new.book self.new.variable
@@ -255,7 +261,7 @@ impl Draft {
         requires types { AreNameTypes (names_read declared.now entries.now) self.old.known.globals }
         requires places { AreGlobalsIn (names_read declared.now entries.now) self.old.book self.old.variable
             self.old.globals }
-        ensures longer { OnOk result (IsLonger self.old.book self.new.book) }
+        ensures grown { OnOk result (IsGrown self.old.book self.new.book self.old.variable self.new.variable) }
         ensures form { OnOk result (KnowsForm (names_read declared.now entries.now) self.old.known.globals
             self.new.known.globals named.now) }
         ensures places { OnOk result (PlacesForm (names_read declared.now entries.now) self.new.book self.new.variable
@@ -287,7 +293,7 @@ impl Draft {
         requires types { AreNameTypes (names_read declared.now entries.now) self.old.known.globals }
         requires places { AreGlobalsIn (names_read declared.now entries.now) self.old.book self.old.variable
             self.old.globals }
-        ensures longer { OnOk result (IsLonger self.old.book self.new.book) }
+        ensures grown { OnOk result (IsGrown self.old.book self.new.book self.old.variable self.new.variable) }
         ensures types { OnOk result (AreNameTypes (names_read declared.now entries.now) self.new.known.globals) }
         ensures known { OnOk result (KnowGlobals nodes.now self.new.known.globals (length nodes.now)) }
         ensures globals { OnOk result (AreGlobalsIn (names_read declared.now entries.now) self.new.book

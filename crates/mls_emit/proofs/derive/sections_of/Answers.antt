@@ -1,5 +1,44 @@
-use Rattle.mls_emit.proofs.KnownNames.{term_nodes}
+use Rattle.std.proofs.Common.{◌≡◌, ◌≤◌, arith, length}
+use Rattle.mls_emit.specs.declared.derive.Way.TheVariants.{Plain}
+use Rattle.mls_emit.proofs.KnownNames.{term_at}
+use Rattle.mls_emit.proofs.PlainSections.{all_names, all_sections, all_texts, entries_front, entry_at, next_sections, no_sections}
 use Rattle.mls_emit.proofs.derive.sections_of.Goals as goal
 
+pub loop-k-init : goal.loop-k-init
+loop-k-init c =
+    no_sections (c.args.way ≡ Plain) c.args.declared.now c.args.bindings.now c.args.entries.now c.new-sections.result c.new-schemes.result c.new-sections.ensures c.new-schemes.ensures.empty
+
+-- the entries before this one, and this one
+pub section_of-requires-clause-earlier : goal.section_of-requires-clause-earlier
+section_of-requires-clause-earlier c = entries_front c.args.entries.now c.requires.entries c.loop-k.k
+
+pub section_of-requires-clause-entry : goal.section_of-requires-clause-entry
+section_of-requires-clause-entry c = entry_at c.args.entries.now c.requires.entries c.loop-k.k c.index-entries-k.result c.loop-k-test.true c.index-entries-k.is
+
+pub section_of-requires-clause-types : goal.section_of-requires-clause-types
+section_of-requires-clause-types c = c.loop-k.invariant.types
+
 pub section_of-requires-clause-term : goal.section_of-requires-clause-term
-section_of-requires-clause-term c = term_nodes c.requires.terms.0 c.args.bindings.now c.requires.terms.1 _ c.in_ok-binding.binding.now c.in_ok-binding.ensures
+section_of-requires-clause-term c = term_at c.requires.terms.0 c.args.bindings.now c.requires.terms.1 _ c.in_ok-binding.binding.now c.in_ok-binding.ensures
+
+pub loop-k-preserved : goal.loop-k-preserved
+loop-k-preserved c =
+    next_sections (c.args.way ≡ Plain) c.args.declared.now c.args.bindings.now c.args.entries.now c.loop-k.k c.loop-k.sections c.loop-k.schemes c.loop-k.invariant c.loop-k-test.true
+    c.in_ok-binding.binding.now c.index-entries-k.result c.in_ok-section.section c.section_of.new.schemes c.in_ok-binding.ensures c.index-entries-k.is
+    c.in_ok-section.ensures.name c.in_ok-section.ensures.text c.section_of.ensures.types c.in_ok-section.ensures.allowed c.push.new.self c.in_ok-push.ensures.ok
+
+-- all entries were gone over
+pub returns-clause-names : goal.returns-clause-names
+returns-clause-names c =
+    let past : length c.args.entries.now ≤ c.loop-k.k = omega arith in
+    all_names (c.args.way ≡ Plain) c.args.declared.now c.args.bindings.now c.args.entries.now c.loop-k.k c.loop-k.sections c.loop-k.schemes c.loop-k.invariant past
+
+pub returns-clause-texts : goal.returns-clause-texts
+returns-clause-texts c =
+    let past : length c.args.entries.now ≤ c.loop-k.k = omega arith in
+    all_texts (c.args.way ≡ Plain) c.args.declared.now c.args.bindings.now c.args.entries.now c.loop-k.k c.loop-k.sections c.loop-k.schemes c.loop-k.invariant past
+
+pub returns-clause-allowed : goal.returns-clause-allowed
+returns-clause-allowed c =
+    let past : length c.args.entries.now ≤ c.loop-k.k = omega arith in
+    all_sections (c.args.way ≡ Plain) c.args.declared.now c.args.bindings.now c.args.entries.now c.loop-k.k c.loop-k.sections c.loop-k.schemes c.loop-k.invariant past

@@ -8,3 +8,6 @@ returns-clause-at c = record {
   variables = refl;
   showing = c.in_ok-showing_of.ensures;
 }
+
+pub returns-clause-closed : goal.returns-clause-closed
+returns-clause-closed c = λ closed. c.in_ok-first.ensures.closed closed c.requires.0.book

@@ -2,6 +2,7 @@ use Rattle.std.proofs.Common.{◌∙◌, rules}
 use Rattle.mls_names.proofs.NumberedTerms.{resolved_are_terms}
 use Rattle.mls_modules.specs.Environments.{declared_names}
 use Rattle.mls_modules.proofs.ValidSignatures.{signatures_are_valid}
+use Rattle.mls_top.proofs.DerivableEntries.{signature_can}
 use Rattle.mls_top.proofs.VerifiedModules.{terms_over, nothing_more}
 use Rattle.mls_top.proofs.derive.derived.Goals as goal
 
@@ -18,6 +19,12 @@ derivation_of-requires-clause-terms c =
 
 pub derivation_of-requires-clause-entries : goal.derivation_of-requires-clause-entries
 derivation_of-requires-clause-entries c = (signatures_are_valid c.args.parsed.now c.args.imports.now c.args.signature.now c.requires.«module» c.requires.signature).each
+
+-- each type of a signature is derivable
+pub derivation_of-requires-clause-derivable : goal.derivation_of-requires-clause-derivable
+derivation_of-requires-clause-derivable c =
+    signature_can c.args.imports.now c.args.parsed.now c.args.signature.now c.in_ok-resolved.resolved c.in_ok-names.names.schemes c.requires.signature c.in_ok-resolved.ensures
+    (c.in_ok-names.ensures.environment ∙ nothing_more c.args.imports.now _ (search rules))
 
 pub returns : goal.returns
 returns c = (

@@ -7,7 +7,9 @@ use Rattle.mls_allowed.specs.MadeFirsts.{start}
 use Rattle.mls_allowed.specs.SectionParts as come
 use Rattle.mls_emit.specs.declared.derive.section.Draft.{Draft}
 use Rattle.mls_emit.specs.PlainSections.{so_far, HasParts}
-use Rattle.mls_emit.specs.Drafts.{AreGlobalsIn, AreNameTypes, HavePlaces, names_read}
+use Rattle.mls_sections.specs.KnownNames.{AreNameTypes}
+use Rattle.mls_emit.specs.Derivable.{names_read}
+use Rattle.mls_emit.specs.Drafts.{AreGlobalsIn, HavePlaces}
 use Rattle.mls_emit.proofs.KnownNames.{firsts_none}
 use Rattle.mls_emit.proofs.PlacedNames.{globals_kept, no_globals}
 use Rattle.mls_lines.proofs.Lengthening.{longer_from}
@@ -32,7 +34,7 @@ loop-root-init c = (
     added = start (subst (λ (lets : BTreeMap ℕ Scheme). IsEmpty lets) (sym c.add_globals.ensures.lets) c.in_ok-draft.ensures.begins.lets);
   },
   c.in_ok-add_globals.ensures.types,
-  longer_from c.in_ok-draft.draft.book c.add_globals.new.self.book c.args.read.now.book 0 c.in_ok-add_globals.ensures.longer c.in_ok-draft.ensures.begins.from,
+  longer_from c.in_ok-draft.draft.book c.add_globals.new.self.book c.args.read.now.book 0 c.in_ok-add_globals.ensures.grown.longer c.in_ok-draft.ensures.begins.from,
   c.in_ok-add_globals.ensures.globals,
   c.in_ok-add_globals.ensures.places,
   (ap (λ (d : Draft). d.way) c.add_globals.ensures.kept) ∙ c.in_ok-draft.ensures.way,
@@ -44,8 +46,13 @@ loop-root-init c = (
         count = (ap (λ (d : Draft). d.steps.count) c.add_globals.ensures.kept) ∙ c.in_ok-draft.ensures.begins.count;
         lets = subst (λ (lets : BTreeMap ℕ Scheme). IsEmpty lets) (sym c.add_globals.ensures.lets) c.in_ok-draft.ensures.begins.lets;
         firsts = subst (λ (firsts : BTreeMap ℕ FirstPart). IsEmpty firsts) (sym (ap (λ (d : Draft). d.firsts) c.add_globals.ensures.kept)) c.in_ok-draft.ensures.begins.firsts;
-        from = longer_from c.in_ok-draft.draft.book c.add_globals.new.self.book c.args.read.now.book 0 c.in_ok-add_globals.ensures.longer c.in_ok-draft.ensures.begins.from;
+        from = longer_from c.in_ok-draft.draft.book c.add_globals.new.self.book c.args.read.now.book 0 c.in_ok-add_globals.ensures.grown.longer c.in_ok-draft.ensures.begins.from;
       };
+      closed = c.in_ok-add_globals.ensures.grown.closed c.in_ok-draft.ensures.closed;
+      variables =
+          (let own : c.args.read.now.vars ≤ c.in_ok-draft.draft.variable = c.in_ok-draft.ensures.variable in
+          let more : c.in_ok-draft.draft.variable ≤ c.add_globals.new.self.variable = c.in_ok-add_globals.ensures.grown.variable in
+          omega (arith, own, more));
       types = c.in_ok-add_globals.ensures.types;
       known = c.in_ok-add_globals.ensures.known;
       globals = c.in_ok-add_globals.ensures.globals;

@@ -1,7 +1,9 @@
 use Rattle.std.proofs.Common.{◌≡◌, ◌≤◌, length}
 use Rattle.mls_deriv.specs.Steps.{HasFrom}
 use Rattle.mls_emit.specs.declared.derive.Way.TheVariants.{Plain}
-use Rattle.mls_emit.specs.Drafts.{AreGlobalsIn, AreNameTypes, HavePlaces, KnowsBefore, names_read}
+use Rattle.mls_sections.specs.KnownNames.{AreNameTypes}
+use Rattle.mls_emit.specs.Derivable.{names_read}
+use Rattle.mls_emit.specs.Drafts.{AreGlobalsIn, HavePlaces, KnowsBefore}
 use Rattle.mls_emit.specs.PlainSections.{so_far, HasParts}
 use Rattle.mls_emit.proofs.derive.section.write_section.Given as goal
 

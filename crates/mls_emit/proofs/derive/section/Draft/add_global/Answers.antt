@@ -5,10 +5,11 @@ use Rattle.std.specs.Prelude.{ℕ, IsSome}
 use Rattle.mls_automaton.specs.declared.scheme.Scheme.{Scheme}
 use Rattle.mls_typetext.specs.declared.scheme.ReadScheme.{ReadScheme}
 use Rattle.mls_term.specs.declared.term.TermForm.TheVariants as form
-use Rattle.mls_emit.specs.Drafts.{KnowsForm, names_read}
+use Rattle.mls_emit.specs.Derivable.{names_read}
+use Rattle.mls_emit.specs.Drafts.{KnowsForm}
 use Rattle.mls_emit.proofs.KnownNames.{name_form}
 use Rattle.mls_emit.proofs.PlacedNames.{place_same}
-use Rattle.mls_lines.proofs.Growing.{longer_itself}
+use Rattle.mls_emit.proofs.PlainSections.{grown_itself}
 use Rattle.mls_emit.proofs.derive.section.Draft.add_global.Goals as goal
 
 -- the type of the name is read from what it means
@@ -26,8 +27,8 @@ returns-clause-form c =
     subst (λ (globals : BTreeMap ℕ Scheme). KnowsForm reads c.args.self.now.known.globals globals (form.Global c.args.g)) (sym same)
     (name_form reads c.args.self.now.known.globals c.know_type.new.schemes c.args.g c.in_ok-read.read.now c.requires.types is c.in_ok-know_type.ensures)
 
-pub returns-then-contains_key-clause-longer : goal.returns-then-contains_key-clause-longer
-returns-then-contains_key-clause-longer c = longer_itself c.args.self.now.book
+pub returns-then-contains_key-clause-grown : goal.returns-then-contains_key-clause-grown
+returns-then-contains_key-clause-grown c = grown_itself c.args.self.now.book c.args.self.now.variable
 
 -- its place
 pub returns-then-contains_key-clause-places : goal.returns-then-contains_key-clause-places

@@ -2,11 +2,11 @@ use Rattle.std.proofs.Common.{◌≡◌, ◌∙◌, ℕ, Some, sym, ap}
 use Rattle.mls_term.specs.declared.term.TermNode.{TermNode}
 use Rattle.mls_deriv.specs.Steps.{form_at}
 use Rattle.mls_parts.proofs.PosedParts.{form_there}
-use Rattle.mls_emit.specs.Drafts.{names_read}
-use Rattle.mls_lines.proofs.Growing.{longer_then}
+use Rattle.mls_emit.specs.Derivable.{names_read}
 use Rattle.mls_emit.proofs.KeptDrafts.{names_then}
 use Rattle.mls_emit.proofs.KnownNames.{globals_more}
 use Rattle.mls_emit.proofs.PlacedNames.{places_more}
+use Rattle.mls_emit.proofs.PlainSections.{grown_then}
 use Rattle.mls_emit.proofs.derive.section.Draft.add_globals.Goals as goal
 
 pub loop-node-preserved : goal.loop-node-preserved
@@ -18,7 +18,7 @@ loop-node-preserved c =
       globals_more (names_read c.args.declared.now c.args.entries.now) c.args.nodes.now c.loop-node.self.known.globals c.add_named.new.self.known.globals i c.node-item.result.form c.loop-node.invariant.1 here
           c.in_ok-add_named.ensures.form,
       c.add_named.ensures.lets ∙ c.loop-node.invariant.2,
-      longer_then c.args.self.now.book c.loop-node.self.book c.add_named.new.self.book c.loop-node.invariant.3 c.in_ok-add_named.ensures.longer,
+      grown_then c.args.self.now.book c.loop-node.self.book c.add_named.new.self.book c.args.self.now.variable c.loop-node.self.variable c.add_named.new.self.variable c.loop-node.invariant.3 c.in_ok-add_named.ensures.grown,
       c.in_ok-add_named.ensures.places.globals,
       places_more (names_read c.args.declared.now c.args.entries.now) c.add_named.new.self.book c.add_named.new.self.variable c.args.nodes.now c.loop-node.self.globals c.add_named.new.self.globals i
           c.node-item.result.form c.loop-node.invariant.5 here c.in_ok-add_named.ensures.places,

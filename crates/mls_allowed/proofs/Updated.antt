@@ -1,7 +1,8 @@
 -- A map with one key more.
 --     updated_at          the value of a key after it
 --     updated_own         that of the key
-use Rattle.std.proofs.Common.{◌≡◌, ◌⊎◌, inl, inr, ℕ, Bool, true, false, cond, refl, ◌∙◌, subst, Some}
+--     updated_other       that of another key
+use Rattle.std.proofs.Common.{◌≡◌, ◌≢◌, ◌⊎◌, inl, inr, ℕ, Bool, true, false, cond, refl, sym, ◌∙◌, subst, Some}
 use Rattle.std.specs.BTreeMap.{BTreeMap, Updates, get}
 use Rattle.std.specs.Ordering.{nat_cmp, is_eq}
 use Rattle.mls_layout.proofs.KeySets.{number_same, number_self}
@@ -19,3 +20,9 @@ module _ {A : Type 0} (old new : BTreeMap ℕ A) (k : ℕ) (v : A) (updates : Up
 
   pub updated_own : get nat_cmp new k ≡ Some v
   updated_own = let e : is_eq (nat_cmp k k) ≡ true = number_self k in updates.0 k ∙ (λ i. cond (e i) (Some v) (get nat_cmp old k))
+
+  pub updated_other : (q : ℕ) → (q ≢ k) → get nat_cmp new q ≡ get nat_cmp old q
+  updated_other q apart = elim (updated_at q) [
+    | inl here ↦ absurd (apart (sym here.0))
+    | inr other ↦ other.1
+  ]
