@@ -67,7 +67,7 @@ module _ (b : Before) where
   good_step steps step puts it lines are =
       subst (λ (l : List SectionLine). IsRun (at b steps) l (at b (steps ++ step ∷ [])))
       (sym (are.3 ∙ (ap (λ (l : List SectionLine). lines_of step puts are.0 ++ l) are.4 ∙ append-nil (lines_of step puts are.0))))
-      (step_run (at b steps) step puts are.0 (it are.0 are.2))
+      (step_run (at b steps) step puts are.0 (it are.0 are.2.list))
 
   -- what is said stays said
   pub says_then : (more steps : List StepLine) (number part : ℕ) (s : Scheme) → Says (at b steps) number part s → Says (at b (steps ++ more)) number part s

@@ -74,3 +74,4 @@ pub mod KnownBooks
 pub mod LetPuts
 pub mod GlobalPuts
 pub mod Updated
+pub mod StandingLines

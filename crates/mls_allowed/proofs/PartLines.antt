@@ -166,6 +166,7 @@ module _ (old : List Node) (p : Posing) (found : Room) (pairs : List StatePair) 
             subst (λ i. IsBrought (writes.0.of i) (length (steps_of begun.lines ++ planned_steps (flat_map writes.0.plan members))) i (type_binders special places) (place_of places special.root.0) whole.lines number) root_is
             (brought_to (sym writes.1) (sym writes.2));
         is_plan = ap (λ plan. flat_map plan members ++ whole.lines) (sym writes.1);
+        no_lets = whole.adds.no_lets;
       },
       refl,
     )

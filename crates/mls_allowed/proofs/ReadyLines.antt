@@ -85,6 +85,7 @@ ready_written b globals lets begun known part d type plan members binders p spec
   number = it.number;
   brought = it.brought;
   is_plan = it.is_plan;
+  no_lets = it.no_lets;
 }
 
 pub ready_number : (b : Before) (globals lets : BTreeMap ℕ Scheme) (begun : List StepLine) (known : List FirstPart) (part : ℕ) (d : Env) (type : ℕ) (plan : List PlannedLine) (members : List ℕ) (binders : PartBinders) (p : Posing) (special : Scheme) (walked : List StatePair)

@@ -71,7 +71,7 @@ module _ (b : Before) where
         λ lines are.
         subst (λ (l : List SectionLine). IsRun (at b steps) l (at b (steps ++ step ∷ [])))
         (sym (are.3 ∙ (ap (λ (l : List SectionLine). lines_of step puts are.0 ++ l) are.4 ∙ append-nil (lines_of step puts are.0))))
-        (step_run (at b steps) step puts are.0 (it are.0 are.2));
+        (step_run (at b steps) step puts are.0 (it are.0 are.2.list));
     kept = λ number part s says. says_kept (at b steps) step number part s says;
   }
 

@@ -305,4 +305,5 @@ let_written = record {
   number = 3;
   brought = by_pairs;
   is_plan = refl;
+  no_lets = tt;
 }

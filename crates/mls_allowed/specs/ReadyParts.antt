@@ -22,7 +22,7 @@ use Rattle.mls_lines.specs.Conclusions.{IsBrought}
 use Rattle.mls_lines.specs.NodeLines.{NamesKnown}
 use Rattle.mls_layout.specs.Lets.{FirstPart}
 use Rattle.mls_layout.specs.Parts.{IsGoalOf, IsLaidOut, IsSolvedTo}
-use Rattle.mls_layout.specs.Plans.{PlannedLine, planned_steps}
+use Rattle.mls_layout.specs.Plans.{PlannedLine, planned_steps, HasNoLets}
 use Rattle.mls_layout.specs.Posed.{IsPosed}
 use Rattle.mls_layout.specs.PosedNodes.{IsUsable}
 use Rattle.mls_layout.specs.Rows.{Fits}
@@ -103,3 +103,4 @@ pub record HasLines (b : Before) (globals lets : BTreeMap ℕ Scheme) (begun : L
   pub brought : IsBrought (writing.of part) (length (begun ++ planned_steps (flat_map writing.plan members))) part
       binders type lines number
   pub is_plan : plan ≡ flat_map writing.plan members ++ lines
+  pub no_lets : HasNoLets plan

@@ -16,7 +16,7 @@ use Rattle.mls_deriv.specs.Steps.{env_of, Before}
 use Rattle.mls_lines.specs.Conclusions.{IsBrought}
 use Rattle.mls_layout.specs.Lets.{FirstPart, after}
 use Rattle.mls_layout.specs.Parts.{Constraint, IsGoalOf, IsSolvedTo, IsLaidOut}
-use Rattle.mls_layout.specs.Plans.{PlannedLine, a_let, planned_steps}
+use Rattle.mls_layout.specs.Plans.{PlannedLine, a_let, planned_steps, HasNoLets}
 use Rattle.mls_layout.specs.Posed.{IsPosed}
 use Rattle.mls_layout.specs.Rows.{Fits}
 use Rattle.mls_lines.specs.NodeLines.{NamesKnown}
@@ -69,6 +69,7 @@ pub record IsPartWritten (b : Before) (begun : List StepLine) (known : List Firs
   pub brought : IsBrought (writing.of part) (length (begun ++ planned_steps (flat_map writing.plan members))) part
       binders type lines number
   pub is_plan : plan ≡ flat_map writing.plan members ++ lines
+  pub no_lets : HasNoLets plan
 
 -- The first parts of lets are written one after the other, each with its let line behind it: the plan leads from these
 -- steps and let lines to those.

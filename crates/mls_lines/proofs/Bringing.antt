@@ -21,14 +21,14 @@ use Rattle.mls_deriv.specs.declared.derivation.StepRule.TheVariants as rule
 use Rattle.mls_deriv.specs.Sections.{steps_of}
 use Rattle.mls_deriv.specs.Steps.{IsRising}
 use Rattle.mls_pairs.specs.PairLists.{IsInside}
-use Rattle.mls_layout.specs.Plans.{PlannedLine, a_step_with, a_let, planned_steps, AreLinesOf}
+use Rattle.mls_layout.specs.Plans.{PlannedLine, a_step_with, a_let, planned_steps, AreLinesOf, HasNoLets}
 use Rattle.mls_layout.specs.Runs.{a_step, lines_of}
 use Rattle.mls_layout.specs.Scopes.{entry}
 use Rattle.mls_lines.specs.declared.steps.Conclusion as written
 use Rattle.mls_lines.specs.declared.steps.Steps.{Steps}
 use Rattle.mls_lines.specs.declared.writer.Concluded.TheVariants.{Bound, Step}
 use Rattle.mls_lines.specs.declared.writer.Writer as state
-use Rattle.mls_lines.specs.Conclusions.{Conclusion, Concluded, a_binder, by_step, IsAdapted, IsBrought}
+use Rattle.mls_lines.specs.Conclusions.{Conclusion, Concluded, a_binder, by_step, IsAdapted, IsBrought, as_it_is, by_pairs}
 use Rattle.mls_lines.specs.Stepping.{conclusion_of, pairs_over, AddsStep, Adds, AreCounted, Stands, AddsAdapted}
 use Rattle.mls_lines.specs.Writer.{concluded_of, IsTaken, ConcludesNoMore, TakesStep, BringsNode, HasLowEnv, HasLowNodes}
 use Rattle.mls_lines.specs.PlainLines.{IsSound}
@@ -70,7 +70,16 @@ adds_steps book old new plan it =
     ap steps_of it.lines ∙ (steps_append old.lines it.more ∙ ap (λ (l : List StepLine). steps_of old.lines ++ l) (lines_steps (book ++ []) plan (steps_of old.lines) it.more (it.are [])))
 
 pub adds_none : (book : List Node) (s : Steps) → AreCounted s → Adds book s s []
-adds_none book s counted = record { more = []; lines = sym (append-nil s.lines); are = λ later. refl; counted = counted }
+adds_none book s counted = record { more = []; lines = sym (append-nil s.lines); are = λ later. refl; no_lets = tt; counted = counted }
+
+no_lets_append : (plan more : List PlannedLine) → HasNoLets plan → HasNoLets more → HasNoLets (plan ++ more)
+no_lets_append [] more one two = two
+no_lets_append (a_step_with step puts ∷ plan) more one two = no_lets_append plan more one two
+no_lets_append (a_let k number ∷ plan) more one two = absurd one
+
+no_lets_adapted : (c : Conclusion) (count part : ℕ) (d : List BinderNode) (u : ℕ) (plan : List PlannedLine) (number : ℕ) → IsAdapted c count part d u plan number → HasNoLets plan
+no_lets_adapted c count part d u plan number (as_it_is none type env) = tt
+no_lets_adapted c count part d u plan number by_pairs = tt
 
 pub adds_then : (book : List Node) (old now new : Steps) (plan more : List PlannedLine) → Adds book old now plan → Adds book now new more → Adds book old new (plan ++ more)
 adds_then book old now new plan more first second = record {
@@ -80,6 +89,7 @@ adds_then book old now new plan more first second = record {
       λ later.
       lines_joined (book ++ later) more second.more plan (steps_of old.lines) first.more (first.are later)
       (subst (λ (s : List StepLine). AreLinesOf (book ++ later) s more second.more) (adds_steps book old now plan first) (second.are later));
+  no_lets = no_lets_append plan more first.no_lets second.no_lets;
   counted = second.counted;
 }
 
@@ -104,8 +114,9 @@ adapted_adds now book old new i from d u to same closed rising low d_low u_low i
   are =
       λ later.
       subst (λ (b : List Node). AreLinesOf (b ++ later) (steps_of old.lines) it.plan it.more) same
-      (it.lasting (subst IsClosedBook (sym same) closed) (λ x m found. subst (λ (b : List Node). m < length b) (sym same) (low.puts x m found))
+      (it.lasting (subst IsClosedBook (sym same) closed) (λ x m found. subst (λ (b : List Node). m < length b) (sym same) (low.puts x m found)) low.own
       (subst (λ (b : List Node). All (IsInside (length b)) (pairs_over from.env d from.root.0 u.0)) (sym same) (pairs_low (length book) d d_low from.env from.root.0 u.0 rising low.env low.root u_low)) later);
+  no_lets = no_lets_adapted (conclusion_of from) old.count i d u.0 it.plan to.step it.adapts;
   counted = it.counted;
 }
 
@@ -139,6 +150,7 @@ module _ (old now new : state.Writer) (i : ℕ) (u : NodeId) (from : written.Con
       more = [];
       lines = (λ n. (same_steps n).lines) ∙ sym (append-nil old.steps.lines);
       are = λ later. refl;
+      no_lets = tt;
       counted = subst AreCounted (sym same_steps) sound.counted;
     };
     stands = subst (λ (s : Steps). Stands (steps_of s.lines) from) (sym same_steps) (sound.have i from found);

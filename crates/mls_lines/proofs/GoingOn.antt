@@ -152,6 +152,7 @@ begins old now it sound = record {
     more = [];
     lines = (λ n. (it.steps n).lines) ∙ sym (append-nil old.steps.lines);
     are = λ later. refl;
+    no_lets = tt;
     counted = subst AreCounted (sym it.steps) sound.counted;
   };
 }

@@ -18,3 +18,5 @@ pub mod JoinedPuts
 pub mod ShownTops
 pub mod FrontLists
 pub mod LowNodes
+pub mod OwnVariables
+

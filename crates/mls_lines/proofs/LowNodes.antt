@@ -5,7 +5,7 @@
 --     entry_low, none_low, with_low, without_low, placed_low, joined_low, all_joined_low, met_low       environments of several parts
 --     offered_low, offers_low     what a part is offered
 --     up, grown_offers_low, grown_joined_low, two_low, three_low, parts_low       what several parts are offered
---     puts_low, step_low, with_puts_low, joins_put_low, first_puts_low, let_puts_low, puts_joined_low     conclusions
+--     puts_low, no_puts_own, step_low, with_puts_low, joins_put_low, first_puts_low, let_puts_low, puts_joined_low     conclusions
 use Rattle.std.proofs.Common.{◌≡◌, ◌≢◌, ◌⊎◌, inl, inr, ℕ, zero, suc, ◌+◌, ◌<◌, Bool, true, false, cond, List, [], ◌∷◌, ◌++◌, length, refl, sym, ap, ◌∙◌, subst, arith, length-append, Option, Some, None}
 use Rattle.std.specs.Prelude.{All, find, option_map, ◌==◌}
 use Rattle.std.specs.List.{flat_map}
@@ -34,6 +34,7 @@ use Rattle.mls_deriv.specs.Steps.{env_of, IsRising}
 use Rattle.mls_layout.specs.declared.layout.Places.{Places}
 use Rattle.mls_layout.specs.Emitted.{binder_pair, pair_with}
 use Rattle.mls_layout.specs.LaidOut.{IsLonger, place_of}
+use Rattle.mls_layout.specs.Plans.{HaveOwnVariables}
 use Rattle.mls_layout.specs.Scopes.{entry}
 use Rattle.mls_pairs.specs.PairLists.{IsInside, pair_of}
 use Rattle.mls_parts.specs.declared.pose.Posing.{Posing}
@@ -93,6 +94,7 @@ module _ (n m : ℕ) (more : (i : ℕ) → i < n → i < m) where
     root = more c.root.0 low.root;
     env = λ x i found. more i (low.env x i found);
     puts = λ x i found. more i (low.puts x i found);
+    own = low.own;
   }
 
   pub firsts_more : (firsts : BTreeMap ℕ FirstPart) → HaveLowFirsts n firsts → HaveLowFirsts m firsts
@@ -277,16 +279,21 @@ module _ (old grown : state.Writer) (p : Posing) (sound : IsSound old) (grows : 
 pub puts_low : (n : ℕ) (puts : List Put) → puts ≡ [] → (x m : ℕ) → put_at puts x ≡ Some m → m < n
 puts_low n puts none x m found = absurd (let wrong : put_at [] x ≡ Some m = subst (λ (l : List Put). put_at l x ≡ Some m) none found in cc)
 
+pub no_puts_own : (puts : List Put) → puts ≡ [] → HaveOwnVariables puts
+no_puts_own puts none = subst HaveOwnVariables (sym none) tt
+
 pub step_low : (n : ℕ) (old new : Steps) (step : StepLine) (own : conclusion.Conclusion) → AddsStep old new step own → step.root.0 < n → HasLowEnv n step.env → HasLowNodes n own
 step_low n old new step own it root env = record {
   root = subst (λ (r : NodeId). r.0 < n) (sym it.root) root;
   env = subst (HasLowEnv n) (sym it.env) env;
   puts = puts_low n own.puts it.puts;
+  own = no_puts_own own.puts it.puts;
 }
 
 -- the same with variables that are still to be put in
-pub with_puts_low : (n : ℕ) (own : conclusion.Conclusion) (puts : List Put) → HasLowNodes n own → ((x m : ℕ) → put_at puts x ≡ Some m → m < n) → HasLowNodes n (record own { puts = puts })
-with_puts_low n own puts it low = record { root = it.root; env = it.env; puts = low }
+pub with_puts_low : (n : ℕ) (own : conclusion.Conclusion) (puts : List Put) → HasLowNodes n own → ((x m : ℕ) → put_at puts x ≡ Some m → m < n) → HaveOwnVariables puts
+    → HasLowNodes n (record own { puts = puts })
+with_puts_low n own puts it low own_variables = record { root = it.root; env = it.env; puts = low; own = own_variables }
 
 -- what stands for the variables of a name's type
 pub joins_put_low : (book : List Node) (place : ℕ → ℕ) (showing : BTreeMap ℕ (List ℕ)) (variables : ℕ) (puts : List Put) → AreJoins book place showing variables puts → (x m : ℕ) → put_at puts x ≡ Some m

@@ -48,6 +48,7 @@ use Rattle.mls_lines.proofs.Growing.{grows_itself}
 use Rattle.mls_lines.proofs.GoingOn.{begins, brings_more, ends, step_own, own_stands, brought_first, brought_at}
 use Rattle.mls_lines.proofs.JoinedEnvironments.{meet_stays}
 use Rattle.mls_lines.proofs.LowNodes.{arrow_low, field_low, none_low, offers_low, step_low, there_low, three_low, two_low, up, with_puts_low, without_low}
+use Rattle.mls_lines.proofs.OwnVariables.{first_puts_own, global_puts_own}
 
 -- a node whose conclusion is known
 pub is_known : (w : state.Writer) (i : ℕ) (own : Concluded) → concluded_in w i ≡ Some own → IsSome (concluded_in w i)
@@ -317,7 +318,8 @@ module _ (globals : BTreeMap ℕ GlobalAt) (firsts : BTreeMap ℕ FirstPart) (le
       let stands = own_stands old grown new [] step own start adds in
       let number : own.step ≡ length (steps_of old.steps.lines) = adds.number ∙ (start.sound.counted ∙ ap (λ (s : Steps). length (steps_of s.lines)) grows.steps) in
       let low = with_puts_low (length grown.laid.book) own puts
-      (step_low (length grown.laid.book) grown.steps new.steps step own adds (up old grown p sound grows known.root.0 (globals_low g known found)) (none_low (length grown.laid.book))) puts_are_low in
+      (step_low (length grown.laid.book) grown.steps new.steps step own adds (up old grown p sound grows known.root.0 (globals_low g known found)) (none_low (length grown.laid.book))) puts_are_low
+      (global_puts_own grown.laid.book old.laid.places p i known puts (are sound.closed)) in
       record {
         puts = Some puts;
         plan = a_step_with step [] ∷ [];
@@ -356,7 +358,8 @@ module _ (globals : BTreeMap ℕ GlobalAt) (firsts : BTreeMap ℕ FirstPart) (le
       let stands = own_stands old old new [] step own start adds in
       let number : own.step ≡ length (steps_of old.steps.lines) = adds.number ∙ sound.counted in
       let part_low = firsts_low k part found in
-      let low = with_puts_low (length old.laid.book) own puts (step_low (length old.laid.book) old.steps new.steps step own adds part_low.0 part_low.1) puts_are_low in
+      let low = with_puts_low (length old.laid.book) own puts (step_low (length old.laid.book) old.steps new.steps step own adds part_low.0 part_low.1) puts_are_low
+      (first_puts_own old.laid.places p lets i k part.variable puts are) in
       record {
         puts = Some puts;
         plan = a_step_with step [] ∷ [];

@@ -44,7 +44,8 @@ use Rattle.mls_lines.specs.Stepping.{conclusion_of, Adds, AddsAdapted, AddsStep,
 use Rattle.mls_lines.specs.Writer.{concluded_in, concluded_of, own_node, ConcludesNoMore, Grows, HasLowEnv, HasLowNodes}
 use Rattle.mls_lines.proofs.Bringing.{adapted_adds, adds_steps, adds_then, step_stands}
 use Rattle.mls_lines.proofs.GoingOn.{goes_then, grown_on, same_on, sound_added}
-use Rattle.mls_lines.proofs.LowNodes.{below_longer, entry_low, env_more, met_low, placed_low, puts_joined_low, puts_low, step_low, with_puts_low}
+use Rattle.mls_lines.proofs.LowNodes.{below_longer, entry_low, env_more, met_low, no_puts_own, placed_low, puts_joined_low, puts_low, step_low, with_puts_low}
+use Rattle.mls_lines.proofs.OwnVariables.{joined_own, let_own}
 use Rattle.mls_lines.proofs.Stepping.{adds_longer, step_adds}
 
 -- the step of a node is taken out, whatever its type is
@@ -83,6 +84,7 @@ module _ (old now new : state.Writer) (p : Posing) (i : ℕ) (from : conclusion.
       more = [];
       lines = (λ n. (same_steps n).lines) ∙ sym (append-nil old.steps.lines);
       are = λ later. refl;
+      no_lets = tt;
       counted = subst AreCounted (sym same_steps) sound.counted;
     };
     stands = subst (λ (s : Steps). Stands (steps_of s.lines) from) (sym same_steps) (sound.have i from found);
@@ -149,6 +151,7 @@ settled_put_in old now new p i from to puts placed u sound it (x, m, n, one, two
         root = subst (λ (r : NodeId). r.0 < length old.laid.book) (sym adapts.root) root_low;
         env = subst (HasLowEnv (length old.laid.book)) (sym adapts.env) env_low;
         puts = puts_low (length old.laid.book) to.puts adapts.puts;
+        own = no_puts_own to.puts adapts.puts;
       };
       apart = λ y k e. ap (λ (l : List Put). put_at l y) adapts.puts;
       laid = laid ∙ it.laid;
@@ -186,7 +189,8 @@ module _ (globals : BTreeMap ℕ GlobalAt) (firsts : BTreeMap ℕ FirstPart) (le
       (env_more (length old.laid.book) (length grown.laid.book) up second.env it.low.env) in
       let low = with_puts_low (length grown.laid.book) own (second.puts ++ puts)
       (step_low (length grown.laid.book) grown.steps new.steps step own adds (up second.root.0 it.low.root) met_is_low)
-      (λ x m at. up m (puts_joined_low (length old.laid.book) second.puts puts x m (it.low.puts x m) (puts_are_low x m) at)) in
+      (λ x m at. up m (puts_joined_low (length old.laid.book) second.puts puts x m (it.low.puts x m) (puts_are_low x m) at))
+      (joined_own second.puts puts it.low.own (let_own old.laid.places p lets i k part.variable puts part.env none edges) it.apart) in
       record {
         puts = noted part.env puts;
         plan = plan;

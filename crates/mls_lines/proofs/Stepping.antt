@@ -3,8 +3,8 @@
 --     sub_adapted         a step by pairs
 --     step_adds           a step that asks for no pair
 --     adds_longer         lines that are added last in a longer book
-use Rattle.std.proofs.Common.{◌≡◌, ◌⊎◌, inl, inr, ℕ, suc, ◌<◌, List, [], ◌∷◌, ◌++◌, length, refl, sym, ap, ◌∙◌, subst, arith, append-nil, append_assoc, Option}
-use Rattle.std.specs.Prelude.{Contains}
+use Rattle.std.proofs.Common.{◌≡◌, ◌⊎◌, inl, inr, ℕ, suc, ◌+◌, ◌<◌, List, [], ◌∷◌, ◌++◌, length, refl, sym, ap, ◌∙◌, subst, arith, append-nil, append_assoc, get_or, length-append, Option}
+use Rattle.std.specs.Prelude.{All, Contains}
 use Rattle.std.proofs.lemmas.List.Elements.{All-nil, All-contains, Contains-append_right}
 use Rattle.mls_book.specs.declared.book.Node.{Node}
 use Rattle.mls_book.specs.declared.book.NodeId.{NodeId}
@@ -12,6 +12,7 @@ use Rattle.mls_deriv.specs.declared.derivation.BinderNode.{BinderNode}
 use Rattle.mls_deriv.specs.declared.derivation.SectionLine.{SectionLine}
 use Rattle.mls_deriv.specs.declared.derivation.SectionLine.TheVariants as line
 use Rattle.mls_deriv.specs.declared.derivation.StepLine.{StepLine}
+use Rattle.mls_deriv.specs.declared.derivation.StepRule.{StepRule}
 use Rattle.mls_deriv.specs.declared.derivation.StepRule.TheVariants as rule
 use Rattle.mls_deriv.specs.declared.claim.Pair.{Pair}
 use Rattle.mls_deriv.specs.declared.claim.Put.{Put}
@@ -24,10 +25,11 @@ use Rattle.mls_layout.specs.Emitted.{asked_at, asked_after}
 use Rattle.mls_deriv.proofs.ScopedNames.{first_or_later}
 use Rattle.mls_pairs.specs.Lines.{pair_line, pair_lines, put_lines}
 use Rattle.mls_pairs.specs.PairLists.{pair_of, IsInside, IsPairList}
-use Rattle.mls_layout.specs.Plans.{PlannedLine, AreLinesOf, a_step_with}
+use Rattle.mls_layout.specs.Plans.{PlannedLine, AreLinesOf, HasPairs, StandBehind, a_step_with}
 use Rattle.mls_layout.specs.Runs.{a_step, lines_of}
 use Rattle.mls_lines.specs.Stepping.{conclusion_of, pairs_over, AddsStep, Adds, AddsSub, AreCounted, Stands, AddsAdapted}
 use Rattle.mls_lines.proofs.FrontLists.{front_list}
+use Rattle.mls_lines.proofs.OwnVariables.{puts_all_low}
 use Rattle.mls_lines.proofs.Runs.{no_steps, steps_append}
 
 -- a step by pairs asks for the pairs that go over from the step before
@@ -48,13 +50,48 @@ no_pairs book puts = record {
   has = λ pair there. let low : there.0 < 0 = there.1 in absurd (omega arith);
 }
 
+-- nothing stands behind the step
+nothing_behind : (r : StepRule) → StandBehind r [] []
+nothing_behind rule.Var = (refl, refl)
+nothing_behind (rule.Use s) = (refl, refl)
+nothing_behind (rule.Name n) = (refl, refl)
+nothing_behind rule.Lit = (refl, refl)
+nothing_behind (rule.Fun s) = (refl, refl)
+nothing_behind (rule.App s t) = (refl, refl)
+nothing_behind (rule.Make numbers) = (refl, refl)
+nothing_behind (rule.Proj s) = (refl, refl)
+nothing_behind (rule.If s t u) = (refl, refl)
+nothing_behind (rule.Let s t) = (refl, refl)
+nothing_behind (rule.Rec s) = (refl, refl)
+nothing_behind (rule.Sub s) = tt
+
+-- nodes of a book are nodes of a longer one
+longer_low : (book later : List Node) (i : ℕ) → i < length book → i < length (book ++ later)
+longer_low book later i low = let all : length (book ++ later) ≡ length book + length later = length-append book later in omega (arith, all, low)
+
+pairs_longer : (book later : List Node) (pairs : List Pair) → All (IsInside (length book)) pairs → All (IsInside (length (book ++ later))) pairs
+pairs_longer book later pairs all = λ i d low. let both = all i d low in (longer_low book later (get_or pairs i d).left both.0, longer_low book later (get_or pairs i d).right both.1)
+
 -- a step that asks for no pair
 pub step_adds : (book : List Node) (old new : Steps) (step : StepLine) (c : written.Conclusion) → asked_at (steps_of old.lines) step ≡ [] → AreCounted old → AddsStep old new step c
     → Adds book old new (a_step_with step [] ∷ [])
 step_adds book old new step c none counted it = record {
   more = line.Step step ∷ [];
   lines = it.lines;
-  are = λ later. ([], [], subst (λ (l : List Pair). IsPairList (book ++ later) [] l []) (sym none) (no_pairs (book ++ later) []), refl, refl);
+  are = λ later. (
+    [],
+    [],
+    record {
+      list = subst (λ (l : List Pair). IsPairList (book ++ later) [] l []) (sym none) (no_pairs (book ++ later) []);
+      inside = All-nil (IsInside (length (book ++ later)));
+      low = All-nil (λ (put : Put). put.node < length (book ++ later));
+      own = tt;
+      behind = nothing_behind step.rule;
+    },
+    refl,
+    refl,
+  );
+  no_lets = tt;
   counted =
       it.count
       ∙ (ap suc counted
@@ -68,6 +105,7 @@ adds_longer book more old new plan it = record {
   more = it.more;
   lines = it.lines;
   are = λ later. subst (λ (b : List Node). AreLinesOf b (steps_of old.lines) plan it.more) (sym (append_assoc book more later)) (it.are (more ++ later));
+  no_lets = it.no_lets;
   counted = it.counted;
 }
 
@@ -78,7 +116,7 @@ module _ (book : List Node) (old : Steps) (node : ℕ) (from : written.Conclusio
     adapts = as_it_is none (λ n. (same_root n).0) same_env;
     more = [];
     lines = sym (append-nil old.lines);
-    lasting = λ closed low asked later. refl;
+    lasting = λ closed low own asked later. refl;
     counted = counted;
     root = same_root;
     env = same_env;
@@ -94,11 +132,18 @@ module _ (book : List Node) (old : Steps) (node : ℕ) (from : written.Conclusio
         adapts = subst (λ z. IsAdapted (conclusion_of from) old.count node d u.0 (a_step_with step from.puts ∷ []) z) (sym it.number) by_pairs;
         more = own;
         lines = it.lines;
-        lasting = λ closed low asked later. (
+        lasting = λ closed low own_variables asked later. (
           it.pairs,
           [],
-          subst (λ (l : List Pair). IsPairList (book ++ later) from.puts l it.pairs) (sym (asked_is (steps_of old.lines) node from d u stands))
-              (front_list book later closed from.puts low (pairs_over from.env d from.root.0 u.0) it.pairs asked (it.inside closed.closed low asked) it.list),
+          record {
+            list =
+                subst (λ (l : List Pair). IsPairList (book ++ later) from.puts l it.pairs) (sym (asked_is (steps_of old.lines) node from d u stands))
+                (front_list book later closed from.puts low (pairs_over from.env d from.root.0 u.0) it.pairs asked (it.inside closed.closed low asked) it.list);
+            inside = pairs_longer book later it.pairs (it.inside closed.closed low asked);
+            low = puts_all_low (length (book ++ later)) from.puts own_variables (λ x m found. longer_low book later m (low x m found));
+            own = own_variables;
+            behind = tt;
+          },
           sym (append-nil own),
           refl,
         );

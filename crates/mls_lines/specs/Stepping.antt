@@ -21,7 +21,7 @@ use Rattle.mls_lines.specs.declared.steps.Steps.{Steps}
 use Rattle.mls_lines.specs.Conclusions.{Conclusion, IsAdapted}
 use Rattle.mls_layout.specs.Emitted.{binder_pair}
 use Rattle.mls_pairs.specs.PairLists.{pair_of, IsInside, IsPairList, StaysInside}
-use Rattle.mls_layout.specs.Plans.{PlannedLine, AreLinesOf}
+use Rattle.mls_layout.specs.Plans.{PlannedLine, AreLinesOf, HasNoLets, HaveOwnVariables}
 use Rattle.mls_layout.specs.Runs.{lines_of}
 
 -- the node of a binder
@@ -81,10 +81,12 @@ pub record Adds (book : List Node) (old new : Steps) (plan : List PlannedLine) :
   pub more : List SectionLine
   pub lines : new.lines ≡ old.lines ++ more
   pub are : (later : List Node) → AreLinesOf (book ++ later) (steps_of old.lines) plan more
+  pub no_lets : HasNoLets plan
   pub counted : AreCounted new
 
 -- The lines that are added bring the conclusion to this environment and type. Where the book is closed, and what they put
--- in and go over have nodes of it, the lists of their pairs last: they are lists over each longer book.
+-- in and go over have nodes of it, and no variable is put in twice, the lists of their pairs last: they are lists over
+-- each longer book.
 pub record AddsAdapted (book : List Node) (old new : Steps) (node : ℕ) (from : written.Conclusion) (d : List BinderNode)
     (u : NodeId) (c : written.Conclusion) : Type 0 where
   pub plan : List PlannedLine
@@ -92,7 +94,7 @@ pub record AddsAdapted (book : List Node) (old new : Steps) (node : ℕ) (from :
   pub more : List SectionLine
   pub lines : new.lines ≡ old.lines ++ more
   pub lasting : IsClosedBook book → ((x m : ℕ) → put_at from.puts x ≡ Some m → m < length book)
-      → All (IsInside (length book)) (pairs_over from.env d from.root.0 u.0)
+      → HaveOwnVariables from.puts → All (IsInside (length book)) (pairs_over from.env d from.root.0 u.0)
       → (later : List Node) → AreLinesOf (book ++ later) (steps_of old.lines) plan more
   pub counted : AreCounted new
   pub root : c.root ≡ u

@@ -12,7 +12,7 @@ use Rattle.mls_deriv.specs.Sections.{steps_of}
 use Rattle.mls_deriv.specs.Steps.{IsRising}
 use Rattle.mls_layout.specs.declared.layout.LaidOut.{LaidOut}
 use Rattle.mls_layout.specs.LaidOut.{place_of, IsLonger}
-use Rattle.mls_layout.specs.Plans.{PlannedLine, a_step_with}
+use Rattle.mls_layout.specs.Plans.{PlannedLine, a_step_with, HaveOwnVariables}
 use Rattle.mls_layout.specs.Runs.{a_step}
 use Rattle.mls_layout.specs.Scopes.{entry}
 use Rattle.mls_parts.specs.declared.pose.Posing.{Posing}
@@ -40,11 +40,12 @@ own_node w p x = place_of w.laid.places (binder_in p x)
 abbrev pub HasLowEnv : ℕ → List BinderNode → Type 0
 HasLowEnv n d = (x m : ℕ) → binder_node d x ≡ Some m → m < n
 
--- the type, the nodes of the binders, and what variables stand for are below this number
+-- the type, the nodes of the binders, and what variables stand for are below this number, and no variable stands twice
 pub record HasLowNodes (n : ℕ) (c : conclusion.Conclusion) : Type 0 where
   pub root : c.root.0 < n
   pub env : HasLowEnv n c.env
   pub puts : (x m : ℕ) → put_at c.puts x ≡ Some m → m < n
+  pub own : HaveOwnVariables c.puts
 
 -- the environments of what nodes conclude rise
 abbrev pub HaveRisingSteps : state.Writer → Type 0
