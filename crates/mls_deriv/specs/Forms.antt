@@ -64,3 +64,13 @@ IsLineForm (line.Let k s) = IsWord k × IsWord s
 IsLineForm (line.Step step) = IsStepForm step
 IsLineForm (line.Put x n) = IsWord x × IsWord n.0
 IsLineForm (line.Pair mode i j) = IsWord i.0 × IsWord j.0
+
+-- the labels of a record rise
+abbrev pub HasRisingLabels : Node → Type 0
+HasRisingLabels (node.Rcd fields) = AreRising fields
+HasRisingLabels _ = Unit {0}
+
+-- the binders of a step rise
+abbrev pub HasRisingBinders : SectionLine → Type 0
+HasRisingBinders (line.Step step) = IsRising step.env
+HasRisingBinders _ = Unit {0}

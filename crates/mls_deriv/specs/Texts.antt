@@ -10,7 +10,7 @@ use Rattle.mls_deriv.specs.declared.derivation.SectionLine.TheVariants as line
 use Rattle.mls_deriv.specs.declared.derivation.StepRule.{StepRule}
 use Rattle.mls_deriv.specs.declared.derivation.StepRule.TheVariants as rule
 use Rattle.mls_deriv.specs.Spellings.{derivation_text}
-use Rattle.mls_deriv.specs.Forms.{arguments, IsNodeForm, IsLineForm}
+use Rattle.mls_deriv.specs.Forms.{arguments, IsNodeForm, IsLineForm, HasRisingLabels, HasRisingBinders}
 use Rattle.mls_deriv.specs.Sections.{IsHeadRead}
 
 -- no byte is a newline
@@ -55,6 +55,20 @@ Stands nodes g (line.Pair mode i j) = (i.0 < nodes) × (j.0 < nodes) × IsSome g
 abbrev pub AllStand : (nodes : ℕ) → Given → List SectionLine → Type 0
 AllStand nodes g [] = Unit {0}
 AllStand nodes g (l ∷ rest) = Stands nodes g l × AllStand nodes (after g l) rest
+
+-- each line of the section may stand behind those before it
+abbrev pub LinesStand : Section → Type 0
+LinesStand s = AllStand (length s.nodes) none_given s.lines
+
+-- labels and binders rise in the section
+pub record IsRisingSection (s : Section) : Type 0 where
+  pub labels : All HasRisingLabels s.nodes
+  pub binders : All HasRisingBinders s.lines
+
+-- each node and each line of the section may be spelled
+pub record IsSpelledSection (s : Section) : Type 0 where
+  pub nodes : All IsNodeForm s.nodes
+  pub lines : All IsLineForm s.lines
 
 -- a section that has a text
 pub record IsSectionForm (s : Section) : Type 0 where

@@ -2,8 +2,11 @@
 ghost use Rattle.std.specs.Prelude.{◌≡◌, ◌↔◌, All, IfOk, IsTrue};
 ghost use Rattle.mls_base.specs.Spelling.{IsName};
 ghost use Rattle.mls_deriv.specs.Forms.{IsWord, IsEntryForm, IsFieldForm, IsNodeForm, IsLineForm, IsStepForm, arguments};
+ghost use Rattle.mls_deriv.specs.Forms.{HasRisingBinders, HasRisingLabels};
 ghost use Rattle.mls_deriv.specs.Spellings.{derivation_text};
+ghost use Rattle.mls_deriv.specs.Steps.{IsRising};
 ghost use Rattle.mls_deriv.specs.Texts.{IsOneLine, IsSectionForm, IsTextOf, AllStand, none_given};
+ghost use Rattle.mls_deriv.specs.Texts.{IsRisingSection, IsSpelledSection};
 
 use crate::derivation::{BinderNode, Derivation, Section, SectionLine, StepLine, StepRule};
 use crate::stand::GivenLines;
@@ -23,6 +26,23 @@ pub fn has_text(alloc: Global, derivation: &Derivation) -> Result<bool, Memory>
     ensures { IfOk result (λ yes. IsTrue yes ↔ IsTextOf (derivation_text derivation.now) derivation.now) }
 {
     have_forms(alloc, derivation.sections.as_slice())
+}
+
+/// Whether each node and each line of the sections may be spelled. So it is where labels and binders rise, since other
+/// numbers than machine words, and other labels than names, stand in none.
+pub fn are_spelled(sections: &[Section]) -> bool
+    ensures spelled { IsTrue result ↔ All IsSpelledSection sections.now }
+    ensures rising { All IsRisingSection sections.now → IsTrue result }
+{
+    sections.iter().all(|section| is_spelled(section))
+}
+
+// Whether each node and each line of a section may.
+fn is_spelled(section: &Section) -> bool
+    ensures spelled { IsTrue result ↔ IsSpelledSection section.now }
+    ensures rising { IsRisingSection section.now → IsTrue result }
+{
+    are_nodes(&section.nodes) && are_lines(section.lines.as_slice())
 }
 
 // Whether each of the sections has a text.
@@ -62,21 +82,24 @@ fn is_one_line(bytes: &[u8]) -> bool
 
 // A name is spelled as names are.
 fn is_name(name: &Name) -> bool
-    ensures { IsTrue result ↔ IsName name.now }
+    ensures spelled { IsTrue result ↔ IsName name.now }
+    ensures sure { IsTrue result }
 {
     !name.bytes().is_empty()
 }
 
 // A number of a machine word has the size of one.
 fn is_word(number: usize) -> bool
-    ensures { IsTrue result ↔ IsWord number }
+    ensures word { IsTrue result ↔ IsWord number }
+    ensures sure { IsTrue result }
 {
     number <= usize::MAX
 }
 
 // Whether each of the nodes has a line.
 fn are_nodes(book: &Book) -> bool
-    ensures { IsTrue result ↔ All IsNodeForm book.now }
+    ensures spelled { IsTrue result ↔ All IsNodeForm book.now }
+    ensures rising { All HasRisingLabels book.now → IsTrue result }
 {
     for i in 0..book.len() {
         if !is_node(book.node(NodeId(i))) {
@@ -88,7 +111,8 @@ fn are_nodes(book: &Book) -> bool
 
 // Whether a node has a line: the labels of a record rise.
 fn is_node(node: &Node) -> bool
-    ensures { IsTrue result ↔ IsNodeForm node.now }
+    ensures spelled { IsTrue result ↔ IsNodeForm node.now }
+    ensures rising { HasRisingLabels node.now → IsTrue result }
 {
     match node {
         Node::Bot | Node::Top | Node::Bool | Node::Int => true,
@@ -100,7 +124,8 @@ fn is_node(node: &Node) -> bool
 
 // Whether each of the fields may stand in one.
 fn are_fields(fields: &[Field]) -> bool
-    ensures { IsTrue result ↔ All IsFieldForm fields.now }
+    ensures spelled { IsTrue result ↔ All IsFieldForm fields.now }
+    ensures sure { IsTrue result }
 {
     fields
         .iter()
@@ -109,14 +134,16 @@ fn are_fields(fields: &[Field]) -> bool
 
 // Whether each of the lines behind the nodes may be spelled.
 fn are_lines(lines: &[SectionLine]) -> bool
-    ensures { IsTrue result ↔ All IsLineForm lines.now }
+    ensures spelled { IsTrue result ↔ All IsLineForm lines.now }
+    ensures rising { All HasRisingBinders lines.now → IsTrue result }
 {
     lines.iter().all(|line| is_line(line))
 }
 
 // Whether such a line may: the binders of a step rise.
 fn is_line(line: &SectionLine) -> bool
-    ensures { IsTrue result ↔ IsLineForm line.now }
+    ensures spelled { IsTrue result ↔ IsLineForm line.now }
+    ensures rising { HasRisingBinders line.now → IsTrue result }
 {
     match line {
         SectionLine::Let(k, s) => is_word(*k) && is_word(*s),
@@ -128,7 +155,8 @@ fn is_line(line: &SectionLine) -> bool
 
 // Whether a step may.
 fn is_step(step: &StepLine) -> bool
-    ensures { IsTrue result ↔ IsStepForm step.now }
+    ensures spelled { IsTrue result ↔ IsStepForm step.now }
+    ensures rising { IsRising step.now.env → IsTrue result }
 {
     is_word(step.node)
         && is_rule(&step.rule)
@@ -139,7 +167,8 @@ fn is_step(step: &StepLine) -> bool
 
 // Whether each number of an environment is a word.
 fn are_entries(env: &[BinderNode]) -> bool
-    ensures { IsTrue result ↔ All IsEntryForm env.now }
+    ensures spelled { IsTrue result ↔ All IsEntryForm env.now }
+    ensures sure { IsTrue result }
 {
     env.iter()
         .all(|entry| is_word(entry.binder) && is_word(entry.node.0))
@@ -147,7 +176,8 @@ fn are_entries(env: &[BinderNode]) -> bool
 
 // Whether each number of a rule is.
 fn is_rule(rule: &StepRule) -> bool
-    ensures { IsTrue result ↔ All IsWord (arguments rule.now) }
+    ensures spelled { IsTrue result ↔ All IsWord (arguments rule.now) }
+    ensures sure { IsTrue result }
 {
     match rule {
         StepRule::Var | StepRule::Lit => true,
