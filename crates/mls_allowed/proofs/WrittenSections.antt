@@ -19,7 +19,7 @@ use Rattle.mls_deriv.specs.declared.derivation.Section.{Section}
 use Rattle.mls_deriv.specs.declared.derivation.StepLine.{StepLine}
 use Rattle.mls_deriv.specs.Steps.{env_of, Before, Says}
 use Rattle.mls_deriv.specs.Sections.{at_start, IsHeadRead, IsSectionAllowed}
-use Rattle.mls_deriv.specs.Texts.{AllStand, none_given}
+use Rattle.mls_deriv.specs.Texts.{none_given, LinesStand}
 use Rattle.mls_lines.specs.Conclusions.{IsBrought}
 use Rattle.mls_layout.specs.Lets.{FirstPart, KnowsLet, KnowsLets, after, HaveOwnNumbers}
 use Rattle.mls_layout.specs.Plans.{PlannedLine, a_let, a_step_with, planned_steps, AreLinesOf, HasNoLets, LetsStand}
@@ -197,5 +197,5 @@ module _ (globals : List Scheme) (binding : ResolvedBinding) (section : Section)
       section_allowed globals binding section read head name plan more others e env.empty all.goes row.row is_root refl
       (subst (λ (l : List PlannedLine). AreLinesOf section.nodes [] (plan ++ l) section.lines) (sym row.plan_is) are)
 
-  pub section_stands : AllStand (length section.nodes) none_given section.lines
+  pub section_stands : LinesStand section
   section_stands = lines_stand (plan ++ last) b section.lines none_given refl (lets_then plan last 0 [] all.stand whole.no_lets) are section_written.lines

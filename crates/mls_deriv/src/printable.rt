@@ -34,7 +34,12 @@ pub fn are_spelled(sections: &[Section]) -> bool
     ensures spelled { IsTrue result ↔ All IsSpelledSection sections.now }
     ensures rising { All IsRisingSection sections.now → IsTrue result }
 {
-    sections.iter().all(|section| is_spelled(section))
+    for section in sections {
+        if !is_spelled(section) {
+            return false;
+        }
+    }
+    true
 }
 
 // Whether each node and each line of a section may.

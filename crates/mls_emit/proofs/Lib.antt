@@ -3,3 +3,4 @@ pub mod PlacedNames
 pub mod KeptDrafts
 pub mod AddedParts
 pub mod PlainSections
+pub mod PlainTexts

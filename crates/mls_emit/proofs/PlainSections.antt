@@ -4,15 +4,16 @@
 --     names_more              the types of names stay known behind one entry more
 --     reads_good              what names were read as are types
 --     derivable_at            the entry of this number can be derived, behind those before it
---     plain_allowed           a section that is written plainly is allowed
+--     plain_come              a section that is written plainly is allowed, and its lines stand
 --     sections_more, sections_allowed, as_many    allowed sections, one after another
 --     entries_front, entry_at     entries of a signature
 --     no_sections, next_sections, all_sections    what is written of the sections so far
---     allowed_same            over lists that are the same
+--     can_same, allowed_same  over lists that are the same
 use Rattle.std.proofs.Common.{◌≡◌, ◌⊎◌, inl, inr, ℕ, zero, suc, ◌+◌, ◌<◌, ◌≤◌, ◌^◌, List, [], ◌∷◌, ◌++◌, map, take, length, refl, sym, ap, ◌∙◌, subst, arith, append_assoc, append-nil, slice_get, get_or, Some, None}
 use Rattle.std.specs.Prelude.{All}
 use Rattle.std.specs.BTreeMap.{BTreeMap, IsEmpty}
 use Rattle.std.proofs.lemmas.List.{map-append, take_more}
+use Rattle.std.proofs.lemmas.List.Elements.{All-append, All-cons, All-nil}
 use Rattle.std.proofs.lemmas.Option.{get_or_from_slice_get, slice_get-get_or, slice_get_within}
 use Rattle.mls_book.specs.declared.book.Node.{Node}
 use Rattle.mls_book.specs.Books.{IsClosedBook}
@@ -31,6 +32,7 @@ use Rattle.mls_typetext.specs.Texts.{IsTypeText}
 use Rattle.mls_typetext.proofs.ReadLaws.{read_is_closed}
 use Rattle.mls_deriv.specs.declared.derivation.Section.{Section}
 use Rattle.mls_deriv.specs.Sections.{schemes_of, AreSectionsAllowed, IsSectionAllowed}
+use Rattle.mls_deriv.specs.Texts.{LinesStand}
 use Rattle.mls_layout.specs.LaidOut.{IsLonger}
 use Rattle.mls_iface.specs.Matches.{IsRead}
 use Rattle.mls_iface.specs.Signatures.{IsEntry}
@@ -40,7 +42,7 @@ use Rattle.mls_typenodes.specs.OneEach.{HasOneEach}
 use Rattle.mls_typenodes.proofs.PrintedTypes.{printed_has_one}
 use Rattle.mls_lines.proofs.Growing.{longer_itself, longer_then}
 use Rattle.mls_sections.specs.KnownNames.{AreNameTypes}
-use Rattle.mls_sections.proofs.SectionsAllowed.{section_come}
+use Rattle.mls_sections.proofs.SectionsAllowed.{section_come, IsSectionCome}
 use Rattle.mls_emit.specs.Derivable.{CanAllBeDerived, CanBeDerived, names_read}
 use Rattle.mls_emit.specs.Derived.{entry_names, entry_texts, section_names, section_texts}
 use Rattle.mls_emit.specs.Drafts.{IsGrown}
@@ -120,11 +122,11 @@ derivable_at declared (binding ∷ bindings) (first ∷ entries) all (suc k) b e
     subst (λ (reads : List ReadScheme). CanBeDerived reads b e) (append_assoc declared (first.scheme ∷ []) (map (λ (entry : SigEntry). entry.scheme) (take k entries)))
     (derivable_at (declared ++ first.scheme ∷ []) bindings entries all.1 k b e at is)
 
--- a section that is written plainly is allowed
-pub plain_allowed : (declared : List ReadScheme) (earlier : List SigEntry) → All IsRead declared → All IsEntry earlier → (binding : ResolvedBinding) (section : Section) (e : SigEntry) → IsEntry e → section.name ≡ e.name → section.text ≡ e.text
+-- a section that is written plainly is allowed, and each of its lines may stand where it does
+pub plain_come : (declared : List ReadScheme) (earlier : List SigEntry) → All IsRead declared → All IsEntry earlier → (binding : ResolvedBinding) (section : Section) (e : SigEntry) → IsEntry e → section.name ≡ e.name → section.text ≡ e.text
     → length e.text < 2 ^ 64 → (count : ℕ) → IsTerm count binding.term.nodes binding.term.binders binding.term.lets → CanBeDerived (names_read declared earlier) binding e
-    → IsPlainSection (names_read declared earlier) binding.term.nodes e.scheme section.nodes section.lines → IsSectionAllowed (schemes_of (names_read declared earlier)) binding section e.scheme
-plain_allowed declared earlier are entries binding section e is_entry name text short count term can it =
+    → IsPlainSection (names_read declared earlier) binding.term.nodes e.scheme section.nodes section.lines → IsSectionCome (schemes_of (names_read declared earlier)) binding section e.scheme
+plain_come declared earlier are entries binding section e is_entry name text short count term can it =
     section_come reads (reads_good declared earlier are entries) binding section e.scheme (read_is_closed e.text e.scheme is_entry.reads) (subst (λ t. IsTypeText t e.scheme) (sym text) is_entry.reads) (name ∙ can.name)
     (printed_has_one can.text.scheme e.text e.scheme can.text.is can.text.named can.text.free can.text.printed short is_entry.reads) count term can.rising
     (subst (λ (t : TermTree). Derives (at_start (schemes_of reads)) t (scheme_of e.scheme)) (one_term_tree can.derivable.term_tree term.tree (sym can.derivable.nodes ∙ term.nodes_are)) can.derivable.derives)
@@ -184,12 +186,13 @@ pub entry_at : (entries : List SigEntry) → All IsEntry entries → (k : ℕ) (
 entry_at entries all k e low is = subst IsEntry (sym is) (all k e low)
 
 -- The first k sections have the names and the types of the first k entries, each type that is known of a name is that of
--- the name, and what is written plainly is allowed.
+-- the name, and what is written plainly is allowed, and its lines stand.
 pub record HaveSections (plain : Type 0) (declared : List ReadScheme) (bindings : List ResolvedBinding) (entries : List SigEntry) (k : ℕ) (sections : List Section) (schemes : BTreeMap ℕ Scheme) : Type 0 where
   pub names : section_names sections ≡ entry_names (take k entries)
   pub texts : section_texts sections ≡ entry_texts (take k entries)
   pub types : AreNameTypes (names_read declared (take k entries)) schemes
   pub allowed : plain → CanAllBeDerived declared bindings entries → AreEntriesAllowed declared (take k bindings) (take k entries) sections
+  pub stand : plain → CanAllBeDerived declared bindings entries → All LinesStand sections
 
 module _ (plain : Type 0) (declared : List ReadScheme) (bindings : List ResolvedBinding) (entries : List SigEntry) where
   pub no_sections : (sections : List Section) (schemes : BTreeMap ℕ Scheme) → sections ≡ [] → IsEmpty schemes → HaveSections plain declared bindings entries 0 sections schemes
@@ -198,6 +201,7 @@ module _ (plain : Type 0) (declared : List ReadScheme) (bindings : List Resolved
     texts = ap (λ (ss : List Section). section_texts ss) is;
     types = no_name (names_read declared []) schemes empty;
     allowed = λ p can. subst (AreEntriesAllowed declared [] []) (sym is) tt;
+    stand = λ p can. subst (All LinesStand) (sym is) (All-nil LinesStand);
   }
 
   module _ (k : ℕ) (sections : List Section) (schemes : BTreeMap ℕ Scheme) (so_far : HaveSections plain declared bindings entries k sections schemes) where
@@ -208,10 +212,14 @@ module _ (plain : Type 0) (declared : List ReadScheme) (bindings : List Resolved
       bindings_are : take (k + 1) bindings ≡ take k bindings ++ b ∷ []
       bindings_are = take_more bindings k b (slice_get_within bindings k b is) ∙ ap (λ (x : ResolvedBinding). take k bindings ++ x ∷ []) (get_or_from_slice_get bindings k b b is)
 
+      here : slice_get entries k ≡ Some e
+      here = slice_get-get_or entries k e low ∙ ap (λ (x : SigEntry). Some x) (sym at)
+
       pub next_sections : s.name ≡ e.name → s.text ≡ e.text → AreNameTypes (names_read declared (take k entries)) known
           → (plain → CanBeDerived (names_read declared (take k entries)) b e → IsSectionAllowed (schemes_of (names_read declared (take k entries))) b s e.scheme)
+          → (plain → CanBeDerived (names_read declared (take k entries)) b e → LinesStand s)
           → (new : List Section) → new ≡ sections ++ s ∷ [] → HaveSections plain declared bindings entries (k + 1) new known
-      next_sections name text types allowed new pushed = record {
+      next_sections name text types allowed stand new pushed = record {
         names =
             ap (λ (ss : List Section). section_names ss) pushed ∙ (map-append (λ (x : Section). x.name) sections (s ∷ [])
             ∙ (ap (λ ns. ns ++ s.name ∷ []) so_far.names ∙ (ap (λ n. entry_names (take k entries) ++ n ∷ []) name
@@ -222,11 +230,14 @@ module _ (plain : Type 0) (declared : List ReadScheme) (bindings : List Resolved
             ∙ (sym (map-append (λ (x : SigEntry). x.text) (take k entries) (e ∷ [])) ∙ ap (λ (es : List SigEntry). entry_texts es) (sym entries_are)))));
         types = subst (λ (es : List SigEntry). AreNameTypes (names_read declared es) known) (sym entries_are) (names_more declared (take k entries) e known types);
         allowed = λ p can.
-            let here : slice_get entries k ≡ Some e = slice_get-get_or entries k e low ∙ ap (λ (x : SigEntry). Some x) (sym at) in
             subst (AreEntriesAllowed declared (take (k + 1) bindings) (take (k + 1) entries)) (sym pushed)
             (subst (λ (es : List SigEntry). AreEntriesAllowed declared (take (k + 1) bindings) es (sections ++ s ∷ [])) (sym entries_are)
             (subst (λ (bs : List ResolvedBinding). AreEntriesAllowed declared bs (take k entries ++ e ∷ []) (sections ++ s ∷ [])) (sym bindings_are)
             (sections_more declared (take k bindings) (take k entries) sections b e s (so_far.allowed p can) (allowed p (derivable_at declared bindings entries can k b e is here)))));
+        stand = λ p can.
+            subst (All LinesStand) (sym pushed)
+            (All-append LinesStand sections (s ∷ []) (so_far.stand p can)
+            (All-cons LinesStand s [] (stand p (derivable_at declared bindings entries can k b e is here)) (All-nil LinesStand)));
       }
 
     -- all entries were gone over
@@ -246,12 +257,16 @@ module _ (plain : Type 0) (declared : List ReadScheme) (bindings : List Resolved
           (subst (λ (es : List SigEntry). AreEntriesAllowed declared (take k bindings) es sections) (take-all entries k past) (so_far.allowed p can)))
 
 -- over lists that are the same
+pub can_same : (known read : List ReadScheme) (bindings bound : List ResolvedBinding) (entries stated : List SigEntry) → known ≡ read → bindings ≡ bound → entries ≡ stated → CanAllBeDerived read bound stated
+    → CanAllBeDerived known bindings entries
+can_same known read bindings bound entries stated same_known same_bindings same_entries can =
+    subst (λ (ks : List ReadScheme). CanAllBeDerived ks bindings entries) (sym same_known)
+    (subst (λ (bs : List ResolvedBinding). CanAllBeDerived read bs entries) (sym same_bindings)
+    (subst (λ (es : List SigEntry). CanAllBeDerived read bound es) (sym same_entries) can))
+
 pub allowed_same : (known read : List ReadScheme) (bindings bound : List ResolvedBinding) (entries stated : List SigEntry) (sections : List Section) → known ≡ read → bindings ≡ bound → entries ≡ stated
     → (CanAllBeDerived known bindings entries → AreSectionsAllowed known bindings sections) → CanAllBeDerived read bound stated → AreSectionsAllowed read bound sections
 allowed_same known read bindings bound entries stated sections same_known same_bindings same_entries allowed can =
     subst (λ (ks : List ReadScheme). AreSectionsAllowed ks bound sections) same_known
     (subst (λ (bs : List ResolvedBinding). AreSectionsAllowed known bs sections) same_bindings
-    (allowed
-    (subst (λ (ks : List ReadScheme). CanAllBeDerived ks bindings entries) (sym same_known)
-    (subst (λ (bs : List ResolvedBinding). CanAllBeDerived read bs entries) (sym same_bindings)
-    (subst (λ (es : List SigEntry). CanAllBeDerived read bound es) (sym same_entries) can)))))
+    (allowed (can_same known read bindings bound entries stated same_known same_bindings same_entries can)))

@@ -1,4 +1,6 @@
--- A section whose parts have come, one after another, is allowed, where its term has the type that was read.
+-- A section whose parts have come, one after another, is allowed, where its term has the type that was read, and each of
+-- its lines stands where it may.
+--     IsSectionCome
 --     section_come
 use Rattle.std.proofs.Common.{◌≡◌, ◌⊎◌, inl, inr, ℕ, suc, ◌+◌, ◌<◌, ◌≤◌, List, [], ◌++◌, length, map, refl, sym, ap, ◌∙◌, subst, arith, append-nil, slice_get, Option, Some, None}
 use Rattle.std.proofs.Math.ListN.{get_or-append}
@@ -40,6 +42,7 @@ use Rattle.mls_deriv.specs.declared.derivation.StepLine.{StepLine}
 use Rattle.mls_deriv.specs.Sections.{at_start, schemes_of, steps_of, IsHeadRead, IsSectionAllowed}
 use Rattle.mls_deriv.proofs.AllowedSections.{read_scheme}
 use Rattle.mls_deriv.specs.Steps.{env_of, Before, HasFrom}
+use Rattle.mls_deriv.specs.Texts.{LinesStand}
 use Rattle.mls_layout.specs.LaidOut.{place_of, IsLonger}
 use Rattle.mls_layout.specs.Layouts.{IsTypeLayout}
 use Rattle.mls_layout.specs.Lets.{after}
@@ -83,7 +86,12 @@ use Rattle.mls_allowed.proofs.SectionParts.{come_added}
 use Rattle.mls_sections.proofs.SectionsCome.{come_written, last_part, HasWhole, HasWritten, Ready}
 use Rattle.mls_sections.proofs.SectionsGo.{begins_going, come_goes, globals_old, types_same, whole_longer, whole_made_longer}
 use Rattle.mls_sections.proofs.ShownVariables.{read_shown}
-use Rattle.mls_allowed.proofs.WrittenSections.{section_written}
+use Rattle.mls_allowed.proofs.WrittenSections.{section_written, section_stands}
+
+-- The section is allowed, and each of its lines may stand where it does.
+pub record IsSectionCome (globals : List book.Scheme) (binding : ResolvedBinding) (section : Section) (read : ReadScheme) : Type 0 where
+  pub allowed : IsSectionAllowed globals binding section read
+  pub stand : LinesStand section
 
 module _ (reads : List ReadScheme) (good : (g : ℕ) (r : ReadScheme) → slice_get reads g ≡ Some r → IsReadScheme r) (binding : ResolvedBinding) (section : Section) (read : ReadScheme) (is_read : IsReadScheme read) (is_text : IsTypeText section.text read) (name : section.name ≡ binding.name)
     (one : (i : ℕ) → i < length read.book → HasOneEach read.book i)
@@ -317,9 +325,13 @@ module _ (reads : List ReadScheme) (good : (g : ℕ) (r : ReadScheme) → slice_
       begins = λ i low. ap (node_at section.nodes) (omega arith) ∙ (from.nodes i low ∙ raised_none (node_at read.book i));
     }
 
-    whole_allowed : IsSectionAllowed (schemes_of reads) binding section read
-    whole_allowed =
-        section_written (schemes_of reads) binding section read head name so_far.firsts so_far.own_numbers so_far.plan done.plan (steps_of old.steps.lines) so_far.lines so_far.written q written it.is_last lines
+    whole_come : IsSectionCome (schemes_of reads) binding section read
+    whole_come = record {
+      allowed =
+          section_written (schemes_of reads) binding section read head name so_far.firsts so_far.own_numbers so_far.plan done.plan (steps_of old.steps.lines) so_far.lines so_far.written q written it.is_last lines;
+      stand =
+          section_stands (schemes_of reads) binding section read head name so_far.firsts so_far.own_numbers so_far.plan done.plan (steps_of old.steps.lines) so_far.lines so_far.written q written it.is_last lines;
+    }
 
-  pub section_come : IsSectionAllowed (schemes_of reads) binding section read
-  section_come = whole_allowed whole_part.root whole_part.old whole_part.before whole_part.adds
+  pub section_come : IsSectionCome (schemes_of reads) binding section read
+  section_come = whole_come whole_part.root whole_part.old whole_part.before whole_part.adds
