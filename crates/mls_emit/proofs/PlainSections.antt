@@ -4,7 +4,7 @@
 --     names_more              the types of names stay known behind one entry more
 --     reads_good              what names were read as are types
 --     derivable_at            the entry of this number can be derived, behind those before it
---     plain_come              a section that is written plainly is allowed, and its lines stand
+--     plain_come, entry_come  a section that is written plainly is allowed, and its lines stand
 --     sections_more, sections_allowed, as_many    allowed sections, one after another
 --     entries_front, entry_at     entries of a signature
 --     no_sections, next_sections, all_sections    what is written of the sections so far
@@ -20,6 +20,7 @@ use Rattle.mls_book.specs.Books.{IsClosedBook}
 use Rattle.mls_automaton.specs.declared.scheme.Scheme.{Scheme}
 use Rattle.mls_automaton.proofs.Searches.{take-all}
 use Rattle.mls_term.specs.declared.term.ResolvedBinding.{ResolvedBinding}
+use Rattle.mls_term.specs.declared.term.TermNode.{TermNode}
 use Rattle.mls_term.specs.Derivations.{Derives}
 use Rattle.mls_term.specs.Terms.{TermTree}
 use Rattle.mls_term.specs.WellFormed.{IsTerm}
@@ -134,6 +135,15 @@ plain_come declared earlier are entries binding section e is_entry name text sho
   where
     reads : List ReadScheme
     reads = names_read declared earlier
+
+-- so is the section of an entry, whose own parts are the same
+pub entry_come : (declared : List ReadScheme) (earlier : List SigEntry) → All IsRead declared → All IsEntry earlier → (binding : ResolvedBinding) (section : Section) (e : SigEntry) → IsEntry e → section.name ≡ e.name → section.text ≡ e.text
+    → (bytes : List ℕ) → bytes ≡ e.text → length bytes < 2 ^ 64 → (count : ℕ) → IsTerm count binding.term.nodes binding.term.binders binding.term.lets → (nodes : List TermNode) → nodes ≡ binding.term.nodes → (read : ReadScheme) → read ≡ e.scheme
+    → IsPlainSection (names_read declared earlier) nodes read section.nodes section.lines → CanBeDerived (names_read declared earlier) binding e → IsSectionCome (schemes_of (names_read declared earlier)) binding section e.scheme
+entry_come declared earlier are entries binding section e is_entry name text bytes same_bytes short count term nodes same_nodes read same_read it can =
+    plain_come declared earlier are entries binding section e is_entry name text (subst (λ (xs : List ℕ). length xs < 2 ^ 64) same_bytes short) count term can
+    (subst (λ (r : ReadScheme). IsPlainSection (names_read declared earlier) binding.term.nodes r section.nodes section.lines) same_read
+    (subst (λ (ns : List TermNode). IsPlainSection (names_read declared earlier) ns read section.nodes section.lines) same_nodes it))
 
 -- the first sections, each with its entry, are allowed
 abbrev pub AreEntriesAllowed : (known : List ReadScheme) → List ResolvedBinding → List SigEntry → List Section → Type 0

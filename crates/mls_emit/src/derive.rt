@@ -2,7 +2,7 @@
 ghost use Rattle.std.specs.Prelude.{◌≡◌, ◌<◌, ◌^◌, ℕ, length, slice_get, All, IfOk, IfSome, OnOk, Some};
 ghost use Rattle.mls_deriv.specs.Laws.{AreDerivable, AreTerms};
 ghost use Rattle.mls_deriv.specs.Spellings.{derivation_text};
-ghost use Rattle.mls_deriv.specs.Texts.{IsTextOf};
+ghost use Rattle.mls_deriv.specs.Texts.{IsTextOf, LinesStand};
 ghost use Rattle.mls_infer.specs.Inference.{AreNames};
 ghost use Rattle.mls_iface.specs.Matches.{IsRead};
 ghost use Rattle.mls_iface.specs.Signatures.{IsEntry};
@@ -22,7 +22,7 @@ use mls_base::list::List;
 use mls_base::memory::Memory;
 use mls_book::name::Name;
 use mls_deriv::derivation::{Derivation, Section, Sections};
-use mls_deriv::printable::has_text;
+use mls_deriv::printable::{are_spelled, has_text};
 use mls_deriv::verify::{Verified, verify};
 use mls_iface::signature::{SigEntry, Signature};
 use mls_term::term::{Resolved, ResolvedBinding};
@@ -80,6 +80,8 @@ fn section_of(
     ensures allowed { way ≡ Plain → CanBeDerived (names_read declared.now earlier.now) binding.now entry.now
         → IfOk result (λ s. IsSectionAllowed (schemes_of (names_read declared.now earlier.now)) binding.now s
         entry.now.scheme) }
+    ensures stand { way ≡ Plain → CanBeDerived (names_read declared.now earlier.now) binding.now entry.now
+        → IfOk result LinesStand }
 {
     let nodes = binding.term.nodes.as_slice();
     let read = scheme_of(entry);
@@ -117,6 +119,8 @@ fn sections_of(
     ensures texts { IfOk result (λ sections. section_texts sections ≡ entry_texts entries.now) }
     ensures allowed { way ≡ Plain → CanAllBeDerived declared.now bindings.now entries.now
         → IfOk result (AreSectionsAllowed declared.now bindings.now) }
+    ensures stand { way ≡ Plain → CanAllBeDerived declared.now bindings.now entries.now
+        → IfOk result (All LinesStand) }
 {
     let mut sections = Sections::new(alloc);
     let mut schemes = Schemes::new(alloc);
@@ -152,6 +156,8 @@ fn written(
     ensures texts { IfOk result (λ d. section_texts d.sections ≡ entry_texts signature.now.entries) }
     ensures allowed { way ≡ Plain → CanAllBeDerived declared.now.schemes «module».now.bindings signature.now.entries
         → IfOk result (λ d. AreSectionsAllowed declared.now.schemes «module».now.bindings d.sections) }
+    ensures stand { way ≡ Plain → CanAllBeDerived declared.now.schemes «module».now.bindings signature.now.entries
+        → IfOk result (λ d. All LinesStand d.sections) }
 {
     let sections = sections_of(
         alloc,
@@ -190,7 +196,7 @@ fn short_derivation_of(
     }
 }
 
-// A derivation whose lines are written plainly, which needs no check.
+// A derivation whose lines are written plainly, which needs no check and always has a text.
 fn plain_derivation_of(
     alloc: Global,
     module: &Resolved,
@@ -207,9 +213,7 @@ fn plain_derivation_of(
     ensures text { IfOk result (λ d. IsTextOf (derivation_text d) d) }
 {
     let derivation = written(alloc, Way::Plain, module, declared, signature)?;
-    if !has_text(alloc, &derivation)? {
-        return Err(Memory);
-    }
+    prove!(are_spelled(derivation.sections.as_slice()));
     Ok(derivation)
 }
 
@@ -221,8 +225,7 @@ fn plain_derivation_of(
 ///
 /// # Errors
 ///
-/// `Memory` where memory is wanting, or where plain lines have no text. That they always have one is tested, and not
-/// proved.
+/// `Memory` where memory is wanting.
 pub fn derivation_of(
     alloc: Global,
     module: &Resolved,

@@ -25,7 +25,7 @@ pub loop-k-preserved : goal.loop-k-preserved
 loop-k-preserved c =
     next_sections (c.args.way ≡ Plain) c.args.declared.now c.args.bindings.now c.args.entries.now c.loop-k.k c.loop-k.sections c.loop-k.schemes c.loop-k.invariant c.loop-k-test.true
     c.in_ok-binding.binding.now c.index-entries-k.result c.in_ok-section.section c.section_of.new.schemes c.in_ok-binding.ensures c.index-entries-k.is
-    c.in_ok-section.ensures.name c.in_ok-section.ensures.text c.section_of.ensures.types c.in_ok-section.ensures.allowed c.push.new.self c.in_ok-push.ensures.ok
+    c.in_ok-section.ensures.name c.in_ok-section.ensures.text c.section_of.ensures.types c.in_ok-section.ensures.allowed c.in_ok-section.ensures.stand c.push.new.self c.in_ok-push.ensures.ok
 
 -- all entries were gone over
 pub returns-clause-names : goal.returns-clause-names
@@ -42,3 +42,6 @@ pub returns-clause-allowed : goal.returns-clause-allowed
 returns-clause-allowed c =
     let past : length c.args.entries.now ≤ c.loop-k.k = omega arith in
     all_sections (c.args.way ≡ Plain) c.args.declared.now c.args.bindings.now c.args.entries.now c.loop-k.k c.loop-k.sections c.loop-k.schemes c.loop-k.invariant past
+
+pub returns-clause-stand : goal.returns-clause-stand
+returns-clause-stand c = c.loop-k.invariant.stand
