@@ -104,9 +104,9 @@ module _ (n : ℕ) (rest : List SectionLine) where
       still_fresh : (other : Put) → Contains puts other → Contains (put.variable ∷ xs) other.variable → ⊥
       still_fresh other there again = elim (Contains-cases put.variable xs other.variable again) [
         | inl same ↦ (
-          let found = put_found puts other there in
-          let none : put_at puts other.variable ≡ None = ap (put_at puts) (sym same) ∙ own.0 in
-          absurd (let wrong : None ≡ Some found.0 = sym none ∙ found.1 in cc))
+            let found = put_found puts other there in
+            let none : put_at puts other.variable ≡ None = ap (put_at puts) (sym same) ∙ own.0 in
+            absurd (let wrong : None ≡ Some found.0 = sym none ∙ found.1 in cc))
         | inr earlier ↦ fresh other (Contains-later put puts other there) earlier
       ]
 

@@ -28,8 +28,8 @@ pub fn has_text(alloc: Global, derivation: &Derivation) -> Result<bool, Memory>
     have_forms(alloc, derivation.sections.as_slice())
 }
 
-/// Whether each node and each line of the sections may be spelled. So it is where labels and binders rise, since other
-/// numbers than machine words, and other labels than names, stand in none.
+/// Whether each node and each line of the sections may be spelled. So it is wherever labels and binders rise, since each
+/// number is a machine word, and each label a name.
 pub fn are_spelled(sections: &[Section]) -> bool
     ensures spelled { IsTrue result ↔ All IsSpelledSection sections.now }
     ensures rising { All IsRisingSection sections.now → IsTrue result }

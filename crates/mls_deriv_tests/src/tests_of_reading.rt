@@ -2,7 +2,7 @@
 use mls_base::memory::Memory;
 use mls_deriv::fault::DerivFault;
 use mls_deriv::print::print_derivation;
-use mls_deriv::printable::has_text;
+use mls_deriv::printable::{are_spelled, has_text};
 use mls_deriv::read::read_derivation;
 use std::alloc::Global;
 use std::test::Fail;
@@ -235,5 +235,6 @@ fn tells_that_the_identity_has_a_text(rt: HostRuntime) -> Result<(), Fail> {
         return Err(Memory.into());
     };
     assert!(rt; has_text(alloc, &derivation)?);
+    assert!(rt; are_spelled(derivation.sections.as_slice()));
     Ok(())
 }

@@ -221,7 +221,7 @@ fn plain_derivation_of(
 /// declare. There is one entry for each binding, whose type the rules derive, and whose text is printed. The derivation
 /// has one section for each entry, each step is allowed, and what `print_derivation` writes of it is read back as the
 /// same derivation. Its lines are short ones, which are checked; where the check refuses these, they are plain ones,
-/// which are always allowed.
+/// which are always allowed and have a text.
 ///
 /// # Errors
 ///

@@ -19,4 +19,3 @@ pub mod ShownTops
 pub mod FrontLists
 pub mod LowNodes
 pub mod OwnVariables
-
