@@ -1,7 +1,7 @@
 -- What is written plainly has a text.
 --     plain_sections      sections of entries that are allowed, that may be spelled, and whose lines stand
 use Rattle.std.proofs.Common.{◌≡◌, ◌≢◌, ℕ, List, [], ◌∷◌, ◌++◌, true, sym, subst}
-use Rattle.std.specs.Prelude.{All, not, ◌&&◌, ◌==◌}
+use Rattle.std.specs.Prelude.{All, not, ◌==◌}
 use Rattle.std.specs.List.{list_all}
 use Rattle.std.proofs.lemmas.Bool.{and_parts, eq-eqb}
 use Rattle.std.proofs.lemmas.List.Elements.{All-nil, All-cons, All-head, All-tail}

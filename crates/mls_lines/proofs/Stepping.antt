@@ -25,7 +25,7 @@ use Rattle.mls_layout.specs.Emitted.{asked_at, asked_after}
 use Rattle.mls_deriv.proofs.ScopedNames.{first_or_later}
 use Rattle.mls_pairs.specs.Lines.{pair_line, pair_lines, put_lines}
 use Rattle.mls_pairs.specs.PairLists.{pair_of, IsInside, IsPairList}
-use Rattle.mls_layout.specs.Plans.{PlannedLine, AreLinesOf, HasPairs, StandBehind, a_step_with}
+use Rattle.mls_layout.specs.Plans.{PlannedLine, AreLinesOf, StandBehind, a_step_with}
 use Rattle.mls_layout.specs.Runs.{a_step, lines_of}
 use Rattle.mls_lines.specs.Stepping.{conclusion_of, pairs_over, AddsStep, Adds, AddsSub, AreCounted, Stands, AddsAdapted}
 use Rattle.mls_lines.proofs.FrontLists.{front_list}
