@@ -38,4 +38,4 @@ pub mod FrontLines
 pub mod WordValues
 pub mod Guessed
 pub mod KnownLines
-pub mod SectionForms
+pub mod StandingNames

@@ -29,7 +29,7 @@ tied : (x y : ℕ) → x ≡ y → nat_cmp x y ≡ Equal
 tied x y e = sym (nat_cmp_is x y Equal e)
 
 -- a set with one more pair
-set_added : (i j : ℕ) (old new : BTreeSet (ℕ × ℕ)) → Updates numbers_cmp old new (i, j) true → (k l : ℕ)
+pub set_added : (i j : ℕ) (old new : BTreeSet (ℕ × ℕ)) → Updates numbers_cmp old new (i, j) true → (k l : ℕ)
     → IsTrue (contains numbers_cmp new (k, l)) ↔ (IsTrue (contains numbers_cmp old (k, l)) ⊎ ((i ≡ k) × (j ≡ l)))
 set_added i j old new updates k l =
     let same : contains numbers_cmp new (k, l) ≡ cond (is_eq (numbers_cmp (i, j) (k, l))) true (contains numbers_cmp old (k, l)) = updates.0 (k, l) in

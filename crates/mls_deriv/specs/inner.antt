@@ -2,6 +2,7 @@
 pub mod Tables
 pub mod PairRules
 pub mod Rules
+pub mod Names
 pub mod Walks
 pub mod Clauses
 pub mod Readings

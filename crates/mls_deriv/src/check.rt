@@ -6,10 +6,12 @@ ghost use Rattle.std.specs.Ordering.{nat_cmp};
 ghost use Rattle.mls_book.specs.Books.{IsClosedBook};
 ghost use Rattle.mls_deriv.specs.Sections.{schemes_of};
 ghost use Rattle.mls_deriv.specs.Steps.{form_at, IsAllowed, IsRising, puts_of, pairs_of};
+ghost use Rattle.mls_deriv.specs.inner.Names.{DoStand};
 ghost use Rattle.mls_deriv.specs.inner.Rules.{ByForm, HasRule, IsPlain};
 ghost use Rattle.mls_deriv.specs.inner.Tables.{Holds, put_in};
 
 use crate::derivation::{SectionLine, StepLine, StepRule};
+use crate::named::StandingNames;
 use crate::rules::{
     by_app, by_fun, by_if, by_let, by_lit, by_make, by_name, by_proj, by_rec, by_use, by_var,
 };
@@ -24,16 +26,18 @@ use std::alloc::Global;
 use std::collections::BTreeMap;
 
 /// Whether the step is allowed that these lines follow, in a section over these nodes, behind these steps and let
-/// lines. The schemes of the environment are the declared ones and then the earlier ones.
+/// lines. The schemes of the environment are the declared ones and then the earlier ones; the nodes of some are known to
+/// stand in the book.
 ///
 /// # Errors
 ///
 /// `Memory` where memory is wanting.
-pub fn is_allowed(
+pub(crate) fn is_allowed(
     alloc: Global,
     nodes: &[TermNode],
     declared: &[ReadScheme],
     earlier: &[ReadScheme],
+    names: &StandingNames,
     book: &Book,
     steps: &Steps,
     lets: &BTreeMap<usize, usize>,
@@ -41,6 +45,7 @@ pub fn is_allowed(
     step: &StepLine,
 ) -> Result<bool, Memory>
     requires closed { IsClosedBook book.now }
+    requires names { DoStand book.now (declared.now ++ earlier.now) names.now }
     requires rising { (n : _) (s : _) → slice_get steps.now n ≡ Some s → IsRising s.env }
     ensures { IfOk result (λ allowed. (known : _) → ((k : _) → get nat_cmp lets.now k ≡ finmap.find nat_cmp k known)
         → IsTrue allowed ↔ IsAllowed (record {
@@ -53,7 +58,7 @@ pub fn is_allowed(
 {
     let table = table_of(alloc, lines)?;
     let found = is_found(
-        alloc, nodes, declared, earlier, book, steps, lets, &table, lines, step,
+        alloc, nodes, declared, earlier, names, book, steps, lets, &table, lines, step,
     )?;
     Ok(found)
 }
@@ -64,6 +69,7 @@ fn is_found(
     nodes: &[TermNode],
     declared: &[ReadScheme],
     earlier: &[ReadScheme],
+    names: &StandingNames,
     book: &Book,
     steps: &Steps,
     lets: &BTreeMap<usize, usize>,
@@ -72,6 +78,7 @@ fn is_found(
     step: &StepLine,
 ) -> Result<bool, Memory>
     requires closed { IsClosedBook book.now }
+    requires names { DoStand book.now (declared.now ++ earlier.now) names.now }
     ensures { IfOk result (λ found. IsTrue found ↔ (IsPlain (length book.now) step.now × HasRule book.now steps.now
         (get nat_cmp lets.now) (declared.now ++ earlier.now) (put_in table.now) (Holds table.now) lines.now
         step.now step.now.rule (form_at nodes.now step.now.node))) }
@@ -80,7 +87,7 @@ fn is_found(
         return Ok(false);
     }
     has_rule(
-        alloc, nodes, declared, earlier, book, steps, lets, table, lines, step,
+        alloc, nodes, declared, earlier, names, book, steps, lets, table, lines, step,
     )
 }
 
@@ -99,6 +106,7 @@ fn has_rule(
     nodes: &[TermNode],
     declared: &[ReadScheme],
     earlier: &[ReadScheme],
+    names: &StandingNames,
     book: &Book,
     steps: &Steps,
     lets: &BTreeMap<usize, usize>,
@@ -107,6 +115,7 @@ fn has_rule(
     step: &StepLine,
 ) -> Result<bool, Memory>
     requires closed { IsClosedBook book.now }
+    requires names { DoStand book.now (declared.now ++ earlier.now) names.now }
     requires rising { IsRising step.now.env }
     ensures { IfOk result (λ has. IsTrue has ↔ HasRule book.now steps.now (get nat_cmp lets.now)
         (declared.now ++ earlier.now) (put_in table.now) (Holds table.now) lines.now
@@ -118,7 +127,7 @@ fn has_rule(
     match nodes.get(step.node) {
         None => Ok(false),
         Some(node) => by_form(
-            alloc, declared, earlier, book, steps, lets, step, &node.form,
+            alloc, declared, earlier, names, book, steps, lets, step, &node.form,
         ),
     }
 }
@@ -128,6 +137,7 @@ fn by_form(
     alloc: Global,
     declared: &[ReadScheme],
     earlier: &[ReadScheme],
+    names: &StandingNames,
     book: &Book,
     steps: &Steps,
     lets: &BTreeMap<usize, usize>,
@@ -135,6 +145,7 @@ fn by_form(
     form: &TermForm,
 ) -> Result<bool, Memory>
     requires closed { IsClosedBook book.now }
+    requires names { DoStand book.now (declared.now ++ earlier.now) names.now }
     requires rising { IsRising step.now.env }
     ensures { IfOk result (λ has. IsTrue has ↔ ByForm book.now steps.now (get nat_cmp lets.now)
         (declared.now ++ earlier.now) step.now step.now.rule form.now) }
@@ -145,7 +156,7 @@ fn by_form(
     Ok(match &step.rule {
         StepRule::Var => by_var(step, form),
         StepRule::Use(number) => by_use(steps, lets, step, *number, form),
-        StepRule::Name(n) => by_name(book, declared, earlier, step, *n, form),
+        StepRule::Name(n) => by_name(book, declared, earlier, names, step, *n, form),
         StepRule::Lit => by_lit(book, step, form),
         StepRule::Fun(number) => by_fun(book, steps, step, *number, form),
         StepRule::App(first, second) => by_app(book, steps, step, *first, *second, form),

@@ -12,6 +12,7 @@ mod last_env;
 pub mod laws;
 mod line_reader;
 pub mod lookup;
+mod named;
 mod node_line;
 pub mod print;
 pub mod printable;

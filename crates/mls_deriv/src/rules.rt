@@ -14,10 +14,12 @@ ghost use Rattle.mls_deriv.specs.inner.Rules.{ByLet};
 ghost use Rattle.mls_deriv.specs.inner.Rules.{ByRec, node_in, IsFunction, IsDomain, IsApplication};
 ghost use Rattle.mls_deriv.specs.inner.Rules.{IsFieldOf, AreFieldsOf, IsRecord, IsOneField, AreBranches, IsMeetIn};
 ghost use Rattle.mls_deriv.specs.inner.Rules.{child_of, AreLabelsOf};
+ghost use Rattle.mls_deriv.specs.inner.Names.{DoStand, StandsAt};
 
 use crate::derivation::{BinderNode, StepLine};
 use crate::justify::node_or;
 use crate::lookup::{field_of, node_in};
+use crate::named::StandingNames;
 use crate::steps::{Steps, is_same, is_without};
 use mls_base::memory::Memory;
 use mls_book::book::{Book, Field, Node, NodeId};
@@ -83,24 +85,29 @@ fn concludes_as(steps: &Steps, step: &StepLine, number: usize) -> bool
 }
 
 /// A name of the environment: its book stands from node `n` on.
-pub fn by_name(
+pub(crate) fn by_name(
     book: &Book,
     declared: &[ReadScheme],
     earlier: &[ReadScheme],
+    names: &StandingNames,
     step: &StepLine,
     n: NodeId,
     form: &TermForm,
 ) -> bool
+    requires { DoStand book.now (declared.now ++ earlier.now) names.now }
     ensures { IsTrue result ↔ ByName book.now (declared.now ++ earlier.now) step.now n form.now }
 {
     match form {
-        TermForm::Global(g) => is_named(book, scheme_at(declared, earlier, *g), step, n),
+        TermForm::Global(g) => {
+            let is_known = names.contains(&(*g, n.0));
+            is_named(book, scheme_at(declared, earlier, *g), is_known, step, n)
+        }
         _ => false,
     }
 }
 
-// The scheme of this number, where the earlier ones come behind the declared ones.
-fn scheme_at<'a>(
+/// The scheme of this number, where the earlier ones come behind the declared ones.
+pub(crate) fn scheme_at<'a>(
     declared: &'a [ReadScheme],
     earlier: &'a [ReadScheme],
     g: usize,
@@ -114,15 +121,22 @@ fn scheme_at<'a>(
     }
 }
 
-// Whether the step has the scheme of a name, whose book stands from node `n` on.
-fn is_named(book: &Book, known: Option<&ReadScheme>, step: &StepLine, n: NodeId) -> bool
+// Whether the step has the scheme of a name, whose book stands from node `n` on. Where that is known, it is not compared.
+fn is_named(
+    book: &Book,
+    known: Option<&ReadScheme>,
+    is_known: bool,
+    step: &StepLine,
+    n: NodeId,
+) -> bool
+    requires { IsTrue is_known → StandsAt book.now n.0 (option_map (λ read. read.now) known) }
     ensures { IsTrue result ↔ Given (option_map (λ read. read.now) known.entry) (λ read. HasFrom book.now n.0 read.book
         × (step.now.env ≡ []) × (step.now.root.0 ≡ n.0 + read.root.0)) }
 {
     match known {
         None => false,
         Some(read) => {
-            has_from(book, n.0, &read.book)
+            (is_known || has_from(book, n.0, &read.book))
                 && step.env.is_empty()
                 && is_sum(step.root.0, n.0, read.root.0)
         }

@@ -1,5 +1,5 @@
 //! The pairs that follow a step and the nodes of its variables, to be looked up.
-ghost use Rattle.std.specs.Prelude.{◌≡◌, ◌↔◌, ◌∷◌, IfOk, OnOk, IsTrue, None, drop};
+ghost use Rattle.std.specs.Prelude.{◌≡◌, ◌↔◌, ◌∷◌, IfOk, OnOk, IsTrue, None, drop, false};
 ghost use Rattle.mls_deriv.specs.inner.Tables.{AddsPair, AddsPut, Adds, Holds, IsTableOf, RemovesPair, put_in};
 
 use crate::derivation::{Mode, SectionLine};
@@ -48,20 +48,21 @@ impl Table {
         self.puts.get(&variable).copied()
     }
 
-    /// Adds a pair.
+    /// Adds a pair, and answers whether it is new.
     ///
     /// # Errors
     ///
     /// `Memory` where memory is wanting.
-    pub fn add_pair(&mut self, mode: Mode, left: usize, right: usize) -> Result<(), Memory>
-        ensures { OnOk result (AddsPair mode left right self.old self.new) }
+    pub fn add_pair(&mut self, mode: Mode, left: usize, right: usize) -> Result<bool, Memory>
+        ensures adds { OnOk result (AddsPair mode left right self.old self.new) }
+        ensures new { IfOk result (λ is_new. is_new ≡ false → Holds self.old mode left right) }
     {
-        match mode {
+        let is_new = match mode {
             Mode::Lr => self.lr.insert((left, right))?,
             Mode::Rl => self.rl.insert((left, right))?,
             Mode::Pp => self.pp.insert((left, right))?,
         };
-        Ok(())
+        Ok(is_new)
     }
 
     /// Takes out a pair, if it is there.

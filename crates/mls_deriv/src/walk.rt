@@ -6,12 +6,14 @@ ghost use Rattle.std.specs.Ordering.{nat_cmp};
 ghost use Rattle.mls_book.specs.Books.{IsClosedBook};
 ghost use Rattle.mls_deriv.specs.Sections.{schemes_of, at_start, steps_of, IsEndAllowed, IsHeadRead};
 ghost use Rattle.mls_deriv.specs.Steps.{HasFrom};
+ghost use Rattle.mls_deriv.specs.inner.Names.{DoStand};
 ghost use Rattle.mls_deriv.specs.inner.Rules.{Given, IsWhole, last_of};
 ghost use Rattle.mls_deriv.specs.inner.Tables.{or_else};
 ghost use Rattle.mls_deriv.specs.inner.Walks.{AreChecked, GoesOn, HasCome, IsChecked, IsHead};
 
 use crate::check::is_allowed;
 use crate::derivation::{Section, SectionLine, StepLine};
+use crate::named::{StandingNames, standing_names};
 use crate::rules::has_from;
 use crate::steps::Steps;
 use mls_base::memory::Memory;
@@ -85,8 +87,17 @@ pub fn check_section(
     requires head { IsHeadRead section.now read.now }
     ensures { IfOk result (IsChecked (schemes_of (declared.now ++ earlier.now)) binding.now section.now read.now) }
 {
+    let names = standing_names(
+        alloc,
+        declared,
+        earlier,
+        binding.term.nodes.as_slice(),
+        section,
+    )?;
     let mut steps = Steps::new(alloc);
-    if !check_lines(alloc, declared, earlier, binding, section, &mut steps)? {
+    if !check_lines(
+        alloc, declared, earlier, binding, &names, section, &mut steps,
+    )? {
         return Ok(Checked::Refused(steps.len()));
     }
     if !is_end(binding, section, read, &steps) {
@@ -101,10 +112,12 @@ fn check_lines<'a>(
     declared: &[ReadScheme],
     earlier: &[ReadScheme],
     binding: &ResolvedBinding,
+    names: &StandingNames,
     section: &'a Section,
     steps: &mut Steps<'a>,
 ) -> Result<bool, Memory>
     requires closed { IsClosedBook section.now.nodes }
+    requires names { DoStand section.now.nodes (declared.now ++ earlier.now) names.now }
     requires none { steps.old ≡ [] }
     ensures { IfOk result (AreChecked
         (at_start (schemes_of (declared.now ++ earlier.now)) binding.now section.now) section.now.lines steps.new) }
@@ -112,7 +125,7 @@ fn check_lines<'a>(
     let mut lets = BTreeMap::new(alloc);
     for i in 0..section.lines.len() {
         if !take_line(
-            alloc, declared, earlier, binding, section, steps, &mut lets, i,
+            alloc, declared, earlier, binding, names, section, steps, &mut lets, i,
         )? {
             return Ok(false);
         }
@@ -126,12 +139,14 @@ fn take_line<'a>(
     declared: &[ReadScheme],
     earlier: &[ReadScheme],
     binding: &ResolvedBinding,
+    names: &StandingNames,
     section: &'a Section,
     steps: &mut Steps<'a>,
     lets: &mut BTreeMap<usize, usize>,
     i: usize,
 ) -> Result<bool, Memory>
     requires closed { IsClosedBook section.now.nodes }
+    requires names { DoStand section.now.nodes (declared.now ++ earlier.now) names.now }
     requires low { i < length section.now.lines }
     requires come { HasCome (at_start
         (schemes_of (declared.now ++ earlier.now)) binding.now section.now) section.now.lines
@@ -154,6 +169,7 @@ fn take_line<'a>(
                 nodes,
                 declared,
                 earlier,
+                names,
                 &section.nodes,
                 steps,
                 lets,
