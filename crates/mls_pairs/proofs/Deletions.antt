@@ -84,7 +84,7 @@ stays IsOne pairs left those pair there one = go (left_or_gone IsOne pairs left 
     go (inr h) = absurd ((gone_is_not IsOne pairs left those pair h).0 one)
 
 -- what is left was there, with the same nodes of variables
-deletes_less : (book : List Node) (old new : Table) → Deletes book old new → ((m : Mode) (i j : ℕ) → Holds new m i j → Holds old m i j) × ((x : ℕ) → put_in new x ≡ put_in old x)
+pub deletes_less : (book : List Node) (old new : Table) → Deletes book old new → ((m : Mode) (i j : ℕ) → Holds new m i j → Holds old m i j) × ((x : ℕ) → put_in new x ≡ put_in old x)
 deletes_less book old new nothing = (λ m i j h. h, λ x. refl)
 deletes_less book old new (one_more {mid = mid} pair before not_so removes) =
     let first = deletes_less book old mid before in

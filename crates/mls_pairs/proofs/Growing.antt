@@ -28,15 +28,22 @@ only x y there = go (first_or_later x [] y there)
     go (inr h) = absurd (let low : h.0 < 0 = h.1 in omega arith)
 
 -- a pair that is marked
-pub found_there : (f : Found) (pair : Pair) → IsFound f → Holds f.table pair.mode pair.left pair.right → Finds f f (pair ∷ [])
-found_there f pair is marked = record {
-  is = is;
+pub found_there : (before : Found) (table : Table) (pair : Pair) → IsFound before → AddsPair pair.mode pair.left pair.right before.table table → Holds before.table pair.mode pair.left pair.right
+    → Finds before (record { pairs = before.pairs; table = table }) (pair ∷ [])
+found_there before table pair is adds held = record {
+  is = λ m k l. (λ h. to m k l ((adds.0 m k l).0 h), λ h. (adds.0 m k l).1 (inl ((is m k l).1 h)));
   more = [];
-  behind = sym (append-nil f.pairs);
+  behind = sym (append-nil before.pairs);
   only = λ other there. absurd (let low : there.0 < 0 = there.1 in omega arith);
-  has = λ other there. subst (Contains f.pairs) (only pair other there) ((is pair.mode pair.left pair.right).0 marked);
-  puts = λ x. refl;
+  has = λ other there. subst (Contains before.pairs) (only pair other there) ((is pair.mode pair.left pair.right).0 held);
+  puts = adds.1;
 }
+  where
+    to : (m : Mode) (k l : ℕ) → Holds before.table m k l ⊎ ((pair.mode ≡ m) × (pair.left ≡ k) × (pair.right ≡ l)) → Claims before.pairs m k l
+    to m k l (inl h) = (is m k l).0 h
+    to m k l (inr e) =
+        let same : pair ≡ pair_of m k l = λ n. pair_of (e.0 n) (e.1 n) (e.2 n) in
+        subst (Contains before.pairs) same ((is pair.mode pair.left pair.right).0 held)
 
 -- a pair that is new
 pub found_new : (before : Found) (table : Table) (pairs : List Pair) (pair : Pair) → IsFound before → AddsPair pair.mode pair.left pair.right before.table table → pairs ≡ before.pairs ++ pair ∷ []

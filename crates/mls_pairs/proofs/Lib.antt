@@ -8,3 +8,4 @@ pub mod LinesRead
 pub mod TableShown
 pub mod Choosing
 pub mod Deletions
+pub mod Sweeping

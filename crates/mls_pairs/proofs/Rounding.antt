@@ -2,7 +2,7 @@
 --     those_looked                a list that is gone through
 --     those_same                  lists of two kinds that are the same
 --     those_length, those_all, those_smaller      how long it is, and where all is kept
---     left_first, left_next       what is left
+--     left_first                  what is left
 --     left_last                   what is left when nothing is to be deleted
 --     left_inside                 what is left has nodes of the book
 use Rattle.std.proofs.Common.{◌≡◌, ◌↔◌, ◌⊎◌, inl, inr, Bool, true, false, ℕ, zero, suc, ◌<◌, ◌≤◌, List, [], ◌∷◌, ◌++◌, ◌+◌, take, length, refl, sym, ap, subst, arith, Option, Some, None, IsSome}
@@ -251,9 +251,6 @@ module _ (book : List Node) (puts : List Put) (wanted : List Pair) where
           go : Contains left pair ⊎ Contains now pair → Contains left pair ⊎ Contains (it.gone ++ now) pair
           go (inl l) = inl l
           go (inr g) = inr (Contains-append_right it.gone now pair g)
-
-  pub left_next : (pairs left : List Pair) → IsLeft book puts wanted pairs → AreThose (IsJustifiedBy book puts pairs) pairs left → IsLeft book puts wanted left
-  left_next pairs left it those = left_without (IsJustifiedBy book puts pairs) pairs left it those (λ pair no. no)
 
   -- a list with the same pairs
   pub left_same : (pairs others : List Pair) → IsLeft book puts wanted pairs → ((pair : Pair) → Contains pairs pair ↔ Contains others pair) → IsLeft book puts wanted others

@@ -1,18 +1,15 @@
 //! Taking out the pairs that a list does not justify, each as soon as pairs that it rests on are gone.
-ghost use Rattle.std.specs.Prelude.{◌≤◌, length, IfOk, OnOk};
-ghost use Rattle.mls_pairs.specs.Lines.{IsTable};
-ghost use Rattle.mls_pairs.specs.steps.Deleting.{Deletes, IsHeldBy};
-ghost use Rattle.mls_pairs.specs.steps.Rounds.{AreThose, IsLeft};
+ghost use Rattle.std.specs.Prelude.{◌∷◌, [], IfOk, OnOk};
+ghost use Rattle.mls_pairs.specs.steps.Deleting.{Deletes, IsHeldBy, Sweeps};
+ghost use Rattle.mls_pairs.specs.steps.Rounds.{AreThose};
 
-use crate::found::Found;
 use crate::justify::is_shown;
-use crate::lines::table_with;
 use crate::needs::needs_of;
 use crate::pairs::Pairs;
 use crate::thin::add_kept;
 use mls_base::memory::Memory;
 use mls_book::book::{Book, NodeId};
-use mls_deriv::claim::{Pair, Put};
+use mls_deriv::claim::Pair;
 use mls_deriv::derivation::Mode;
 use mls_deriv::table::Table;
 use std::alloc::Global;
@@ -107,7 +104,7 @@ fn push_all(all: &mut Pairs, pairs: &[Pair]) -> Result<(), Memory> {
 
 // Takes out this pair, if the table has it and does not show it, and answers whether it does so.
 fn deletes(book: &Book, table: &mut Table, pair: Pair) -> bool
-    ensures { Deletes book.now table.old table.new }
+    ensures { Sweeps book.now (pair ∷ []) table.old table.new result }
 {
     if !table.holds(pair.mode, pair.left, pair.right) {
         return false;
@@ -125,6 +122,22 @@ fn deletes(book: &Book, table: &mut Table, pair: Pair) -> bool
     true
 }
 
+/// Takes out those of these pairs that the table does not show, one after another from the last one, and answers whether
+/// there was one. Pairs come behind those for which the rules name them, so most that rest on what is gone go with it.
+pub(crate) fn sweep(book: &Book, table: &mut Table, pairs: &[Pair]) -> bool
+    ensures { Sweeps book.now pairs.now table.old table.new result }
+{
+    let mut is_less = false;
+    let mut left = pairs.len();
+    while left > 0 {
+        left -= 1;
+        if deletes(book, table, pairs[left]) {
+            is_less = true;
+        }
+    }
+    is_less
+}
+
 // Takes out those of these pairs that the table does not show, one after another, and answers them.
 fn deleted(alloc: Global, book: &Book, table: &mut Table, pairs: &[Pair]) -> Result<Pairs, Memory>
     ensures { OnOk result (Deletes book.now table.old table.new) }
@@ -138,8 +151,17 @@ fn deleted(alloc: Global, book: &Book, table: &mut Table, pairs: &[Pair]) -> Res
     Ok(gone)
 }
 
-// Takes out pairs that are not shown: all of these are looked at once, and then those that rest on a pair that is gone.
-fn delete_all(alloc: Global, book: &Book, table: &mut Table, pairs: &[Pair]) -> Result<(), Memory>
+/// Takes out pairs that are not shown: all of these are looked at once, and then those that rest on a pair that is gone.
+///
+/// # Errors
+///
+/// `Memory` where memory is wanting.
+pub(crate) fn delete_all(
+    alloc: Global,
+    book: &Book,
+    table: &mut Table,
+    pairs: &[Pair],
+) -> Result<(), Memory>
     ensures { OnOk result (Deletes book.now table.old table.new) }
 {
     let users = users_of(alloc, book, table, pairs)?;
@@ -153,8 +175,12 @@ fn delete_all(alloc: Global, book: &Book, table: &mut Table, pairs: &[Pair]) -> 
     Ok(())
 }
 
-// The pairs that the table has, in order.
-fn held(alloc: Global, table: &Table, pairs: &[Pair]) -> Result<Pairs, Memory>
+/// The pairs that the table has, in order.
+///
+/// # Errors
+///
+/// `Memory` where memory is wanting.
+pub(crate) fn held(alloc: Global, table: &Table, pairs: &[Pair]) -> Result<Pairs, Memory>
     ensures { IfOk result (AreThose (IsHeldBy table.now) pairs.now) }
 {
     let mut left = Pairs::new(alloc);
@@ -163,27 +189,4 @@ fn held(alloc: Global, table: &Table, pairs: &[Pair]) -> Result<Pairs, Memory>
         add_kept(&mut left, *pair, is_kept)?;
     }
     Ok(left)
-}
-
-/// What is left of a list when pairs that it does not justify are taken out one after another, with its table. A pair is
-/// looked at once, and once more for each pair that the rules name for it and that is taken out.
-///
-/// # Errors
-///
-/// `Memory` where memory is wanting.
-pub(crate) fn thinned(
-    alloc: Global,
-    book: &Book,
-    puts: &[Put],
-    pairs: &Pairs,
-) -> Result<Found, Memory>
-    ensures left { IfOk result (λ left. (wanted : _) → IsLeft book.now puts.now wanted pairs.now
-        → IsLeft book.now puts.now wanted left.pairs) }
-    ensures table { IfOk result (λ left. IsTable puts.now left.pairs left.table) }
-    ensures fewer { IfOk result (λ left. length left.pairs ≤ length pairs.now) }
-{
-    let mut table = table_with(alloc, puts, pairs)?;
-    delete_all(alloc, book, &mut table, pairs.as_slice())?;
-    let left = held(alloc, &table, pairs.as_slice())?;
-    Ok(Found { pairs: left, table })
 }

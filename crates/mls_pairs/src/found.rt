@@ -45,11 +45,9 @@ impl Found {
         requires { IsFound self.old }
         ensures { OnOk result (Finds self.old self.new (pair ∷ [])) }
     {
-        if self.table.holds(pair.mode, pair.left, pair.right) {
-            return Ok(());
+        if self.table.add_pair(pair.mode, pair.left, pair.right)? {
+            self.pairs.push(pair)?;
         }
-        self.table.add_pair(pair.mode, pair.left, pair.right)?;
-        self.pairs.push(pair)?;
         Ok(())
     }
 

@@ -1,15 +1,14 @@
 //! The pairs of a step.
-ghost use Rattle.std.specs.Prelude.{◌≡◌, ◌≤◌, ◌↔◌, length, IfOk, IsTrue};
+ghost use Rattle.std.specs.Prelude.{IfOk};
 ghost use Rattle.mls_deriv.specs.Pairs.{put_at};
 ghost use Rattle.mls_pairs.specs.Lines.{IsTable};
 ghost use Rattle.mls_pairs.specs.PairLists.{IsPairList, StaysInside};
-ghost use Rattle.mls_pairs.specs.steps.Rounds.{IsLeft};
+ghost use Rattle.mls_pairs.specs.steps.Deleting.{Deletes, IsHeldBy};
+ghost use Rattle.mls_pairs.specs.steps.Rounds.{AreThose};
 
 use crate::chosen::chosen_of;
-use crate::deleting::thinned;
+use crate::deleting::{delete_all, held, sweep};
 use crate::found::{Found, gathered};
-use crate::lines::table_with;
-use crate::thin::shown;
 use mls_base::list::List;
 use mls_base::memory::Memory;
 use mls_book::book::Book;
@@ -19,34 +18,20 @@ use std::alloc::Global;
 /// Pairs in order.
 pub type Pairs = List<Pair>;
 
-// Whether two lists have as many pairs.
-fn have_same_length(first: &Pairs, second: &Pairs) -> bool
-    ensures { IsTrue result ↔ (length first.now ≡ length second.now) }
-{
-    first.len() == second.len()
-}
-
 // So many rounds go over all pairs, before those alone are looked at again that rest on a pair that is gone.
 const ROUNDS: usize = 4;
 
-// What is left of a list when a round has left these of it, with its table.
-fn left_after(
-    alloc: Global,
-    book: &Book,
-    puts: &[Put],
-    left: Pairs,
-    round: usize,
-) -> Result<Found, Memory>
-    ensures left { IfOk result (λ found. (wanted : _) → IsLeft book.now puts.now wanted left
-        → IsLeft book.now puts.now wanted found.pairs) }
-    ensures table { IfOk result (λ found. IsTable puts.now found.pairs found.table) }
-    ensures fewer { IfOk result (λ found. length found.pairs ≤ length left) }
+// What is left of a list whose table has lost pairs, behind so many rounds. In the last of them all go that have to.
+fn left_after(alloc: Global, book: &Book, found: Found, round: usize) -> Result<Found, Memory>
+    ensures deletes { IfOk result (λ left. Deletes book.now found.table left.table) }
+    ensures those { IfOk result (λ left. AreThose (IsHeldBy left.table) found.pairs left.pairs) }
 {
+    let Found { pairs, table } = found;
+    let mut table = table;
     if round >= ROUNDS {
-        let found = thinned(alloc, book, puts, &left)?;
-        return Ok(found);
+        delete_all(alloc, book, &mut table, pairs.as_slice())?;
     }
-    let table = table_with(alloc, puts, &left)?;
+    let left = held(alloc, &table, pairs.as_slice())?;
     Ok(Found { pairs: left, table })
 }
 
@@ -59,11 +44,11 @@ fn listed(alloc: Global, book: &Book, puts: &[Put], wanted: &[Pair]) -> Result<F
     let mut found = gathered(alloc, book, puts, wanted)?;
     let mut round = 0;
     loop {
-        let left = shown(alloc, book, &found.table, found.pairs.as_slice())?;
-        if have_same_length(&left, &found.pairs) {
+        let is_less = sweep(book, &mut found.table, found.pairs.as_slice());
+        if !is_less {
             return Ok(found);
         }
-        found = left_after(alloc, book, puts, left, round)?;
+        found = left_after(alloc, book, found, round)?;
         round = round.saturating_add(1);
     }
 }

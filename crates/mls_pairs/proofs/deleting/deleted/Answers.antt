@@ -6,4 +6,4 @@ pub loop-pair-init : goal.loop-pair-init
 loop-pair-init c = nothing
 
 pub loop-pair-preserved : goal.loop-pair-preserved
-loop-pair-preserved c = deletes_trans c.args.book.now c.loop-pair.invariant c.deletes.ensures
+loop-pair-preserved c = deletes_trans c.args.book.now c.loop-pair.invariant c.deletes.ensures.deletes

@@ -1,41 +1,46 @@
-use Rattle.std.proofs.Common.{◌≡◌, ◌<◌, ◌≤◌, true, false, length, arith}
-use Rattle.mls_pairs.specs.steps.Rounds.{IsJustifiedBy}
-use Rattle.mls_pairs.proofs.Rounding.{left_first, left_next, left_last, left_inside, those_smaller}
-use Rattle.mls_pairs.proofs.TableShown.{those_justified}
+use Rattle.std.proofs.Common.{◌≡◌, ◌<◌, true, false, List, length, sym, subst}
+use Rattle.mls_deriv.specs.declared.claim.Pair.{Pair}
+use Rattle.mls_deriv.specs.declared.table.Table.{Table}
+use Rattle.mls_pairs.specs.Lines.{IsTable}
+use Rattle.mls_pairs.specs.steps.Deleting.{Deletes, IsHeldBy, Sweeps}
+use Rattle.mls_pairs.specs.steps.Rounds.{AreThose}
+use Rattle.mls_pairs.proofs.Deletions.{deletes_trans, held_left, held_table}
+use Rattle.mls_pairs.proofs.Rounding.{left_first, left_inside}
+use Rattle.mls_pairs.proofs.Sweeping.{swept_fewer, swept_list}
 use Rattle.mls_pairs.proofs.pairs.listed.Goals as goal
 
-pub loop-found-init : goal.loop-found-init
-loop-found-init c = (left_first c.args.book.now c.args.puts.now c.args.wanted.now c.in_ok-found.found.pairs c.in_ok-found.ensures.whole, c.in_ok-found.ensures.table)
+pub loop-alloc-init : goal.loop-alloc-init
+loop-alloc-init c = (left_first c.args.book.now c.args.puts.now c.args.wanted.now c.in_ok-found.found.pairs c.in_ok-found.ensures.whole, c.in_ok-found.ensures.table)
 
-pub returns-then-have_same_length-clause-pairs : goal.returns-then-have_same_length-clause-pairs
-returns-then-have_same_length-clause-pairs c =
-    left_last c.args.book.now c.args.puts.now c.args.wanted.now c.loop-found.found.pairs c.in_ok-left.left c.loop-found.invariant.0
-    (those_justified c.args.book.now c.args.puts.now c.loop-found.found.pairs c.loop-found.found.table c.loop-found.invariant.1 c.as_slice.result.now c.in_ok-left.left c.as_slice.ensures c.in_ok-left.ensures)
-    (c.have_same_length.ensures.0 c.if-have_same_length.true)
+pub returns-then-not-is_less-clause-pairs : goal.returns-then-not-is_less-clause-pairs
+returns-then-not-is_less-clause-pairs c =
+    let pairs : List Pair = c.loop-alloc.found.pairs in
+    swept_list c.args.book.now c.args.puts.now c.args.wanted.now pairs c.loop-alloc.found.table c.sweep-is_less.new.table c.loop-alloc.invariant.0 c.loop-alloc.invariant.1
+    (subst (λ (ps : List Pair). Sweeps c.args.book.now ps c.loop-alloc.found.table c.sweep-is_less.new.table false) c.as_slice.ensures
+    (subst (Sweeps c.args.book.now c.as_slice.result.now c.loop-alloc.found.table c.sweep-is_less.new.table) c.if-not-is_less.true c.sweep-is_less.ensures))
 
-pub returns-then-have_same_length-clause-inside : goal.returns-then-have_same_length-clause-inside
-returns-then-have_same_length-clause-inside c = left_inside c.args.book.now c.args.puts.now c.args.wanted.now c.loop-found.found.pairs c.loop-found.invariant.0
+pub returns-then-not-is_less-clause-inside : goal.returns-then-not-is_less-clause-inside
+returns-then-not-is_less-clause-inside c = left_inside c.args.book.now c.args.puts.now c.args.wanted.now c.loop-alloc.found.pairs c.loop-alloc.invariant.0
 
-pub returns-then-have_same_length-clause-table : goal.returns-then-have_same_length-clause-table
-returns-then-have_same_length-clause-table c = c.loop-found.invariant.1
+pub returns-then-not-is_less-clause-table : goal.returns-then-not-is_less-clause-table
+returns-then-not-is_less-clause-table c =
+    subst (IsTable c.args.puts.now c.loop-alloc.found.pairs) (sym (c.sweep-is_less.ensures.same c.if-not-is_less.true)) c.loop-alloc.invariant.1
 
-pub loop-found-smaller : goal.loop-found-smaller
-loop-found-smaller c =
-    let fewer : length c.in_ok-found-2.found.pairs ≤ length c.in_ok-left.left = c.in_ok-found-2.ensures.fewer in
-    let less : length c.in_ok-left.left < length c.loop-found.found.pairs =
-    those_smaller (IsJustifiedBy c.args.book.now c.args.puts.now c.loop-found.found.pairs) c.loop-found.found.pairs c.in_ok-left.left
-    (those_justified c.args.book.now c.args.puts.now c.loop-found.found.pairs c.loop-found.found.table c.loop-found.invariant.1 c.as_slice.result.now c.in_ok-left.left c.as_slice.ensures c.in_ok-left.ensures)
-    (λ e.
-    let yes : c.have_same_length.result ≡ true = c.have_same_length.ensures.1 e in
-    let none : c.have_same_length.result ≡ false = c.if-have_same_length.false in
-    absurd (cc))
-    in
-    omega (arith, fewer, less)
+pub loop-alloc-smaller : goal.loop-alloc-smaller
+loop-alloc-smaller c =
+    let pairs : List Pair = c.loop-alloc.found.pairs in
+    swept_fewer c.args.book.now pairs c.in_ok-found-2.found.pairs c.loop-alloc.found.table c.sweep-is_less.new.table c.in_ok-found-2.found.table
+    (subst (λ (ps : List Pair). Sweeps c.args.book.now ps c.loop-alloc.found.table c.sweep-is_less.new.table true) c.as_slice.ensures
+    (subst (Sweeps c.args.book.now c.as_slice.result.now c.loop-alloc.found.table c.sweep-is_less.new.table) c.if-not-is_less.false c.sweep-is_less.ensures))
+    c.in_ok-found-2.ensures.deletes c.in_ok-found-2.ensures.those
 
-pub loop-found-preserved : goal.loop-found-preserved
-loop-found-preserved c = (
-  c.in_ok-found-2.ensures.left c.args.wanted.now
-      (left_next c.args.book.now c.args.puts.now c.args.wanted.now c.loop-found.found.pairs c.in_ok-left.left c.loop-found.invariant.0
-      (those_justified c.args.book.now c.args.puts.now c.loop-found.found.pairs c.loop-found.found.table c.loop-found.invariant.1 c.as_slice.result.now c.in_ok-left.left c.as_slice.ensures c.in_ok-left.ensures)),
-  c.in_ok-found-2.ensures.table,
-)
+pub loop-alloc-preserved : goal.loop-alloc-preserved
+loop-alloc-preserved c =
+    let pairs : List Pair = c.loop-alloc.found.pairs in
+    let old : Table = c.loop-alloc.found.table in
+    let new : Table = c.in_ok-found-2.found.table in
+    let deletes : Deletes c.args.book.now old new = deletes_trans c.args.book.now c.sweep-is_less.ensures.deletes c.in_ok-found-2.ensures.deletes in
+    let those : AreThose (IsHeldBy new) pairs c.in_ok-found-2.found.pairs = c.in_ok-found-2.ensures.those in (
+      held_left c.args.book.now c.args.puts.now c.args.wanted.now pairs c.in_ok-found-2.found.pairs old new c.loop-alloc.invariant.1 deletes those c.loop-alloc.invariant.0,
+      held_table c.args.book.now c.args.puts.now pairs c.in_ok-found-2.found.pairs old new c.loop-alloc.invariant.1 deletes those,
+    )
