@@ -4,6 +4,8 @@ ghost use Rattle.mls_deriv.specs.Texts.{IsOneLine};
 ghost use Rattle.mls_deriv.specs.BadLines.{Begins};
 ghost use Rattle.mls_deriv.specs.inner.Readings.{IsOneWord};
 
+use memchr::memchr;
+
 /// The first line or word of a text, without the newline or the space, and what stands behind that.
 #[derive(Clone, Copy)]
 pub struct Front<'a> {
@@ -16,7 +18,7 @@ pub fn front_of(text: &[u8]) -> Option<Front<'_>>
     ensures { MatchOption result (IsOneLine text.now) (λ front. IsOneLine front.line.now
         × (text.now ≡ front.line.now ++ 10 ∷ front.rest.now)) }
 {
-    let end = text.iter().position(|byte| *byte == b'\n')?;
+    let end = memchr(b'\n', text)?;
     Some(Front {
         line: &text[..end],
         rest: &text[end + 1..],

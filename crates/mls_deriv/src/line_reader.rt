@@ -7,7 +7,7 @@ ghost use Rattle.mls_deriv.specs.Forms.{IsEntryForm, IsLineForm, IsStepForm};
 ghost use Rattle.mls_deriv.specs.Steps.{IsRising};
 ghost use Rattle.mls_deriv.specs.inner.Readings.{IsLineRead};
 
-use crate::derivation::{BinderNode, BinderNodes, SectionLine, StepLine};
+use crate::derivation::{BinderNodes, SectionLine, StepLine};
 use crate::front::behind;
 use crate::last_env::LONG;
 use crate::print::{add_env, add_one};
@@ -112,7 +112,7 @@ impl LineReader {
         Ok(Some(StepLine {
             node: step.node,
             rule: step.rule,
-            env: copied(alloc, self.env.as_slice())?,
+            env: copied(&self.env)?,
             root: step.root,
         }))
     }
@@ -126,7 +126,7 @@ impl LineReader {
                 if step.env.len() < LONG {
                     Ok(())
                 } else {
-                    self.keep(alloc, step.env.as_slice())
+                    self.keep(alloc, &step.env)
                 }
             }
             _ => Ok(()),
@@ -134,14 +134,14 @@ impl LineReader {
     }
 
     // Keeps an environment in place of the last one.
-    fn keep(&mut self, alloc: Global, env: &[BinderNode]) -> Result<(), Memory>
+    fn keep(&mut self, alloc: Global, env: &BinderNodes) -> Result<(), Memory>
         requires forms { All IsEntryForm env.now }
         requires rising { IsRising env.now }
         ensures { OnOk result (self.new ≡ env.now) }
     {
         let mut words = Vec::new(alloc);
-        add_env(&mut words, env)?;
-        self.env = copied(alloc, env)?;
+        add_env(&mut words, env.as_slice())?;
+        self.env = copied(env)?;
         self.words = words;
         Ok(())
     }
@@ -169,12 +169,9 @@ fn is_type(alloc: Global, bytes: &[u8], root: NodeId) -> Result<bool, Memory>
 }
 
 // The same environment once more.
-fn copied(alloc: Global, env: &[BinderNode]) -> Result<BinderNodes, Memory>
+fn copied(env: &BinderNodes) -> Result<BinderNodes, Memory>
     ensures { IfOk result (λ copy. copy ≡ env.now) }
 {
-    let mut copy = BinderNodes::new(alloc);
-    for entry in env {
-        copy.push(*entry)?;
-    }
+    let copy = env.clone()?;
     Ok(copy)
 }
