@@ -4,6 +4,7 @@ ghost use Rattle.mls_io.specs.Counts.{Rose};
 ghost use Rattle.mls_io.specs.Sinks.{Follows, Adds};
 ghost use Rattle.mls_top.specs.Writing.{AddsFront};
 
+use memchr::memchr;
 use mls_io::sink::{Put, Sink};
 
 /// Writes a text with one put for each of its lines, the newline included.
@@ -34,7 +35,7 @@ fn line_length(text: &[u8]) -> usize
     ensures some { 0 < result }
     ensures within { result ≤ length text.now }
 {
-    match text.iter().position(|byte| *byte == b'\n') {
+    match memchr(b'\n', text) {
         Some(at) => at + 1,
         None => text.len(),
     }
