@@ -39,3 +39,4 @@ pub mod WordValues
 pub mod Guessed
 pub mod KnownLines
 pub mod StandingNames
+pub mod SectionForms

@@ -6,7 +6,7 @@ ghost use Rattle.mls_deriv.specs.Forms.{HasRisingBinders, HasRisingLabels};
 ghost use Rattle.mls_deriv.specs.Spellings.{derivation_text};
 ghost use Rattle.mls_deriv.specs.Steps.{IsRising};
 ghost use Rattle.mls_deriv.specs.Texts.{IsOneLine, IsSectionForm, IsTextOf, AllStand, none_given};
-ghost use Rattle.mls_deriv.specs.Texts.{IsRisingSection, IsSpelledSection};
+ghost use Rattle.mls_deriv.specs.Texts.{IsRisingSection, IsSpelledSection, LinesStand};
 
 use crate::derivation::{BinderNode, Derivation, Section, SectionLine, StepLine, StepRule};
 use crate::stand::GivenLines;
@@ -40,6 +40,29 @@ pub fn are_spelled(sections: &[Section]) -> bool
         }
     }
     true
+}
+
+/// Whether each line of the sections may stand behind those before it in its section.
+///
+/// # Errors
+///
+/// `Memory` where memory is wanting.
+pub fn all_stand(alloc: Global, sections: &[Section]) -> Result<bool, Memory>
+    ensures { IfOk result (λ yes. IsTrue yes ↔ All LinesStand sections.now) }
+{
+    for section in sections {
+        if !is_in_order(alloc, section)? {
+            return Ok(false);
+        }
+    }
+    Ok(true)
+}
+
+// Whether each line of a section may stand behind those before it.
+fn is_in_order(alloc: Global, section: &Section) -> Result<bool, Memory>
+    ensures { IfOk result (λ yes. IsTrue yes ↔ LinesStand section.now) }
+{
+    do_stand(alloc, section.nodes.len(), section.lines.as_slice())
 }
 
 // Whether each node and each line of a section may.

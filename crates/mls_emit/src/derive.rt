@@ -22,7 +22,7 @@ use mls_base::list::List;
 use mls_base::memory::Memory;
 use mls_book::name::Name;
 use mls_deriv::derivation::{Derivation, Section, Sections};
-use mls_deriv::printable::{are_spelled, has_text};
+use mls_deriv::printable::{all_stand, are_spelled};
 use mls_deriv::verify::{Verified, verify};
 use mls_iface::signature::{SigEntry, Signature};
 use mls_term::term::{Resolved, ResolvedBinding};
@@ -169,7 +169,7 @@ fn written(
     Ok(Derivation { sections })
 }
 
-// A derivation whose lines are short ones, if the check allows it and it has a text.
+// A derivation whose lines are short ones, if the check allows it and its lines stand as those of a text.
 fn short_derivation_of(
     alloc: Global,
     module: &Resolved,
@@ -186,14 +186,14 @@ fn short_derivation_of(
     ensures text { IfOk result (λ found. IfSome found (λ d. IsTextOf (derivation_text d) d)) }
 {
     let derivation = written(alloc, Way::Short, module, declared, signature)?;
-    let spelled = has_text(alloc, &derivation)?;
-    if !spelled {
+    if verify(alloc, &derivation, module, declared)? != Verified::Yes {
         return Ok(None);
     }
-    match verify(alloc, &derivation, module, declared)? {
-        Verified::Yes => Ok(Some(derivation)),
-        Verified::No(_) => Ok(None),
+    if !all_stand(alloc, derivation.sections.as_slice())? {
+        return Ok(None);
     }
+    prove!(are_spelled(derivation.sections.as_slice()));
+    Ok(Some(derivation))
 }
 
 // A derivation whose lines are written plainly, which needs no check and always has a text.
