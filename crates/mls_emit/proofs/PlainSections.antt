@@ -5,16 +5,18 @@
 --     reads_good              what names were read as are types
 --     derivable_at            the entry of this number can be derived, behind those before it
 --     plain_come, entry_come  a section that is written plainly is allowed, and its lines stand
---     sections_more, sections_allowed, as_many    allowed sections, one after another
+--     sections_more, sections_allowed             allowed sections, one after another
+--     as_many, binding_there                      there is an entry for each binding
 --     entries_front, entry_at     entries of a signature
+--     stands_at               what is found in a list stands there
 --     no_sections, next_sections, all_sections    what is written of the sections so far
---     can_same, allowed_same  over lists that are the same
-use Rattle.std.proofs.Common.{◌≡◌, ◌⊎◌, inl, inr, ℕ, zero, suc, ◌+◌, ◌<◌, ◌≤◌, ◌^◌, List, [], ◌∷◌, ◌++◌, map, take, length, refl, sym, ap, ◌∙◌, subst, arith, append_assoc, append-nil, slice_get, get_or, Some, None}
+--     can_same                over lists that are the same
+use Rattle.std.proofs.Common.{◌≡◌, ℕ, zero, suc, ◌+◌, ◌<◌, ◌≤◌, ◌^◌, List, [], ◌∷◌, ◌++◌, map, take, length, refl, sym, ap, ◌∙◌, subst, arith, append_assoc, append-nil, slice_get, get_or, Some}
 use Rattle.std.specs.Prelude.{All}
 use Rattle.std.specs.BTreeMap.{BTreeMap, IsEmpty}
 use Rattle.std.proofs.lemmas.List.{map-append, take_more}
 use Rattle.std.proofs.lemmas.List.Elements.{All-append, All-cons, All-nil}
-use Rattle.std.proofs.lemmas.Option.{get_or_from_slice_get, slice_get-get_or, slice_get_within}
+use Rattle.std.proofs.lemmas.Option.{slice_get-get_or}
 use Rattle.mls_book.specs.declared.book.Node.{Node}
 use Rattle.mls_book.specs.Books.{IsClosedBook}
 use Rattle.mls_automaton.specs.declared.scheme.Scheme.{Scheme}
@@ -34,12 +36,9 @@ use Rattle.mls_typetext.proofs.ReadLaws.{read_is_closed}
 use Rattle.mls_deriv.specs.declared.derivation.Section.{Section}
 use Rattle.mls_deriv.specs.Sections.{schemes_of, AreSectionsAllowed, IsSectionAllowed}
 use Rattle.mls_deriv.specs.Texts.{LinesStand}
-use Rattle.mls_layout.specs.LaidOut.{IsLonger}
 use Rattle.mls_iface.specs.Matches.{IsRead}
 use Rattle.mls_iface.specs.Signatures.{IsEntry}
 use Rattle.mls_iface.specs.declared.signature.SigEntry.{SigEntry}
-use Rattle.mls_parts.specs.Posings.{known_in}
-use Rattle.mls_typenodes.specs.OneEach.{HasOneEach}
 use Rattle.mls_typenodes.proofs.PrintedTypes.{printed_has_one}
 use Rattle.mls_lines.proofs.Growing.{longer_itself, longer_then}
 use Rattle.mls_sections.specs.KnownNames.{AreNameTypes}
@@ -182,6 +181,10 @@ as_many known (binding ∷ bindings) (e ∷ entries) all = ap suc (as_many (know
 as_many known [] (e ∷ entries) all = absurd all
 as_many known (binding ∷ bindings) [] all = absurd all
 
+-- so there is a binding for each entry
+pub binding_there : (known : List ReadScheme) (bindings : List ResolvedBinding) (entries : List SigEntry) → CanAllBeDerived known bindings entries → (k : ℕ) → k < length entries → k < length bindings
+binding_there known bindings entries all k low = let many : length bindings ≡ length entries = as_many known bindings entries all in omega (arith, low, many)
+
 -- entries of a signature
 pub entries_front : (entries : List SigEntry) → All IsEntry entries → (k : ℕ) → All IsEntry (take k entries)
 entries_front entries all zero = λ i d low. absurd (omega (arith, low))
@@ -192,6 +195,10 @@ entries_front (first ∷ rest) all (suc k) = λ i d low. at i d low (entries_fro
     at zero d low later = all 0 d (omega arith)
     at (suc i) d low later = later i d (omega (arith, low))
 
+-- what is found in a list stands there
+pub stands_at : {X : Type 0} (xs : List X) (k : ℕ) (x : X) → k < length xs → x ≡ get_or xs k x → slice_get xs k ≡ Some x
+stands_at xs k x low is = slice_get-get_or xs k x low ∙ ap (λ y. Some y) (sym is)
+
 pub entry_at : (entries : List SigEntry) → All IsEntry entries → (k : ℕ) (e : SigEntry) → k < length entries → e ≡ get_or entries k e → IsEntry e
 entry_at entries all k e low is = subst IsEntry (sym is) (all k e low)
 
@@ -201,8 +208,8 @@ pub record HaveSections (plain : Type 0) (declared : List ReadScheme) (bindings 
   pub names : section_names sections ≡ entry_names (take k entries)
   pub texts : section_texts sections ≡ entry_texts (take k entries)
   pub types : AreNameTypes (names_read declared (take k entries)) schemes
-  pub allowed : plain → CanAllBeDerived declared bindings entries → AreEntriesAllowed declared (take k bindings) (take k entries) sections
-  pub stand : plain → CanAllBeDerived declared bindings entries → All LinesStand sections
+  pub allowed : plain → AreEntriesAllowed declared (take k bindings) (take k entries) sections
+  pub stand : plain → All LinesStand sections
 
 module _ (plain : Type 0) (declared : List ReadScheme) (bindings : List ResolvedBinding) (entries : List SigEntry) where
   pub no_sections : (sections : List Section) (schemes : BTreeMap ℕ Scheme) → sections ≡ [] → IsEmpty schemes → HaveSections plain declared bindings entries 0 sections schemes
@@ -210,24 +217,20 @@ module _ (plain : Type 0) (declared : List ReadScheme) (bindings : List Resolved
     names = ap (λ (ss : List Section). section_names ss) is;
     texts = ap (λ (ss : List Section). section_texts ss) is;
     types = no_name (names_read declared []) schemes empty;
-    allowed = λ p can. subst (AreEntriesAllowed declared [] []) (sym is) tt;
-    stand = λ p can. subst (All LinesStand) (sym is) (All-nil LinesStand);
+    allowed = λ p. subst (AreEntriesAllowed declared [] []) (sym is) tt;
+    stand = λ p. subst (All LinesStand) (sym is) (All-nil LinesStand);
   }
 
   module _ (k : ℕ) (sections : List Section) (schemes : BTreeMap ℕ Scheme) (so_far : HaveSections plain declared bindings entries k sections schemes) where
-    module _ (low : k < length entries) (b : ResolvedBinding) (e : SigEntry) (s : Section) (known : BTreeMap ℕ Scheme) (is : slice_get bindings k ≡ Some b) (at : e ≡ get_or entries k e) where
+    module _ (bound : k < length bindings) (low : k < length entries) (b : ResolvedBinding) (e : SigEntry) (s : Section) (known : BTreeMap ℕ Scheme) (is : b ≡ get_or bindings k b) (at : e ≡ get_or entries k e) where
       entries_are : take (k + 1) entries ≡ take k entries ++ e ∷ []
       entries_are = take_more entries k e low ∙ ap (λ (x : SigEntry). take k entries ++ x ∷ []) (sym at)
 
       bindings_are : take (k + 1) bindings ≡ take k bindings ++ b ∷ []
-      bindings_are = take_more bindings k b (slice_get_within bindings k b is) ∙ ap (λ (x : ResolvedBinding). take k bindings ++ x ∷ []) (get_or_from_slice_get bindings k b b is)
-
-      here : slice_get entries k ≡ Some e
-      here = slice_get-get_or entries k e low ∙ ap (λ (x : SigEntry). Some x) (sym at)
+      bindings_are = take_more bindings k b bound ∙ ap (λ (x : ResolvedBinding). take k bindings ++ x ∷ []) (sym is)
 
       pub next_sections : s.name ≡ e.name → s.text ≡ e.text → AreNameTypes (names_read declared (take k entries)) known
-          → (plain → CanBeDerived (names_read declared (take k entries)) b e → IsSectionAllowed (schemes_of (names_read declared (take k entries))) b s e.scheme)
-          → (plain → CanBeDerived (names_read declared (take k entries)) b e → LinesStand s)
+          → (plain → IsSectionAllowed (schemes_of (names_read declared (take k entries))) b s e.scheme) → (plain → LinesStand s)
           → (new : List Section) → new ≡ sections ++ s ∷ [] → HaveSections plain declared bindings entries (k + 1) new known
       next_sections name text types allowed stand new pushed = record {
         names =
@@ -239,15 +242,15 @@ module _ (plain : Type 0) (declared : List ReadScheme) (bindings : List Resolved
             ∙ (ap (λ ns. ns ++ s.text ∷ []) so_far.texts ∙ (ap (λ n. entry_texts (take k entries) ++ n ∷ []) text
             ∙ (sym (map-append (λ (x : SigEntry). x.text) (take k entries) (e ∷ [])) ∙ ap (λ (es : List SigEntry). entry_texts es) (sym entries_are)))));
         types = subst (λ (es : List SigEntry). AreNameTypes (names_read declared es) known) (sym entries_are) (names_more declared (take k entries) e known types);
-        allowed = λ p can.
+        allowed = λ p.
             subst (AreEntriesAllowed declared (take (k + 1) bindings) (take (k + 1) entries)) (sym pushed)
             (subst (λ (es : List SigEntry). AreEntriesAllowed declared (take (k + 1) bindings) es (sections ++ s ∷ [])) (sym entries_are)
             (subst (λ (bs : List ResolvedBinding). AreEntriesAllowed declared bs (take k entries ++ e ∷ []) (sections ++ s ∷ [])) (sym bindings_are)
-            (sections_more declared (take k bindings) (take k entries) sections b e s (so_far.allowed p can) (allowed p (derivable_at declared bindings entries can k b e is here)))));
-        stand = λ p can.
+            (sections_more declared (take k bindings) (take k entries) sections b e s (so_far.allowed p) (allowed p))));
+        stand = λ p.
             subst (All LinesStand) (sym pushed)
-            (All-append LinesStand sections (s ∷ []) (so_far.stand p can)
-            (All-cons LinesStand s [] (stand p (derivable_at declared bindings entries can k b e is here)) (All-nil LinesStand)));
+            (All-append LinesStand sections (s ∷ []) (so_far.stand p)
+            (All-cons LinesStand s [] (stand p) (All-nil LinesStand)));
       }
 
     -- all entries were gone over
@@ -258,13 +261,12 @@ module _ (plain : Type 0) (declared : List ReadScheme) (bindings : List Resolved
       pub all_texts : section_texts sections ≡ entry_texts entries
       all_texts = so_far.texts ∙ ap (λ (es : List SigEntry). entry_texts es) (take-all entries k past)
 
-      pub all_sections : plain → CanAllBeDerived declared bindings entries → AreSectionsAllowed declared bindings sections
-      all_sections p can =
-          let many : length bindings ≡ length entries = as_many declared bindings entries can in
+      pub all_sections : length bindings ≡ length entries → plain → AreSectionsAllowed declared bindings sections
+      all_sections many p =
           let behind : length bindings ≤ k = omega (arith, many, past) in
           sections_allowed declared bindings entries sections
           (subst (λ (bs : List ResolvedBinding). AreEntriesAllowed declared bs entries sections) (take-all bindings k behind)
-          (subst (λ (es : List SigEntry). AreEntriesAllowed declared (take k bindings) es sections) (take-all entries k past) (so_far.allowed p can)))
+          (subst (λ (es : List SigEntry). AreEntriesAllowed declared (take k bindings) es sections) (take-all entries k past) (so_far.allowed p)))
 
 -- over lists that are the same
 pub can_same : (known read : List ReadScheme) (bindings bound : List ResolvedBinding) (entries stated : List SigEntry) → known ≡ read → bindings ≡ bound → entries ≡ stated → CanAllBeDerived read bound stated
@@ -273,10 +275,3 @@ can_same known read bindings bound entries stated same_known same_bindings same_
     subst (λ (ks : List ReadScheme). CanAllBeDerived ks bindings entries) (sym same_known)
     (subst (λ (bs : List ResolvedBinding). CanAllBeDerived read bs entries) (sym same_bindings)
     (subst (λ (es : List SigEntry). CanAllBeDerived read bound es) (sym same_entries) can))
-
-pub allowed_same : (known read : List ReadScheme) (bindings bound : List ResolvedBinding) (entries stated : List SigEntry) (sections : List Section) → known ≡ read → bindings ≡ bound → entries ≡ stated
-    → (CanAllBeDerived known bindings entries → AreSectionsAllowed known bindings sections) → CanAllBeDerived read bound stated → AreSectionsAllowed read bound sections
-allowed_same known read bindings bound entries stated sections same_known same_bindings same_entries allowed can =
-    subst (λ (ks : List ReadScheme). AreSectionsAllowed ks bound sections) same_known
-    (subst (λ (bs : List ResolvedBinding). AreSectionsAllowed known bs sections) same_bindings
-    (allowed (can_same known read bindings bound entries stated same_known same_bindings same_entries can)))

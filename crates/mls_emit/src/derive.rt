@@ -1,5 +1,5 @@
 //! Derivations of the types of a signature.
-ghost use Rattle.std.specs.Prelude.{◌≡◌, ◌<◌, ◌^◌, ℕ, length, slice_get, All, IfOk, IfSome, OnOk, Some};
+ghost use Rattle.std.specs.Prelude.{◌≡◌, ◌<◌, ◌^◌, ℕ, length, All, IfOk, IfSome, OnOk};
 ghost use Rattle.mls_deriv.specs.Laws.{AreDerivable, AreTerms};
 ghost use Rattle.mls_deriv.specs.Spellings.{derivation_text};
 ghost use Rattle.mls_deriv.specs.Texts.{IsTextOf, LinesStand};
@@ -74,14 +74,13 @@ fn section_of(
     requires entry { IsEntry entry.now }
     requires types { AreNameTypes (names_read declared.now earlier.now) schemes.old }
     requires term { (count : ℕ) × IsTerm count binding.now.term.nodes binding.now.term.binders binding.now.term.lets }
+    requires derivable { CanBeDerived (names_read declared.now earlier.now) binding.now entry.now }
     ensures types { AreNameTypes (names_read declared.now earlier.now) schemes.new }
     ensures name { IfOk result (λ s. s.name ≡ entry.now.name) }
     ensures text { IfOk result (λ s. s.text ≡ entry.now.text) }
-    ensures allowed { way ≡ Plain → CanBeDerived (names_read declared.now earlier.now) binding.now entry.now
-        → IfOk result (λ s. IsSectionAllowed (schemes_of (names_read declared.now earlier.now)) binding.now s
-        entry.now.scheme) }
-    ensures stand { way ≡ Plain → CanBeDerived (names_read declared.now earlier.now) binding.now entry.now
-        → IfOk result LinesStand }
+    ensures allowed { way ≡ Plain → IfOk result (λ s. IsSectionAllowed (schemes_of (names_read declared.now
+        earlier.now)) binding.now s entry.now.scheme) }
+    ensures stand { way ≡ Plain → IfOk result LinesStand }
 {
     let nodes = binding.term.nodes.as_slice();
     let read = scheme_of(entry);
@@ -94,17 +93,7 @@ fn section_of(
     })
 }
 
-// The binding of this number.
-fn binding_at(bindings: &[ResolvedBinding], number: usize) -> Result<&ResolvedBinding, Memory>
-    ensures { IfOk result (λ b. slice_get bindings.now number ≡ Some b.now) }
-{
-    match bindings.get(number) {
-        None => Err(Memory),
-        Some(binding) => Ok(binding),
-    }
-}
-
-// The sections of all entries.
+// The sections of all entries, of which there is one for each binding.
 fn sections_of(
     alloc: Global,
     way: Way,
@@ -115,17 +104,15 @@ fn sections_of(
     requires terms { (count : ℕ) × AreTerms count bindings.now }
     requires declared { All IsRead declared.now }
     requires entries { All IsEntry entries.now }
+    requires derivable { CanAllBeDerived declared.now bindings.now entries.now }
     ensures names { IfOk result (λ sections. section_names sections ≡ entry_names entries.now) }
     ensures texts { IfOk result (λ sections. section_texts sections ≡ entry_texts entries.now) }
-    ensures allowed { way ≡ Plain → CanAllBeDerived declared.now bindings.now entries.now
-        → IfOk result (AreSectionsAllowed declared.now bindings.now) }
-    ensures stand { way ≡ Plain → CanAllBeDerived declared.now bindings.now entries.now
-        → IfOk result (All LinesStand) }
+    ensures allowed { way ≡ Plain → IfOk result (AreSectionsAllowed declared.now bindings.now) }
+    ensures stand { way ≡ Plain → IfOk result (All LinesStand) }
 {
     let mut sections = Sections::new(alloc);
     let mut schemes = Schemes::new(alloc);
     for k in 0..entries.len() {
-        let binding = binding_at(bindings, k)?;
         let earlier = &entries[..k];
         let section = section_of(
             alloc,
@@ -133,7 +120,7 @@ fn sections_of(
             declared,
             earlier,
             &mut schemes,
-            binding,
+            &bindings[k],
             &entries[k],
         )?;
         sections.push(section)?;
@@ -152,12 +139,12 @@ fn written(
     requires names { AreNames declared.now }
     requires terms { AreTerms (length declared.now.schemes) «module».now.bindings }
     requires entries { All IsEntry signature.now.entries }
+    requires derivable { CanAllBeDerived declared.now.schemes «module».now.bindings signature.now.entries }
     ensures names { IfOk result (λ d. section_names d.sections ≡ entry_names signature.now.entries) }
     ensures texts { IfOk result (λ d. section_texts d.sections ≡ entry_texts signature.now.entries) }
-    ensures allowed { way ≡ Plain → CanAllBeDerived declared.now.schemes «module».now.bindings signature.now.entries
-        → IfOk result (λ d. AreSectionsAllowed declared.now.schemes «module».now.bindings d.sections) }
-    ensures stand { way ≡ Plain → CanAllBeDerived declared.now.schemes «module».now.bindings signature.now.entries
-        → IfOk result (λ d. All LinesStand d.sections) }
+    ensures allowed { way ≡ Plain → IfOk result (λ d. AreSectionsAllowed declared.now.schemes «module».now.bindings
+        d.sections) }
+    ensures stand { way ≡ Plain → IfOk result (λ d. All LinesStand d.sections) }
 {
     let sections = sections_of(
         alloc,
@@ -179,6 +166,7 @@ fn short_derivation_of(
     requires names { AreNames declared.now }
     requires terms { AreTerms (length declared.now.schemes) «module».now.bindings }
     requires entries { All IsEntry signature.now.entries }
+    requires derivable { CanAllBeDerived declared.now.schemes «module».now.bindings signature.now.entries }
     ensures steps { IfOk result (λ found. IfSome found (λ d. AreDerivations declared.now.schemes «module».now.bindings
         signature.now.entries d.sections)) }
     ensures derivable { IfOk result (λ found. IfSome found (λ d. AreDerivable declared.now.schemes

@@ -13,13 +13,13 @@ write_section-requires-clause-term c =
 
 -- what is written plainly is allowed, and its lines stand
 pub returns-clause-allowed : goal.returns-clause-allowed
-returns-clause-allowed c = λ plain can.
+returns-clause-allowed c = λ plain.
     let own : Section = record { name = c.in_ok-copied_name.field-0; text = c.in_ok-copied_bytes.field-0; nodes = c.in_ok-written.written.book; lines = c.in_ok-written.written.lines } in
     (entry_come c.args.declared.now c.args.earlier.now c.requires.declared c.requires.earlier c.args.binding.now own c.args.entry.now c.requires.entry (search rules) (search rules) c.as_slice.result.now (search rules)
-    c.in_ok-copied_bytes.ensures.short c.requires.term.0 c.requires.term.1 c.as_slice-nodes.result.now (search rules) c.scheme_of-read.result.now (search rules) (c.in_ok-written.ensures.plain plain) can).allowed
+    c.in_ok-copied_bytes.ensures.short c.requires.term.0 c.requires.term.1 c.as_slice-nodes.result.now (search rules) c.scheme_of-read.result.now (search rules) (c.in_ok-written.ensures.plain plain) c.requires.derivable).allowed
 
 pub returns-clause-stand : goal.returns-clause-stand
-returns-clause-stand c = λ plain can.
+returns-clause-stand c = λ plain.
     let own : Section = record { name = c.in_ok-copied_name.field-0; text = c.in_ok-copied_bytes.field-0; nodes = c.in_ok-written.written.book; lines = c.in_ok-written.written.lines } in
     (entry_come c.args.declared.now c.args.earlier.now c.requires.declared c.requires.earlier c.args.binding.now own c.args.entry.now c.requires.entry (search rules) (search rules) c.as_slice.result.now (search rules)
-    c.in_ok-copied_bytes.ensures.short c.requires.term.0 c.requires.term.1 c.as_slice-nodes.result.now (search rules) c.scheme_of-read.result.now (search rules) (c.in_ok-written.ensures.plain plain) can).stand
+    c.in_ok-copied_bytes.ensures.short c.requires.term.0 c.requires.term.1 c.as_slice-nodes.result.now (search rules) c.scheme_of-read.result.now (search rules) (c.in_ok-written.ensures.plain plain) c.requires.derivable).stand
