@@ -1,5 +1,5 @@
 -- The types of the names of a part are known before it is written.
---     of_term, term_at      the nodes of a term, and each term of a module
+--     of_term               the nodes of a term
 --     read_type             a type that was read has no binders, so it may be copied everywhere
 --     no_name, one_name, same_name, name_form, no_form
 --                           what is known of no name, of one name more, of one that is known, and of a node
@@ -11,7 +11,7 @@
 --     before_same, before_more      so with all that is known
 --     no_first              a root that is none of a part is that of no first part
 --     know_types            what a part needs to be known
-use Rattle.std.proofs.Common.{◌≡◌, ◌≢◌, ◌⊎◌, inl, inr, ℕ, zero, suc, ◌+◌, ◌<◌, false, List, [], ◌∷◌, length, refl, sym, ap, ◌∙◌, subst, arith, Contains, slice_get, get_or, take, Option, Some, None}
+use Rattle.std.proofs.Common.{◌≡◌, ◌≢◌, ◌⊎◌, inl, inr, ℕ, ◌+◌, ◌<◌, false, List, [], ◌∷◌, length, refl, sym, ap, ◌∙◌, subst, arith, Contains, slice_get, get_or, take, Option, Some, None}
 use Rattle.std.specs.Prelude.{All, IsSome, is_some}
 use Rattle.std.proofs.lemmas.Bool.{cases_eq}
 use Rattle.std.proofs.lemmas.List.{length-map, length-take-le, get_or-map, get_or-take}
@@ -27,13 +27,11 @@ use Rattle.mls_automaton.specs.Sets.{Rises}
 use Rattle.mls_automaton.proofs.Passing.{states_more}
 use Rattle.mls_typetext.specs.declared.scheme.ReadScheme.{ReadScheme}
 use Rattle.mls_scheme.specs.ReadTypes.{IsEquivalentToRead, IsReadFromBook}
-use Rattle.mls_term.specs.declared.term.ResolvedBinding.{ResolvedBinding}
 use Rattle.mls_term.specs.declared.term.TermForm.{TermForm}
 use Rattle.mls_term.specs.declared.term.TermForm.TheVariants as form
 use Rattle.mls_term.specs.declared.term.TermNode.{TermNode}
 use Rattle.mls_term.specs.WellFormed.{IsTerm}
 use Rattle.mls_typing.proofs.Lists.{Contains-here}
-use Rattle.mls_deriv.specs.Laws.{AreTerms}
 use Rattle.mls_deriv.specs.Steps.{form_at}
 use Rattle.mls_layout.proofs.WorkedParts.{nothing}
 use Rattle.mls_parts.specs.declared.pose.KnownTypes.{KnownTypes}
@@ -53,21 +51,13 @@ use Rattle.mls_sections.specs.KnownNames.{AreNameTypes}
 use Rattle.mls_allowed.proofs.Updated.{updated_at, updated_other, updated_own}
 use Rattle.mls_emit.specs.Drafts.{AreTermNodes, HaveNoBinders, KnowGlobals, KnowFirsts, KnowsBefore, KnowsForm, KnowsFirst, KnowsName}
 
--- the nodes of a term, and of each term of a module
+-- the nodes of a term
 pub of_term : (globals : ℕ) (nodes : List TermNode) (binders lets : ℕ) → IsTerm globals nodes binders lets → AreTermNodes nodes
 of_term globals nodes binders lets term = record {
   tree = tree_nodes nodes term.tree term.nodes_are;
   labels = own_labels globals nodes binders lets term;
   firsts = behind_firsts globals nodes binders lets term;
 }
-
-pub term_at : (count : ℕ) (bindings : List ResolvedBinding) → AreTerms count bindings → (k : ℕ) (b : ResolvedBinding) → slice_get bindings k ≡ Some b
-    → (many : ℕ) × IsTerm many b.term.nodes b.term.binders b.term.lets
-term_at count [] all k b is = absurd (cc)
-term_at count (first ∷ rest) all zero b is =
-    let same : first ≡ b = cc in
-    subst (λ (c : ResolvedBinding). (many : ℕ) × IsTerm many c.term.nodes c.term.binders c.term.lets) same (count, all.0)
-term_at count (first ∷ rest) all (suc k) b is = term_at (suc count) rest all.1 k b is
 
 -- a type without binders
 pub read_type : (s : Scheme) → IsScheme s → s.env ≡ [] → IsKnownType [] s

@@ -1,5 +1,5 @@
 -- What is known of the names of a term while its section is written, part by part.
-use Rattle.std.specs.Prelude.{◌≡◌, ◌⊎◌, ℕ, ◌<◌, ◌≤◌, List, [], length, IsSome, Some}
+use Rattle.std.specs.Prelude.{◌≡◌, ◌⊎◌, ℕ, ◌<◌, ◌≤◌, List, [], length, All, IsSome, Some}
 use Rattle.std.specs.BTreeMap.{BTreeMap, Updates, get}
 use Rattle.std.specs.Ordering.{nat_cmp}
 use Rattle.mls_book.specs.declared.book.Node.{Node}
@@ -40,6 +40,14 @@ pub record KnowsName (old new : BTreeMap ℕ Scheme) (g : ℕ) (read : ReadSchem
   pub back : (h : ℕ) (s : Scheme) → known_in new h ≡ Some s
       → (known_in old h ≡ Some s)
       ⊎ ((h ≡ g) × IsKnownType [] s × IsReadFromBook read s × IsEquivalentToRead read s)
+
+-- a node of this form is none of the names of the environment but these
+abbrev pub NamesOnly : List ReadScheme → TermForm → Type 0
+NamesOnly reads f = (g : ℕ) → f ≡ form.Global g → g < length reads
+
+-- nor is any of these nodes
+abbrev pub NameOnly : List ReadScheme → List TermNode → Type 0
+NameOnly reads nodes = All (λ (node : TermNode). NamesOnly reads node.form) nodes
 
 -- the types are known of the names of the environment that stand among the first n nodes
 abbrev pub KnowGlobals : List TermNode → BTreeMap ℕ Scheme → ℕ → Type 0

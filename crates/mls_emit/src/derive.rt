@@ -73,7 +73,8 @@ fn section_of(
     requires earlier { All IsEntry earlier.now }
     requires entry { IsEntry entry.now }
     requires types { AreNameTypes (names_read declared.now earlier.now) schemes.old }
-    requires term { (count : ℕ) × IsTerm count binding.now.term.nodes binding.now.term.binders binding.now.term.lets }
+    requires term { IsTerm (length (names_read declared.now earlier.now)) binding.now.term.nodes
+        binding.now.term.binders binding.now.term.lets }
     requires derivable { CanBeDerived (names_read declared.now earlier.now) binding.now entry.now }
     ensures types { AreNameTypes (names_read declared.now earlier.now) schemes.new }
     ensures name { IfOk result (λ s. s.name ≡ entry.now.name) }
@@ -101,7 +102,7 @@ fn sections_of(
     declared: &[ReadScheme],
     entries: &[SigEntry],
 ) -> Result<Sections, Memory>
-    requires terms { (count : ℕ) × AreTerms count bindings.now }
+    requires terms { AreTerms (length declared.now) bindings.now }
     requires declared { All IsRead declared.now }
     requires entries { All IsEntry entries.now }
     requires derivable { CanAllBeDerived declared.now bindings.now entries.now }

@@ -1,6 +1,6 @@
 //! The section of a binding, part by part.
 ghost use Rattle.std.specs.BTreeMap.{IsEmpty};
-ghost use Rattle.std.specs.Prelude.{◌≡◌, ℕ, ◌≤◌, ◌+◌, List, length, slice_get, All, IfOk, IfSome, None, OnOk, Some};
+ghost use Rattle.std.specs.Prelude.{◌≡◌, ℕ, ◌<◌, ◌≤◌, ◌+◌, List, length, slice_get, All, IfOk, None, OnOk, Some};
 ghost use Rattle.mls_automaton.specs.Environments.{BindersRise};
 ghost use Rattle.mls_automaton.specs.Models.{IsClosed};
 ghost use Rattle.mls_automaton.specs.Schemes.{IsScheme};
@@ -24,7 +24,7 @@ ghost use Rattle.mls_book.specs.Books.{IsClosedBook};
 ghost use Rattle.mls_sections.specs.KnownNames.{AreNameTypes};
 ghost use Rattle.mls_emit.specs.Drafts.{AreGlobalsIn, AreTermNodes, HavePlaces, IsGrown, KnowGlobals};
 ghost use Rattle.mls_emit.specs.Derivable.{names_read};
-ghost use Rattle.mls_emit.specs.Drafts.{KnowsBefore, KnowsForm, PlacesForm};
+ghost use Rattle.mls_emit.specs.Drafts.{KnowsBefore, KnowsForm, NameOnly, NamesOnly, PlacesForm};
 ghost use Rattle.mls_emit.specs.PlainSections.{so_far, IsPlainSection, NamesFirst};
 ghost use Rattle.mls_allowed.specs.SectionParts.{AddsFirstPart, AddsWhole, HaveCome, IsBegun, IsWholeType, SoFar};
 ghost use Rattle.mls_allowed.specs.MadeFirsts.{around_states, IsFirstLaid, IsFirstType, IsPartLaidOut, IsPartSolved};
@@ -83,24 +83,17 @@ struct TypeAt {
 }
 
 // What a name of the environment means: something declared, or the type of an entry.
-fn read_at<'a>(
-    declared: &'a [ReadScheme],
-    entries: &'a [SigEntry],
-    g: usize,
-) -> Option<&'a ReadScheme>
+fn read_at<'a>(declared: &'a [ReadScheme], entries: &'a [SigEntry], g: usize) -> &'a ReadScheme
     requires declared { All IsRead declared.now }
     requires entries { All IsEntry entries.now }
-    ensures read { IfSome result (λ read. IsRead read.now) }
-    ensures is { IfSome result (λ read. slice_get (names_read declared.now entries.now) g ≡ Some read.now) }
+    requires name { g < length (names_read declared.now entries.now) }
+    ensures read { IsRead result.now }
+    ensures is { slice_get (names_read declared.now entries.now) g ≡ Some result.now }
 {
     if g < declared.len() {
-        return Some(&declared[g]);
+        return &declared[g];
     }
-    let behind = g - declared.len();
-    if behind < entries.len() {
-        return Some(scheme_of(&entries[behind]));
-    }
-    None
+    scheme_of(&entries[g - declared.len()])
 }
 
 /// What the text of an entry is read as.
@@ -223,6 +216,7 @@ impl Draft {
     ) -> Result<(), Memory>
         requires declared { All IsRead declared.now }
         requires entries { All IsEntry entries.now }
+        requires name { g < length (names_read declared.now entries.now) }
         requires types { AreNameTypes (names_read declared.now entries.now) self.old.known.globals }
         requires places { AreGlobalsIn (names_read declared.now entries.now) self.old.book self.old.variable
             self.old.globals }
@@ -239,7 +233,7 @@ impl Draft {
           variable = self.new.variable;
         } }
     {
-        let read = read_at(declared, entries, g).ok_or(Memory)?;
+        let read = read_at(declared, entries, g);
         know_type(alloc, &mut self.known.globals, read, g)?;
         if self.globals.contains_key(&g) {
             return Ok(());
@@ -258,6 +252,7 @@ impl Draft {
     ) -> Result<(), Memory>
         requires declared { All IsRead declared.now }
         requires entries { All IsEntry entries.now }
+        requires name { NamesOnly (names_read declared.now entries.now) named.now }
         requires types { AreNameTypes (names_read declared.now entries.now) self.old.known.globals }
         requires places { AreGlobalsIn (names_read declared.now entries.now) self.old.book self.old.variable
             self.old.globals }
@@ -290,6 +285,7 @@ impl Draft {
     ) -> Result<(), Memory>
         requires declared { All IsRead declared.now }
         requires entries { All IsEntry entries.now }
+        requires names { NameOnly (names_read declared.now entries.now) nodes.now }
         requires types { AreNameTypes (names_read declared.now entries.now) self.old.known.globals }
         requires places { AreGlobalsIn (names_read declared.now entries.now) self.old.book self.old.variable
             self.old.globals }
@@ -721,6 +717,7 @@ pub(crate) fn write_section(
     requires entries { All IsEntry entries.now }
     requires types { AreNameTypes (names_read declared.now entries.now) schemes.old }
     requires term { AreTermNodes nodes.now }
+    requires names { NameOnly (names_read declared.now entries.now) nodes.now }
     requires read { IsRead read.now }
     ensures types { AreNameTypes (names_read declared.now entries.now) schemes.new }
     ensures plain { way ≡ Plain → IfOk result (λ w. IsPlainSection (names_read declared.now entries.now) nodes.now

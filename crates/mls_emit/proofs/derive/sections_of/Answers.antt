@@ -1,6 +1,6 @@
 use Rattle.std.proofs.Common.{◌≡◌, ◌<◌, ◌≤◌, arith, length}
 use Rattle.mls_emit.specs.declared.derive.Way.TheVariants.{Plain}
-use Rattle.mls_emit.proofs.KnownNames.{term_at}
+use Rattle.mls_emit.proofs.NamesBelow.{terms_at}
 use Rattle.mls_emit.proofs.PlainSections.{all_names, all_sections, all_texts, as_many, binding_there, derivable_at, entries_front, entry_at, next_sections, no_sections, stands_at}
 use Rattle.mls_emit.proofs.derive.sections_of.Goals as goal
 
@@ -25,7 +25,8 @@ bounds-bindings-k c = binding_there c.args.declared.now c.args.bindings.now c.ar
 pub section_of-requires-clause-term : goal.section_of-requires-clause-term
 section_of-requires-clause-term c =
     let bound : c.loop-k.k < length c.args.bindings.now = binding_there c.args.declared.now c.args.bindings.now c.args.entries.now c.requires.derivable c.loop-k.k c.loop-k-test.true in
-    term_at c.requires.terms.0 c.args.bindings.now c.requires.terms.1 c.loop-k.k c.index-bindings-k.result (stands_at c.args.bindings.now c.loop-k.k c.index-bindings-k.result bound c.index-bindings-k.is)
+    terms_at c.args.declared.now c.args.entries.now c.args.bindings.now c.requires.terms c.loop-k.k c.index-bindings-k.result c.loop-k-test.true
+    (stands_at c.args.bindings.now c.loop-k.k c.index-bindings-k.result bound c.index-bindings-k.is)
 
 pub section_of-requires-clause-derivable : goal.section_of-requires-clause-derivable
 section_of-requires-clause-derivable c =

@@ -16,16 +16,16 @@ use Rattle.mls_emit.proofs.derive.section.Draft.add_global.Goals as goal
 pub returns-then-contains_key-clause-form : goal.returns-then-contains_key-clause-form
 returns-then-contains_key-clause-form c =
     let reads : List ReadScheme = names_read c.args.declared.now c.args.entries.now in
-    let is : slice_get reads c.args.g ≡ Some c.in_ok-read.read.now = search rules in
-    name_form reads c.args.self.now.known.globals c.know_type.new.schemes c.args.g c.in_ok-read.read.now c.requires.types is c.in_ok-know_type.ensures
+    let is : slice_get reads c.args.g ≡ Some c.read_at-read.result.now = search rules in
+    name_form reads c.args.self.now.known.globals c.know_type.new.schemes c.args.g c.read_at-read.result.now c.requires.types is c.in_ok-know_type.ensures
 
 pub returns-clause-form : goal.returns-clause-form
 returns-clause-form c =
     let reads : List ReadScheme = names_read c.args.declared.now c.args.entries.now in
-    let is : slice_get reads c.args.g ≡ Some c.in_ok-read.read.now = search rules in
+    let is : slice_get reads c.args.g ≡ Some c.read_at-read.result.now = search rules in
     let same : c.place_global.new.self.known.globals ≡ c.know_type.new.schemes = search rules in
     subst (λ (globals : BTreeMap ℕ Scheme). KnowsForm reads c.args.self.now.known.globals globals (form.Global c.args.g)) (sym same)
-    (name_form reads c.args.self.now.known.globals c.know_type.new.schemes c.args.g c.in_ok-read.read.now c.requires.types is c.in_ok-know_type.ensures)
+    (name_form reads c.args.self.now.known.globals c.know_type.new.schemes c.args.g c.read_at-read.result.now c.requires.types is c.in_ok-know_type.ensures)
 
 pub returns-then-contains_key-clause-grown : goal.returns-then-contains_key-clause-grown
 returns-then-contains_key-clause-grown c = grown_itself c.args.self.now.book c.args.self.now.variable
@@ -39,5 +39,5 @@ returns-then-contains_key-clause-places c =
 pub returns-clause-places : goal.returns-clause-places
 returns-clause-places c =
     let reads : List ReadScheme = names_read c.args.declared.now c.args.entries.now in
-    let is : slice_get reads c.args.g ≡ Some c.in_ok-read.read.now = search rules in
+    let is : slice_get reads c.args.g ≡ Some c.read_at-read.result.now = search rules in
     c.in_ok-place_global.ensures.places reads is c.requires.places
