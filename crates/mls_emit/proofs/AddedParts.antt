@@ -2,23 +2,31 @@
 --     adds_first_part      for the first part of a let
 --     adds_whole           for the whole term
 --     last_root            the root of a part that is the first part of no let is the last node
+--     has_nodes            a part has its root
 --     no_last              a root of no part is not the last node
 --     part_comes           with the part, one root more has come
 --     two_closed           a closed book stays closed with a `Bot` and a `Top` behind it
-use Rattle.std.proofs.Common.{◌≡◌, ◌≢◌, ◌∙◌, inl, inr, ℕ, zero, suc, ◌+◌, arith, List, [], ◌∷◌, ◌++◌, length, false, Option, Some, None, refl, sym, ap, subst}
-use Rattle.std.specs.Prelude.{All, IsSome, OnOk, Result, is_some}
+--     places_low           the places of a type that was read are nodes of such a book
+use Rattle.std.proofs.Common.{◌≡◌, ◌≢◌, ◌∙◌, inl, inr, ℕ, zero, suc, ◌+◌, ◌<◌, ◌≤◌, arith, Bool, List, [], ◌∷◌, ◌++◌, length, true, false, Option, Some, None, refl, sym, ap, subst}
+use Rattle.std.specs.Prelude.{All, Contains, IsSome, OnOk, Result, cond, is_some}
+use Rattle.std.proofs.lemmas.List.{length_push}
 use Rattle.std.proofs.lemmas.Result.{on_ok_weaker}
 use Rattle.std.specs.BTreeMap.{BTreeMap, Updates, get}
 use Rattle.std.specs.Ordering.{nat_cmp}
 use Rattle.mls_book.specs.declared.book.Node.{Node}
 use Rattle.mls_book.specs.declared.book.Node.TheVariants as node
 use Rattle.mls_book.specs.Books.{IsClosedBook}
+use Rattle.mls_book.proofs.LongerBooks.{below_or_more}
+use Rattle.mls_automaton.specs.declared.automaton.Polarity.{Polarity}
+use Rattle.mls_automaton.specs.declared.automaton.Polarity.TheVariants.{Negative, Positive}
 use Rattle.mls_automaton.specs.declared.scheme.Scheme.{Scheme}
+use Rattle.mls_automaton.specs.Automata.{polarity_at}
 use Rattle.mls_term.specs.declared.term.TermForm.{TermForm}
 use Rattle.mls_term.specs.declared.term.TermForm.TheVariants as form
 use Rattle.mls_term.specs.declared.term.TermNode.{TermNode}
 use Rattle.mls_typetext.specs.declared.scheme.ReadScheme.{ReadScheme}
-use Rattle.mls_deriv.specs.Steps.{form_at}
+use Rattle.mls_scheme.specs.ReadTypes.{IsReadFromBook}
+use Rattle.mls_deriv.specs.Steps.{form_at, HasFrom}
 use Rattle.mls_layout.specs.declared.layout.LaidOut.{LaidOut}
 use Rattle.mls_layout.specs.declared.layout.Places.{Places}
 use Rattle.mls_layout.specs.LaidOut.{node_of, place_of, IsLonger}
@@ -26,6 +34,7 @@ use Rattle.mls_layout.specs.Parts.{Constraint}
 use Rattle.mls_layout.specs.Trees.{IsOfTree}
 use Rattle.mls_layout.proofs.PartsLaidOut.{closed_with}
 use Rattle.mls_layout.proofs.TreesMade.{book_pushed}
+use Rattle.mls_typenodes.specs.ReadPlaces.{is_in, none_at, states_in_use, AreReadPlaces}
 use Rattle.mls_lines.specs.declared.known.FirstPart.{FirstPart}
 use Rattle.mls_lines.specs.declared.steps.Steps.{Steps}
 use Rattle.mls_lines.specs.PlainLines.{HaveLowPlaces}
@@ -34,6 +43,7 @@ use Rattle.mls_parts.specs.declared.pose.KnownTypes.{KnownTypes}
 use Rattle.mls_parts.specs.declared.pose.Posing.{Posing}
 use Rattle.mls_parts.specs.declared.solve.Solution.{Solution}
 use Rattle.mls_parts.specs.declared.split.TermPart.{TermPart}
+use Rattle.mls_parts.specs.NodeTypes.{at_top}
 use Rattle.mls_parts.specs.PartUses.{KnowTypes}
 use Rattle.mls_parts.specs.PosedGoals.{constraint_of}
 use Rattle.mls_parts.specs.Posings.{root_in}
@@ -148,6 +158,13 @@ module _ (nodes : List TermNode) (r : ℕ) (part : TermPart) (p : Posing) (solut
       globals = (ap (λ (d : Draft). d.globals) written) ∙ (ap (λ (d : Draft). d.globals) typed);
     }
 
+-- a part has its root
+pub has_nodes : (nodes : List TermNode) (r : ℕ) (part : TermPart) → IsTermPart nodes r part → 0 < length part.nodes
+has_nodes nodes r part it =
+    let root : Contains part.nodes r = it.all r (at_top refl) in
+    let low : root.0 < length part.nodes = root.1 in
+    omega (arith, low)
+
 -- the root of a part that is the first part of no let
 pub last_root : (nodes : List TermNode) (r : ℕ) → IsPartRoot nodes r → IsNoFirst nodes r → suc r ≡ length nodes
 last_root nodes r (inl is) none = is
@@ -188,3 +205,36 @@ pub two_closed : (nodes : List Node) → IsClosedBook nodes → IsClosedBook ((n
 two_closed nodes closed =
     let one : IsClosedBook (nodes ++ node.Bot ∷ []) = closed_with nodes (node.Bot ∷ []) closed (book_pushed nodes node.Bot closed.book tt) (one_of_tree node.Bot tt) in
     closed_with (nodes ++ node.Bot ∷ []) (node.Top ∷ []) one (book_pushed (nodes ++ node.Bot ∷ []) node.Top one.book tt) (one_of_tree node.Top tt)
+
+-- the places of a type that was read are nodes of such a book
+module _ (read : ReadScheme) (type : Scheme) (it : IsReadFromBook read type) (old mid new : List Node) (bot top : ℕ) (mid_is : mid ≡ old ++ node.Bot ∷ []) (bot_is : bot ≡ length old) (new_is : new ≡ mid ++ node.Top ∷ []) (top_is : top ≡ length mid)
+    (places : Places) (are : AreReadPlaces type bot top places) (from : HasFrom old 0 read.book) where
+  long : length mid ≡ length old + 1
+  long = ap length mid_is ∙ length_push old node.Bot
+
+  longer : length new ≡ length mid + 1
+  longer = ap length new_is ∙ length_push mid node.Top
+
+  bot_low : bot < length new
+  bot_low = omega (arith, long, longer, bot_is)
+
+  -- a node that was read, or one of no member
+  either_low : (b : Bool) (q : ℕ) (p : Polarity) → q < length new → cond b q (none_at bot top p) < length new
+  either_low true q p low = low
+  either_low false q Positive low = bot_low
+  either_low false q Negative low = omega (arith, longer, top_is)
+
+  pub places_low : HaveLowPlaces (length new) places
+  places_low q = elim (below_or_more q (length type.automaton.states)) [
+    | inl low ↦ subst (λ u. u < length new) (sym (are.inside q low)) (either_low (is_in (states_in_use type) q) q (polarity_at type.automaton q) (inside low))
+    | inr over ↦ subst (λ u. u < length new) (sym (are.past q (behind over.0 over.1))) bot_low
+  ]
+    where
+      inside : q < length type.automaton.states → q < length new
+      inside low =
+          let many : length type.automaton.states ≡ length read.book = it.automaton.automaton.same_length in
+          let within : 0 + length read.book ≤ length old = from.within in
+          omega (arith, low, many, within, long, longer)
+
+      behind : (j : ℕ) → q ≡ length type.automaton.states + j → length type.automaton.states ≤ q
+      behind j over = omega (arith, over)

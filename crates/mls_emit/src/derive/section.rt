@@ -346,6 +346,7 @@ impl Draft {
         requires begins { HasFrom self.old.book 0 read.now.book }
         ensures longer { OnOk result (IsLonger self.old.book self.new.book) }
         ensures whole { IfOk result (λ at. IsWholeType read.now self.old.book self.new.book at.scheme at.places) }
+        ensures places { IfOk result (λ at. HaveLowPlaces (length self.new.book) at.places) }
         ensures separate { IfOk result (λ at. AreSeparate at.scheme) }
         ensures kept { self.new ≡ record self.old { book = self.new.book } }
     {
@@ -370,6 +371,7 @@ impl Draft {
         requires closed { IsClosed posing.now.automaton }
         requires related { HoldsStates posing.now.automaton solution.found }
         requires rises { Rises around.now }
+        requires places { HaveLowPlaces (length self.old.book) at.now.places }
         ensures longer { IfOk result (λ laid. IsLonger self.old.book laid.book) }
         ensures laid { IfOk result (IsPartLaidOut self.old.book posing.now solution root around.now at.now.scheme
             at.now.places) }
@@ -382,9 +384,6 @@ impl Draft {
         };
         let pairs = walk_of(alloc, &general, &at.scheme)?;
         let book = replace_book(&mut self.book, alloc);
-        if !at.places.are_below(book.len()) {
-            return Err(Memory);
-        }
         lay_out(
             alloc,
             book,
@@ -454,6 +453,7 @@ impl Draft {
         laid: LaidOut,
         at: &TypeAt,
     ) -> Result<usize, Memory>
+        requires part { 0 < length part.now }
         ensures longer { OnOk result (IsLonger laid.book self.new.book) }
         ensures kept { self.new ≡ record self.old { book = self.new.book; steps = self.new.steps } }
         ensures lines { (c : Constraint) (parts : ℕ → List ℕ) → self.old.way ≡ Plain
@@ -463,7 +463,7 @@ impl Draft {
             self.new.steps self.new.book (type_binders at.now.scheme at.now.places)
             (place_of at.now.places at.now.scheme.root.0)) }
     {
-        let root = *part.last().ok_or(Memory)?;
+        let root = part[part.len() - 1];
         let mut writer = self.writer(alloc, laid);
         self.write_nodes(alloc, &mut writer, nodes, part, posing)?;
         let env = type_env(alloc, at)?;
@@ -547,6 +547,7 @@ impl Draft {
             (around_states solved.now.posing solved.now.around) at.scheme) }
         ensures first_laid { (k : ℕ) → of_let ≡ Some k → IfOk result (λ at. IsFirstLaid self.old.book self.old.variable
             self.new.book self.new.variable at.scheme at.places) }
+        ensures places { IfOk result (λ at. HaveLowPlaces (length self.new.book) at.places) }
         ensures scheme { IfOk result (λ at. IsScheme at.scheme) }
         ensures separate { IfOk result (λ at. AreSeparate at.scheme) }
         ensures kept { self.new ≡ record self.old { book = self.new.book; variable = self.new.variable } }
@@ -574,9 +575,11 @@ impl Draft {
         root: usize,
         at: &TypeAt,
     ) -> Result<usize, Memory>
+        requires list { 0 < length list.now }
         requires closed { IsClosed solved.posing.automaton }
         requires related { HoldsStates solved.posing.automaton solved.solution.found }
         requires rises { Rises solved.around }
+        requires places { HaveLowPlaces (length self.old.book) at.now.places }
         ensures longer { OnOk result (IsLonger self.old.book self.new.book) }
         ensures kept { self.new ≡ record self.old { book = self.new.book; steps = self.new.steps } }
         ensures lines { self.old.way ≡ Plain → IfOk result (λ number. (laid : IsLaid)

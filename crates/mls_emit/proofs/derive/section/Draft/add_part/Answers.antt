@@ -1,4 +1,4 @@
-use Rattle.std.proofs.Common.{◌≡◌, ◌∙◌, ◌≤◌, ℕ, List, ap, subst, sym, arith}
+use Rattle.std.proofs.Common.{◌≡◌, ◌∙◌, ◌<◌, ◌≤◌, ℕ, List, length, ap, subst, sym, arith}
 use Rattle.std.proofs.lemmas.Result.{on_ok_weaker}
 use Rattle.mls_automaton.specs.Sets.{Rises}
 use Rattle.mls_parts.specs.declared.pose.KnownTypes.{KnownTypes}
@@ -12,7 +12,7 @@ use Rattle.mls_emit.specs.Drafts.{KnowsBefore}
 use Rattle.mls_emit.specs.PlainSections.{so_far, NamesFirst}
 use Rattle.mls_emit.specs.declared.derive.section.Draft.{Draft}
 use Rattle.mls_emit.specs.declared.derive.Way.TheVariants.{Plain}
-use Rattle.mls_emit.proofs.AddedParts.{adds_first_part, adds_whole, last_root}
+use Rattle.mls_emit.proofs.AddedParts.{adds_first_part, adds_whole, has_nodes, last_root}
 use Rattle.mls_emit.proofs.KnownNames.{before_more, before_same, know_types}
 use Rattle.mls_solver.proofs.Answered.{always_ok}
 use Rattle.mls_layout.specs.LaidOut.{IsLonger}
@@ -38,6 +38,13 @@ add_lines-requires-clause-related c = c.in_ok-solved.ensures.states
 
 pub add_lines-requires-clause-rises : goal.add_lines-requires-clause-rises
 add_lines-requires-clause-rises c = subst Rises (sym c.in_ok-solved.ensures.is_around) c.in_ok-solved.ensures.are_binders.around_rise
+
+-- a part has its root, and the places of its type are nodes of the book
+pub add_lines-requires-clause-list : goal.add_lines-requires-clause-list
+add_lines-requires-clause-list c = subst (λ (xs : List ℕ). 0 < length xs) (sym c.as_slice-list.ensures) (has_nodes c.args.nodes.now c.args.root c.args.part.now c.requires.part)
+
+pub add_lines-requires-clause-places : goal.add_lines-requires-clause-places
+add_lines-requires-clause-places c = c.in_ok-at.ensures.places
 
 -- the type of a first part is known now
 pub returns-in-Some-clause-known : goal.returns-in-Some-clause-known

@@ -1,4 +1,4 @@
-use Rattle.std.proofs.Common.{IfOk, List, subst}
+use Rattle.std.proofs.Common.{IfOk, List, length, subst, sym}
 use Rattle.std.proofs.lemmas.Result.{IfOk-weaker}
 use Rattle.mls_book.specs.declared.book.Node.{Node}
 use Rattle.mls_book.specs.Books.{IsClosedBook}
@@ -6,8 +6,13 @@ use Rattle.mls_automaton.specs.declared.scheme.EnvEntry.{EnvEntry}
 use Rattle.mls_subsume.specs.declared.verdict.StatePair.{StatePair}
 use Rattle.mls_layout.specs.LaidOut.{place_of, IsLonger, LaysOut}
 use Rattle.mls_layout.specs.Walks.{AreMet}
+use Rattle.mls_lines.specs.PlainLines.{HaveLowPlaces}
 use Rattle.mls_allowed.specs.MadeFirsts.{IsPartLaidOut}
 use Rattle.mls_emit.proofs.derive.section.Draft.laid_out.Goals as goal
+
+-- the places are nodes of the book that was taken out
+pub lay_out-requires-clause-places : goal.lay_out-requires-clause-places
+lay_out-requires-clause-places c = subst (λ (book : List Node). HaveLowPlaces (length book) c.args.at.now.places) (sym c.replace_book-book.ensures) c.requires.places
 
 -- the pairs that `walk_of` answers, and what `lay_out` says of them
 pub returns-clause-laid : goal.returns-clause-laid

@@ -1,4 +1,4 @@
-use Rattle.mls_emit.proofs.AddedParts.{two_closed}
+use Rattle.mls_emit.proofs.AddedParts.{places_low, two_closed}
 use Rattle.mls_emit.proofs.KnownNames.{read_type}
 use Rattle.mls_typenodes.proofs.UsedTops.{whole_laid}
 use Rattle.std.proofs.Common.{List, [], ◌∷◌, ◌++◌, subst, sym}
@@ -29,3 +29,9 @@ returns-clause-whole c = record {
 
 pub returns-clause-longer : goal.returns-clause-longer
 returns-clause-longer c = longer_then c.args.self.now.book c.push.new.self c.push-2.new.self (node.Bot ∷ [], c.in_ok-bot.ensures.ok) (node.Top ∷ [], c.in_ok-top.ensures.ok)
+
+-- they are nodes of the book
+pub returns-clause-places : goal.returns-clause-places
+returns-clause-places c =
+    places_low c.args.read.now c.in_ok-scheme.scheme c.in_ok-scheme.ensures.book c.args.self.now.book c.push.new.self c.push-2.new.self c.in_ok-bot.bot.0 c.in_ok-top.top.0
+    c.in_ok-bot.ensures.ok c.in_ok-bot.ensures.number c.in_ok-top.ensures.ok c.in_ok-top.ensures.number c.in_ok-places.places c.in_ok-places.ensures c.requires.begins

@@ -1,4 +1,5 @@
-use Rattle.std.proofs.Common.{◌≡◌, ◌∙◌, ◌-◌, ◌<◌, ℕ, List, length, get_or, sym, subst, rules}
+use Rattle.std.proofs.Common.{◌≡◌, ◌∙◌, ◌-◌, ◌<◌, ℕ, List, length, get_or, sym, subst, arith}
+use Rattle.std.proofs.lemmas.List.{get_or_default}
 use Rattle.std.specs.BTreeMap.{BTreeMap}
 use Rattle.mls_automaton.specs.declared.scheme.Scheme.{Scheme}
 use Rattle.mls_book.specs.declared.book.NodeId.{NodeId}
@@ -40,8 +41,9 @@ returns-clause-lines c = λ k parts way can low.
     (subst (λ (firsts : BTreeMap ℕ FirstPart). WritesPart draft.globals firsts c.args.self.now.known.lets k p parts nodes part first last) firsts_are
     (subst (λ (lets : BTreeMap ℕ Scheme). WritesPart draft.globals draft.firsts lets k p parts nodes part first last) lets_are
     (c.in_ok-write_nodes.ensures.writes k parts (way_is ∙ way) able c.writer-writer.ensures.nothing))) in
-    let inside : 0 < length part = search rules in
-    let root_is : c.in_ok-root.field-0.now ≡ get_or part (length part - 1) c.in_ok-root.field-0.now = search rules in
+    let root : ℕ = get_or part (length part - 1) 0 in
+    let within : length part - 1 < length part = (let some : 0 < length part = c.requires.part in omega (arith, some)) in
+    let root_is : root ≡ get_or part (length part - 1) root = get_or_default part (length part - 1) 0 root within in
     let d : List BinderNode = type_binders c.args.at.now.scheme c.args.at.now.places in
     let env_is : c.as_slice.result.now ≡ d = c.as_slice.ensures ∙ c.in_ok-env.ensures.env in
     let rising : IsRising d = binders_rising c.args.at.now.places c.args.at.now.scheme c.in_ok-env.ensures.rise in
@@ -50,13 +52,13 @@ returns-clause-lines c = λ k parts way can low.
     let env_low : HasLowEnv (length last.laid.book) d = binders_low (length last.laid.book) c.args.at.now.places low_now c.args.at.now.scheme in
     let root_low : c.node-type_root.result.0 < length last.laid.book =
     subst (λ (u : NodeId). u.0 < length last.laid.book) (sym c.node-type_root.ensures) (low_now c.args.at.now.scheme.root.0) in
-    let it : BringsNode last c.adapted.new.self c.in_ok-root.field-0.now d c.node-type_root.result c.in_ok-step.step =
-    subst (λ (l : List BinderNode). BringsNode last c.adapted.new.self c.in_ok-root.field-0.now l c.node-type_root.result c.in_ok-step.step) env_is
+    let it : BringsNode last c.adapted.new.self root d c.node-type_root.result c.in_ok-step.step =
+    subst (λ (l : List BinderNode). BringsNode last c.adapted.new.self root l c.node-type_root.result c.in_ok-step.step) env_is
     (c.in_ok-step.ensures.brings (subst IsRising (sym env_is) rising) writes.sound (subst (HasLowEnv (length last.laid.book)) (sym env_is) env_low) root_low) in
     subst (λ (u : NodeId). WritesWhole c.args.self.now.globals c.args.self.now.firsts c.args.self.now.known.lets k p parts nodes part c.args.laid c.args.self.now.steps c.adapted.new.self.steps c.adapted.new.self.laid.book d u.0 c.in_ok-step.step)
     c.node-type_root.ensures
     (whole_writes c.args.self.now.globals c.args.self.now.firsts c.args.self.now.known.lets k p parts nodes part c.args.laid c.args.self.now.steps first last c.adapted.new.self c.writer-writer.ensures.laid c.writer-writer.ensures.steps writes
-    _ c.in_ok-root.field-0.now d c.node-type_root.result c.in_ok-step.step (at_end part c.in_ok-root.field-0.now inside root_is) it)
+    _ root d c.node-type_root.result c.in_ok-step.step (at_end part root c.requires.part root_is) it)
 
 pub returns-clause-longer : goal.returns-clause-longer
 returns-clause-longer c =
