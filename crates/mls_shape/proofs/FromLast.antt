@@ -1,6 +1,7 @@
 -- States whose heads name alone later states, and states whose heads name none, get their classes from the last one to
 -- the first.
---     knows_new                      a key that was not there
+--     knows_or                       a key that gets a number if it has none
+--     class_known, class_new         a class that has a number, and one that gets one
 --     counted_more, ordered_more     one number after another
 --     keyed_none, leaf_more          one state after another whose head names none
 --     others_none, others_more       and one after another of those that are left
@@ -8,13 +9,10 @@
 --     joined_keep                    and stay so with other numbers
 --     own_classes                    where each state has a class of its own, the classes are those of alike states
 use Rattle.std.proofs.Common.{◌≡◌, ◌⊎◌, inl, inr, ℕ, zero, suc, ◌+◌, ◌<◌, ◌≤◌, Bool, true, false, List, [], ◌∷◌, ◌++◌, refl, sym, ap, ◌∙◌, subst, arith, length, All, Some, None}
-use Rattle.std.specs.Prelude.{◌&&◌, Option, cond, is_none, set}
+use Rattle.std.specs.Prelude.{◌&&◌, Option, cond, is_none, get_or, set, unwrap_or}
 use Rattle.std.specs.List.{flat_map}
 use Rattle.std.specs.BTreeMap.{BTreeMap, get, Updates}
-use Rattle.std.specs.FinMap.{nat_cmp-IsAntisymmetric}
 use Rattle.std.specs.Ordering.{nat_cmp, is_eq}
-use Rattle.std.specs.declared.cmp.Ordering.{Ordering}
-use Rattle.std.specs.declared.cmp.Ordering.TheVariants.{Less, Equal, Greater}
 use Rattle.std.specs.Cmp.Lexicographic.{slice_cmp}
 use Rattle.std.proofs.lemmas.Bool.{cases_eq}
 use Rattle.std.proofs.lemmas.List.{get_or-set_same, get_or-set_other, get_or_append_left, length-append, length-set}
@@ -35,34 +33,51 @@ use Rattle.mls_flow.specs.Admissible.{Holds}
 use Rattle.mls_shape.specs.declared.classes.Classes.{Classes}
 use Rattle.mls_shape.specs.Alike.{AreHeadsAlike, IsAlike, IsAlikeness, IsAlikePair}
 use Rattle.mls_shape.specs.steps.Classes.{class_in, one_of, function_code, field_code, record_code, head_code, bit_code, AreApart, AreClasses, IsKeyOf, KeepsAlike}
-use Rattle.mls_shape.specs.steps.Registers.{sign}
-use Rattle.mls_shape.specs.steps.Upwards.{AreCounted, AreInOrder, AreJoined, AreKeyed, Classifies, IsLeafBelow, IsLeafOrLast, Knows, NamesLater, StandsBehind, is_leaf, names_none}
+use Rattle.mls_shape.specs.steps.Registers.{sign, PutsNumber}
+use Rattle.mls_shape.specs.steps.Upwards.{AreCounted, AreInOrder, AreJoined, AreKeyed, Classifies, IsLeafBelow, IsLeafOrLast, Knows, NamesLater, NumbersClass, StandsBehind, is_leaf, names_none}
 use Rattle.mls_shape.proofs.AlikeStates.{alike-refl}
 use Rattle.mls_shape.proofs.HeadsAlike.{alike-known, alike-more, Known}
 use Rattle.mls_shape.proofs.StateKeys.{key_unique, alike_key}
 
--- equal keys, and equal classes
+-- equal keys
 pub key_same : (x y : List ℕ) → is_eq (slice_cmp nat_cmp x y) ≡ true → x ≡ y
 key_same x y e = (bytes_eq-Decides x y).0 (sym (is_eq-slice_cmp x y) ∙ e)
 
-is_equal : (o : Ordering) → is_eq o ≡ true → o ≡ Equal
-is_equal Less e = absurd (cc)
-is_equal Equal e = refl
-is_equal Greater e = absurd (cc)
-
-pub class_same : (x y : ℕ) → is_eq (nat_cmp x y) ≡ true → x ≡ y
-class_same x y e = nat_cmp-IsAntisymmetric x y (is_equal (nat_cmp x y) e)
-
--- a key that was not there
-pub knows_new : {K : Type 0} (cmp : K → K → Ordering) → ((x y : K) → is_eq (cmp x y) ≡ true → x ≡ y) → (old new : BTreeMap K ℕ) (key : K) (number : ℕ) → get cmp old key ≡ None → Updates cmp old new key (Some number) → Knows cmp key number old new
-knows_new cmp same old new key number absent updates = record {
+-- a key that gets a number if it has none
+pub knows_or : (old new : BTreeMap (List ℕ) ℕ) (key : List ℕ) (number next : ℕ) → number ≡ unwrap_or (get (slice_cmp nat_cmp) old key) next
+    → Updates (slice_cmp nat_cmp) old new key (Some number) → Knows key number old new
+knows_or old new key number next is updates = record {
   now = updates.1;
-  kept = λ other n e. go other n e (is_eq (cmp key other)) refl (updates.0 other);
+  kept = λ other n e. go other n e (is_eq (slice_cmp nat_cmp key other)) refl (updates.0 other);
 }
   where
-    go : (other : _) (n : ℕ) → get cmp old other ≡ Some n → (b : Bool) → is_eq (cmp key other) ≡ b → get cmp new other ≡ cond b (Some number) (get cmp old other) → get cmp new other ≡ Some n
-    go other n e true equal is = let none : get cmp old other ≡ None = ap (get cmp old) (sym (same key other equal)) ∙ absent in absurd (cc)
-    go other n e false equal is = is ∙ e
+    go : (other : List ℕ) (n : ℕ) → get (slice_cmp nat_cmp) old other ≡ Some n → (b : Bool) → is_eq (slice_cmp nat_cmp key other) ≡ b
+        → get (slice_cmp nat_cmp) new other ≡ cond b (Some number) (get (slice_cmp nat_cmp) old other) → get (slice_cmp nat_cmp) new other ≡ Some n
+    go other n e true equal at =
+        let here : get (slice_cmp nat_cmp) old key ≡ Some n = ap (get (slice_cmp nat_cmp) old) (key_same key other equal) ∙ e in
+        at ∙ ap Some (is ∙ ap (λ found. unwrap_or found next) here)
+    go other n e false equal at = at ∙ e
+
+-- a number that a key has once more
+pub same_again : (old new : BTreeMap (List ℕ) ℕ) (key : List ℕ) (number : ℕ) → get (slice_cmp nat_cmp) old key ≡ Some number → Updates (slice_cmp nat_cmp) old new key (Some number)
+    → (other : List ℕ) → get (slice_cmp nat_cmp) new other ≡ get (slice_cmp nat_cmp) old other
+same_again old new key number known updates other = go (is_eq (slice_cmp nat_cmp key other)) refl (updates.0 other)
+  where
+    go : (b : Bool) → is_eq (slice_cmp nat_cmp key other) ≡ b → get (slice_cmp nat_cmp) new other ≡ cond b (Some number) (get (slice_cmp nat_cmp) old other)
+        → get (slice_cmp nat_cmp) new other ≡ get (slice_cmp nat_cmp) old other
+    go true equal at = at ∙ (sym known ∙ ap (get (slice_cmp nat_cmp) old) (key_same key other equal))
+    go false equal at = at
+
+-- a class that has a number, and one that gets one
+pub class_known : (numbers : List (Option ℕ)) (class number : ℕ) → get_or numbers class None ≡ Some number → NumbersClass class number numbers numbers
+class_known numbers class number known = record { now = known; kept = λ other n e. e }
+
+pub class_new : (old new : List (Option ℕ)) (class number : ℕ) → get_or old class None ≡ None → PutsNumber class number old new → NumbersClass class number old new
+class_new old new class number absent puts = record { now = puts.here; kept = λ other n e. go other n e (cases_eq other class) }
+  where
+    go : (other n : ℕ) → get_or old other None ≡ Some n → (other ≡ class) ⊎ (other ≡ class → ⊥) → get_or new other None ≡ Some n
+    go other n e (inl same) = let none : get_or old other None ≡ None = ap (λ k. get_or old k None) same ∙ absent in absurd (cc)
+    go other n e (inr apart) = puts.others other apart ∙ e
 
 -- the numbers so far
 pub counted_none : AreCounted 0 []
@@ -83,31 +98,31 @@ counted_more n xs it = record {
         get_or_append_left xs (n ∷ []) 0 k inside ∙ it.own k (omega (arith, apart))
 
 -- numbers in the order of the states
-pub ordered_none : (classes : List ℕ) (numbers : BTreeMap ℕ ℕ) → AreInOrder 0 classes numbers []
+pub ordered_none : (classes : List ℕ) (numbers : List (Option ℕ)) → AreInOrder 0 classes numbers []
 ordered_none classes numbers = record { size = refl; numbered = λ s low. absurd (omega arith) }
 
-pub ordered_more : (k : ℕ) (classes : List ℕ) (numbers numbers' : BTreeMap ℕ ℕ) (ordered : List ℕ) (number : ℕ) → AreInOrder k classes numbers ordered → Knows nat_cmp (class_in classes k) number numbers numbers'
+pub ordered_more : (k : ℕ) (classes : List ℕ) (numbers numbers' : List (Option ℕ)) (ordered : List ℕ) (number : ℕ) → AreInOrder k classes numbers ordered → NumbersClass (class_in classes k) number numbers numbers'
     → AreInOrder (k + 1) classes numbers' (ordered ++ number ∷ [])
 ordered_more k classes numbers numbers' ordered number it knows = record {
   size = let long : length (ordered ++ number ∷ []) ≡ length ordered + 1 = length-append ordered (number ∷ []) in let size : length ordered ≡ k = it.size in omega (arith, long, size);
   numbered = λ s low. go s low (cases_eq s k);
 }
   where
-    go : (s : ℕ) → s < k + 1 → (s ≡ k) ⊎ (s ≡ k → ⊥) → get nat_cmp numbers' (class_in classes s) ≡ Some (class_in (ordered ++ number ∷ []) s)
+    go : (s : ℕ) → s < k + 1 → (s ≡ k) ⊎ (s ≡ k → ⊥) → get_or numbers' (class_in classes s) None ≡ Some (class_in (ordered ++ number ∷ []) s)
     go s low (inl same) =
         let at : s ≡ length ordered = let size : length ordered ≡ k = it.size in omega (arith, same, size) in
         let last : class_in (ordered ++ number ∷ []) s ≡ number = ap (class_in (ordered ++ number ∷ [])) at ∙ get_or-append_seam ordered number [] 0 in
-        ap (λ t. get nat_cmp numbers' (class_in classes t)) same ∙ (knows.now ∙ ap Some (sym last))
+        ap (λ t. get_or numbers' (class_in classes t) None) same ∙ (knows.now ∙ ap Some (sym last))
     go s low (inr apart) =
         let inside : s < length ordered = let size : length ordered ≡ k = it.size in omega (arith, apart, size) in
         knows.kept (class_in classes s) (class_in ordered s) (it.numbered s (omega (arith, apart))) ∙ ap Some (sym (get_or_append_left ordered (number ∷ []) 0 s inside))
 
-pub ordered_joined : (n : ℕ) (classes : List ℕ) (numbers : BTreeMap ℕ ℕ) (ordered : List ℕ) → AreInOrder n classes numbers ordered → AreJoined n classes ordered
+pub ordered_joined : (n : ℕ) (classes : List ℕ) (numbers : List (Option ℕ)) (ordered : List ℕ) → AreInOrder n classes numbers ordered → AreJoined n classes ordered
 ordered_joined n classes numbers ordered it = record { size = it.size; same = one }
   where
     one : (i j : ℕ) → i < n → j < n → class_in classes i ≡ class_in classes j → class_in ordered i ≡ class_in ordered j
     one i j low low' equal =
-        let some : Some (class_in ordered i) ≡ Some (class_in ordered j) = sym (it.numbered i low) ∙ (ap (get nat_cmp numbers) equal ∙ it.numbered j low') in
+        let some : Some (class_in ordered i) ≡ Some (class_in ordered j) = sym (it.numbered i low) ∙ (ap (λ class. get_or numbers class None) equal ∙ it.numbered j low') in
         cc
 
 -- heads whose states have the same classes have one code

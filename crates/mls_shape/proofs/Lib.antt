@@ -3,6 +3,7 @@ pub mod Entries
 pub mod Holders
 pub mod AddedFlows
 pub mod Registered
+pub mod RegisteredOnes
 pub mod NumberedHeads
 pub mod CombinedHeads
 pub mod NumberedStates

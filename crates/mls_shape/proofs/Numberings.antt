@@ -1,9 +1,14 @@
 -- States are numbered by their keys, one after another.
+--     adds_unknown, adds_known    a key that gets the next number, and one that has a number
 --     numbering_none    no state yet
 --     numbering_more    one more state
 --     numbered_classes  two states have one number where they have one key
-use Rattle.std.proofs.Common.{◌≡◌, inl, inr, ℕ, ◌+◌, ◌<◌, Bool, true, false, List, [], ◌∷◌, refl, sym, ap, ◌∙◌, subst, arith, length, get_or, Some, None}
-use Rattle.std.specs.Prelude.{cond, bytes_eq}
+use Rattle.std.proofs.Common.{◌≡◌, ◌≢◌, inl, inr, ℕ, ◌+◌, ◌<◌, Bool, true, false, List, [], ◌∷◌, ◌++◌, refl, sym, ap, ◌∙◌, subst, arith, length, get_or, Some, None}
+use Rattle.std.specs.Prelude.{cond, bytes_eq, unwrap_or}
+use Rattle.std.specs.BTreeMap.{Updates}
+use Rattle.std.specs.Ordering.{nat_cmp}
+use Rattle.std.specs.Cmp.Lexicographic.{slice_cmp}
+use Rattle.std.proofs.lemmas.Map.Text.{is_eq-slice_cmp}
 use Rattle.std.proofs.lemmas.Slice.Eq.{bytes_eq-Decides}
 use Rattle.std.proofs.lemmas.List.{get_or_append_left, length-append}
 use Rattle.std.proofs.Math.Nat.{eq-or-lt_of_le}
@@ -11,6 +16,33 @@ use Rattle.std.proofs.Math.Seq.{get_or-append_seam}
 use Rattle.mls_automaton.specs.Automata.{Automaton}
 use Rattle.mls_shape.specs.declared.numbering.Numbering.{Numbering}
 use Rattle.mls_shape.specs.steps.Classes.{class_in, known_in, IsKnown, IsUnknown, AddsKey, IsNumbering, AreClassesBy}
+use Rattle.mls_shape.proofs.Registered.{is_next, is_given}
+use Rattle.mls_shape.proofs.FromLast.{same_again}
+
+-- a key gets the next number where it has none
+module _ (old new : Numbering) (key : List ℕ) (number : ℕ) (is : number ≡ unwrap_or (known_in old key) (length old.classes.chosen.items))
+    (numbers : new.classes.numbers.items ≡ old.classes.numbers.items ++ number ∷ []) (updates : Updates (slice_cmp nat_cmp) old.known new.known key (Some number)) where
+  pub adds_unknown : ((k : ℕ) → known_in old key ≡ Some k → k < length old.classes.chosen.items) → number ≡ length old.classes.chosen.items
+      → new.classes.chosen.items ≡ old.classes.chosen.items ++ length old.classes.numbers.items ∷ [] → AddsKey key old new
+  adds_unknown below next chosen = record {
+    number = number;
+    numbers = numbers;
+    how = inr (record {
+      absent = is_next (known_in old key) (length old.classes.chosen.items) below (sym is ∙ next);
+      next = next;
+      chosen = chosen;
+      added = λ other. updates.0 other ∙ ap (λ b. cond b (Some number) (known_in old other)) (is_eq-slice_cmp key other);
+    });
+  }
+
+  pub adds_known : number ≢ length old.classes.chosen.items → new.classes.chosen.items ≡ old.classes.chosen.items → AddsKey key old new
+  adds_known apart chosen =
+      let found : known_in old key ≡ Some number = is_given (known_in old key) number (length old.classes.chosen.items) is apart in
+      record {
+        number = number;
+        numbers = numbers;
+        how = inl (record { found = found; chosen = chosen; same = same_again old.known new.known key number found updates });
+      }
 
 module _ (IsKey : ℕ → List ℕ → Type 0) where
   pub numbering_none : (numbering : Numbering) → numbering.classes.numbers.items ≡ [] → numbering.classes.chosen.items ≡ [] → ((key : List ℕ) → known_in numbering key ≡ None) → IsNumbering IsKey 0 numbering

@@ -2,12 +2,10 @@
 --     grows_none, grows_then, grows_wider   more sets, one after the other
 --     at_kept                               a set that is there keeps its number
 --     found_number, new_number, registered  a set that has a number, and one that gets the next
-use Rattle.std.proofs.Common.{◌≡◌, ◌⊎◌, inl, inr, ℕ, ◌+◌, ◌<◌, ◌≤◌, Bool, true, false, List, [], ◌∷◌, ◌++◌, map, refl, sym, ap, ◌∙◌, subst, arith, length, get_or, All, Some, None, append-nil, append_assoc}
-use Rattle.std.specs.Prelude.{Option, cond, bytes_eq}
-use Rattle.std.specs.BTreeMap.{Updates}
-use Rattle.std.specs.Ordering.{nat_cmp}
-use Rattle.std.specs.Cmp.Lexicographic.{slice_cmp}
-use Rattle.std.proofs.lemmas.Map.Text.{is_eq-slice_cmp}
+--     same_register                         the same sets and numbers
+--     is_next, is_given                     whether a key has the next number
+use Rattle.std.proofs.Common.{◌≡◌, ◌≢◌, ◌⊎◌, inl, inr, ℕ, ◌+◌, ◌<◌, ◌≤◌, Bool, true, false, List, [], ◌∷◌, ◌++◌, map, refl, sym, ap, ◌∙◌, subst, arith, length, get_or, All, Some, None, append-nil, append_assoc}
+use Rattle.std.specs.Prelude.{Option, cond, bytes_eq, unwrap_or}
 use Rattle.std.proofs.lemmas.Slice.Eq.{bytes_eq-Decides}
 use Rattle.std.proofs.lemmas.List.{get_or_append_left, get_or-map, length-append, length-map, map-append}
 use Rattle.std.proofs.Math.Nat.{eq-or-lt_of_le}
@@ -60,7 +58,7 @@ apart : {X : Type 0} (x y : ℕ) → x ≡ y → (x < y) ⊎ (y < x) → X
 apart x y same (inl less) = absurd (omega arith)
 apart x y same (inr more) = absurd (omega arith)
 
-same_polarity : (p q : Polarity) (xs ys : List ℕ) → key_of p xs ≡ key_of q ys → p ≡ q
+pub same_polarity : (p q : Polarity) (xs ys : List ℕ) → key_of p xs ≡ key_of q ys → p ≡ q
 same_polarity Positive Positive xs ys e = refl
 same_polarity Negative Negative xs ys e = refl
 same_polarity Positive Negative xs ys e = apart 0 1 (ap first_of e) (inl (omega arith))
@@ -70,7 +68,7 @@ abbrev rest_of : List ℕ → List ℕ
 rest_of [] = []
 rest_of (x ∷ xs) = xs
 
-same_members : (p q : Polarity) (xs ys : List ℕ) → key_of p xs ≡ key_of q ys → xs ≡ ys
+pub same_members : (p q : Polarity) (xs ys : List ℕ) → key_of p xs ≡ key_of q ys → xs ≡ ys
 same_members p q xs ys e = ap rest_of e
 
 pub same_set : (e : SetState) (p : Polarity) (members : List ℕ) → key_in e ≡ key_of p members → e ≡ record { polarity = p; members = members }
@@ -86,6 +84,11 @@ module _ (sets : List SetState) where
   pub at_key : (n : ℕ) (p : Polarity) (members : List ℕ) → n < length sets → key_at (map key_in sets) n ≡ key_of p members → IsAt sets n p members
   at_key n p members low same = (low, λ d. same_set (get_or sets n d) p members (sym (key_at-set n d low) ∙ same))
 
+-- the key has this number, and other keys have those that they had
+pub record GetsNumber (old new : Register) (key : List ℕ) (number : ℕ) : Type 0 where
+  pub here : number_in new key ≡ Some number
+  pub others : (other : List ℕ) → other ≢ key → number_in new other ≡ number_in old other
+
 -- a register that has a set, and one to which it is added
 pub found_number : (register : Register) → IsRegister register → (p : Polarity) (members : List ℕ) (n : ℕ) → number_in register (key_of p members) ≡ Some n → Numbers p members (sets_in register) (sets_in register) n
 found_number register is p members n e =
@@ -93,6 +96,29 @@ found_number register is p members n e =
     let low : n < length (keys_in register) = found.0 in
     let size : length (keys_in register) ≡ length (sets_in register) = key_size (sets_in register) in
     record { grows = grows_none (λ k. k ≡ n) (sets_in register); at = at_key (sets_in register) n p members (omega arith) found.1 }
+
+-- a register with the same sets and numbers
+pub same_register : (old new : Register) → IsRegister old → sets_in new ≡ sets_in old → ((key : List ℕ) → number_in new key ≡ number_in old key) → IsRegister new
+same_register old new is sets numbers = record {
+  rising = subst (All (λ set. Rises set.members)) (sym sets) is.rising;
+  numbered = λ n low. numbers (key_at (keys_in new) n) ∙ (ap (number_in old) (at n) ∙ is.numbered n (subst (λ count. n < count) count low));
+  found = λ key n e. let found = is.found key n (sym (numbers key) ∙ e) in (subst (λ count. n < count) (sym count) found.0, at n ∙ found.1);
+}
+  where
+    at : (n : ℕ) → key_at (keys_in new) n ≡ key_at (keys_in old) n
+    at n = ap (λ sets. key_at (map key_in sets) n) sets
+
+    count : length (keys_in new) ≡ length (keys_in old)
+    count = ap (λ sets. length (map key_in sets)) sets
+
+-- where the next number is above those that are given, a key has it if it has no other
+pub is_next : (found : Option ℕ) (next : ℕ) → ((k : ℕ) → found ≡ Some k → k < next) → unwrap_or found next ≡ next → found ≡ None
+is_next None next low is = refl
+is_next (Some k) next low is = let less : k < next = low k refl in absurd (omega (arith, less, is))
+
+pub is_given : (found : Option ℕ) (number next : ℕ) → number ≡ unwrap_or found next → number ≢ next → found ≡ Some number
+is_given None number next is apart = absurd (apart is)
+is_given (Some k) number next is apart = ap Some (sym is)
 
 module _ (old new : Register) (is : IsRegister old) (p : Polarity) (members : List ℕ) (more : sets_in new ≡ sets_in old ++ record { polarity = p; members = members } ∷ []) where
   abbrev last : SetState
@@ -124,9 +150,13 @@ module _ (old new : Register) (is : IsRegister old) (p : Polarity) (members : Li
         at = (omega arith, λ d. ap (λ sets. get_or sets (length (sets_in old)) d) more ∙ get_or-append_seam (sets_in old) last [] d);
       }
 
-  module _ (rises : Rises members) (unknown : number_in old key ≡ None) (updates : Updates (slice_cmp nat_cmp) old.numbers new.numbers key (Some size)) where
+  module _ (rises : Rises members) (unknown : number_in old key ≡ None) (gets : GetsNumber old new key size) where
     read : (other : List ℕ) → number_in new other ≡ cond (bytes_eq key other) (Some size) (number_in old other)
-    read other = updates.0 other ∙ ap (λ b. cond b (Some size) (number_in old other)) (is_eq-slice_cmp key other)
+    read other = by_test (bytes_eq key other) refl
+      where
+        by_test : (b : Bool) → bytes_eq key other ≡ b → number_in new other ≡ cond b (Some size) (number_in old other)
+        by_test true e = ap (number_in new) (sym ((bytes_eq-Decides key other).0 e)) ∙ gets.here
+        by_test false e = gets.others other (λ same. let wrong : true ≡ false = sym ((bytes_eq-Decides key other).1 (sym same)) ∙ e in cc)
 
     numbered : (n : ℕ) → n < length (keys_in new) → number_in new (key_at (keys_in new) n) ≡ Some n
     numbered n low = let e = one_more in go (eq-or-lt_of_le (omega arith))

@@ -1,6 +1,7 @@
 //! Sets of states of one polarity as the keys of a map.
-ghost use Rattle.std.specs.Prelude.{◌≡◌, bytes_eq, IfOk, OnOk};
+ghost use Rattle.std.specs.Prelude.{◌≡◌, Some, bytes_eq, unwrap_or, IfOk, OnOk};
 ghost use Rattle.std.proofs.Common.{rules};
+ghost use Rattle.std.specs.BTreeMap.{Updates, get};
 ghost use Rattle.std.specs.Cmp.{partial_equiv_from_equiv};
 ghost use Rattle.std.specs.Cmp.Lexicographic.{slice_cmp};
 ghost use Rattle.std.specs.Cmp.Rules.{comparing};
@@ -14,6 +15,7 @@ use mls_automaton::state_set::StateSet;
 use mls_base::memory::Memory;
 use std::alloc::Global;
 use std::cmp::Ordering;
+use std::collections::BTreeMap;
 use std::marker::Model;
 
 /// A polarity, as a number, and behind it the members of a set in rising order. Contracts see the list of them.
@@ -47,6 +49,19 @@ impl Key {
     {
         Key { numbers }
     }
+}
+
+/// The number of a key. A key that has none gets this one.
+///
+/// # Errors
+///
+/// `Memory` where memory is wanting.
+pub fn number_or(numbers: &mut BTreeMap<Key, usize>, key: Key, new: usize) -> Result<usize, Memory>
+    ensures number { IfOk result (λ number. number ≡ unwrap_or (get (slice_cmp nat_cmp) numbers.old key) new) }
+    ensures updates { IfOk result (λ number. Updates (slice_cmp nat_cmp) numbers.old numbers.new key (Some number)) }
+{
+    let number = *numbers.entry(key)?.or_insert(new);
+    Ok(number)
 }
 
 /// The number of a polarity.

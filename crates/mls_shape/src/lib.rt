@@ -16,5 +16,6 @@ mod numbering;
 mod partition;
 mod register;
 pub mod simplify;
+mod single;
 mod states;
 mod upwards;

@@ -1,9 +1,9 @@
 //! States of one key have one number.
-ghost use Rattle.std.specs.Prelude.{◌≡◌, [], None, OnOk};
+ghost use Rattle.std.specs.Prelude.{◌≡◌, ◌<◌, ℕ, [], None, Some, length, OnOk};
 ghost use Rattle.mls_shape.specs.steps.Classes.{AddsKey, known_in};
 
 use crate::classes::Classes;
-use crate::key::Key;
+use crate::key::{Key, number_or};
 use mls_base::memory::Memory;
 use std::alloc::Global;
 use std::collections::BTreeMap;
@@ -33,17 +33,15 @@ impl Numbering {
 
     /// The next state has this key.
     pub fn add(&mut self, key: Key) -> Result<(), Memory>
+        requires { (key : _) (k : ℕ) → known_in self.old key ≡ Some k → k < length self.old.classes.chosen.items }
         ensures { OnOk result (AddsKey key self.old self.new) }
     {
-        if let Some(number) = self.known.get(&key) {
-            let number = *number;
-            self.classes.numbers.push(number)?;
-            return Ok(());
+        let next = self.classes.chosen.len();
+        let number = number_or(&mut self.known, key, next)?;
+        if number == next {
+            self.classes.chosen.push(self.classes.numbers.len())?;
         }
-        let number = self.classes.chosen.len();
-        self.classes.chosen.push(self.classes.numbers.len())?;
         self.classes.numbers.push(number)?;
-        self.known.insert(key, number)?;
         Ok(())
     }
 }

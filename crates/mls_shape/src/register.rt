@@ -1,8 +1,10 @@
 //! Sets of states of one polarity, with their numbers.
-ghost use Rattle.std.specs.Prelude.{◌≡◌, [], IfOk, OnOk};
-ghost use Rattle.mls_shape.specs.steps.Registers.{IsRegister, sets_in, Numbers};
+ghost use Rattle.std.specs.Prelude.{◌≡◌, ◌≢◌, ◌∷◌, [], length, IfOk, OnOk};
+ghost use Rattle.mls_automaton.specs.Sets.{Rises};
+ghost use Rattle.mls_shape.specs.steps.Registers.{IsRegister, sets_in, single_in, Numbers, PutsSingle};
 
-use crate::key::Key;
+use crate::key::{Key, number_or};
+use crate::single::Singles;
 use mls_automaton::automaton::Polarity;
 use mls_automaton::state_set::StateSet;
 use mls_base::memory::Memory;
@@ -16,10 +18,13 @@ pub struct SetState {
     pub members: StateSet,
 }
 
-/// The sets in the order in which they were found, and the number of each.
+/// The sets in the order in which they were found, and the number of each. Most sets have one state, whose number
+/// stands at the state.
 #[derive(Drop)]
 pub struct Register {
     pub sets: Vec<SetState>,
+    pub positive: Singles,
+    pub negative: Singles,
     pub numbers: BTreeMap<Key, usize>,
 }
 
@@ -31,11 +36,17 @@ impl Register {
     {
         Register {
             sets: Vec::new(alloc),
+            positive: Singles::new(alloc),
+            negative: Singles::new(alloc),
             numbers: BTreeMap::new(alloc),
         }
     }
 
     /// The number of a set of states of this polarity. A new set gets the next number.
+    ///
+    /// # Errors
+    ///
+    /// `Memory` where memory is wanting.
     pub fn number_of(
         &mut self,
         alloc: Global,
@@ -46,13 +57,74 @@ impl Register {
         ensures register { OnOk result (IsRegister self.new) }
         ensures number { IfOk result (Numbers polarity members (sets_in self.old) (sets_in self.new)) }
     {
-        let key = Key::of(alloc, polarity, &members)?;
-        if let Some(number) = self.numbers.get(&key) {
-            return Ok(*number);
+        match members.as_slice() {
+            [only] => {
+                let only = *only;
+                self.number_of_one(polarity, only, members)
+            }
+            _ => self.number_of_many(alloc, polarity, members),
+        }
+    }
+
+    // The number of the set of one state.
+    fn number_of_one(
+        &mut self,
+        polarity: Polarity,
+        s: usize,
+        members: StateSet,
+    ) -> Result<usize, Memory>
+        requires register { IsRegister self.old }
+        requires one { members ≡ s ∷ [] }
+        ensures register { OnOk result (IsRegister self.new) }
+        ensures number { IfOk result (Numbers polarity members (sets_in self.old) (sets_in self.new)) }
+    {
+        if let Some(number) = self.single(polarity, s) {
+            return Ok(number);
         }
         let number = self.sets.len();
         self.sets.push(SetState { polarity, members })?;
-        self.numbers.insert(key, number)?;
+        self.put_single(polarity, s, number)?;
         Ok(number)
+    }
+
+    // The number of a set of no state, or of several.
+    fn number_of_many(
+        &mut self,
+        alloc: Global,
+        polarity: Polarity,
+        members: StateSet,
+    ) -> Result<usize, Memory>
+        requires register { IsRegister self.old }
+        requires many { length members ≢ 1 }
+        ensures register { OnOk result (IsRegister self.new) }
+        ensures number { IfOk result (Numbers polarity members (sets_in self.old) (sets_in self.new)) }
+    {
+        let key = Key::of(alloc, polarity, &members)?;
+        let next = self.sets.len();
+        let number = number_or(&mut self.numbers, key, next)?;
+        if number == next {
+            self.sets.push(SetState { polarity, members })?;
+        }
+        Ok(number)
+    }
+
+    // The number of the set of this state alone, if it has one.
+    fn single(&self, polarity: Polarity, s: usize) -> Option<usize>
+        ensures { result ≡ single_in self.now polarity s }
+    {
+        match polarity {
+            Polarity::Positive => self.positive.get(s),
+            Polarity::Negative => self.negative.get(s),
+        }
+    }
+
+    // Gives the set of this state alone a number.
+    fn put_single(&mut self, polarity: Polarity, s: usize, number: usize) -> Result<(), Memory>
+        ensures { OnOk result (PutsSingle polarity s number self.old self.new) }
+    {
+        match polarity {
+            Polarity::Positive => self.positive.put(s, number),
+            Polarity::Negative => self.negative.put(s, number),
+        }
     }
 }

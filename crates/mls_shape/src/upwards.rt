@@ -7,11 +7,12 @@ ghost use Rattle.mls_automaton.specs.declared.automaton.FieldSet.{FieldSet};
 ghost use Rattle.mls_automaton.specs.declared.automaton.Polarity.{Polarity};
 ghost use Rattle.mls_automaton.specs.Models.{HasArmsIn, HasFieldsIn, HasStatesIn, IsClosed, IsDeterministic};
 ghost use Rattle.mls_shape.specs.steps.Classes.{KeepsAlike};
-ghost use Rattle.mls_shape.specs.steps.Upwards.{AreJoined, AreKeyed, Classifies, IsLeafBelow, IsLeafOrLast, Knows};
-ghost use Rattle.mls_shape.specs.steps.Upwards.{NamesLater, StandsBehind, is_leaf, names_none};
+ghost use Rattle.mls_shape.specs.steps.Upwards.{AreJoined, AreKeyed, Classifies, IsLeafBelow, IsLeafOrLast};
+ghost use Rattle.mls_shape.specs.steps.Upwards.{NamesLater, NumbersClass, StandsBehind, is_leaf, names_none};
 
 use crate::classes::{class_of, key_of};
-use crate::key::Key;
+use crate::key::{Key, number_or};
+use crate::single::Singles;
 use mls_automaton::automaton::{Arms, Automaton, FieldSet, FieldSets, Head};
 use mls_automaton::state_set::{StateId, StateSet};
 use mls_base::memory::Memory;
@@ -103,29 +104,14 @@ fn name_later(a: &Automaton) -> bool
     true
 }
 
-// The number of a key; a new key gets this one.
-fn number_of_key(known: &mut BTreeMap<Key, usize>, key: Key, new: usize) -> Result<usize, Memory>
-    ensures { IfOk result (λ number. Knows (slice_cmp nat_cmp) key number known.old known.new) }
-{
-    if let Some(number) = known.get(&key) {
-        return Ok(*number);
-    }
-    known.insert(key, new)?;
-    Ok(new)
-}
-
 // The number of a class; a new class gets this one.
-fn number_of_class(
-    known: &mut BTreeMap<usize, usize>,
-    class: usize,
-    new: usize,
-) -> Result<usize, Memory>
-    ensures { IfOk result (λ number. Knows nat_cmp class number known.old known.new) }
+fn number_of_class(known: &mut Singles, class: usize, new: usize) -> Result<usize, Memory>
+    ensures { IfOk result (λ number. NumbersClass class number known.old known.new) }
 {
-    if let Some(number) = known.get(&class) {
-        return Ok(*number);
+    if let Some(number) = known.get(class) {
+        return Ok(number);
     }
-    known.insert(class, new)?;
+    known.put(class, new)?;
     Ok(new)
 }
 
@@ -150,7 +136,7 @@ fn classify(
     ensures { OnOk result (Classifies a.now s classes.old.items known.old classes.new.items known.new) }
 {
     let key = key_of(alloc, a, classes.as_slice(), StateId(s))?;
-    let class = number_of_key(known, key, s)?;
+    let class = number_or(known, key, s)?;
     classes[s] = class;
     Ok(())
 }
@@ -236,12 +222,15 @@ pub(crate) fn upwards(alloc: Global, a: &Automaton) -> Result<Option<Vec<usize>>
 pub(crate) fn in_order(alloc: Global, classes: &[usize], count: usize) -> Result<Vec<usize>, Memory>
     ensures { IfOk result (λ ordered. AreJoined count classes.now ordered.items) }
 {
-    let mut known = BTreeMap::new(alloc);
+    let mut known = Singles::new(alloc);
     let mut ordered = Vec::with_capacity(alloc, count)?;
+    let mut next = 0;
     for s in 0..count {
-        let next = known.len();
         let number = number_of_class(&mut known, class_of(classes, s), next)?;
         ordered.push(number)?;
+        if number == next {
+            next += 1;
+        }
     }
     Ok(ordered)
 }

@@ -1,5 +1,5 @@
 -- How sets of states of one polarity get their numbers.
-use Rattle.std.specs.Prelude.{◌≡◌, ℕ, ◌<◌, ◌≤◌, List, [], ◌∷◌, ◌++◌, length, map, get_or, All, Option, Some}
+use Rattle.std.specs.Prelude.{◌≡◌, ◌≢◌, ℕ, zero, suc, ◌<◌, ◌≤◌, List, [], ◌∷◌, ◌++◌, length, map, get_or, All, Option, Some, None}
 use Rattle.std.specs.BTreeMap.{get}
 use Rattle.std.specs.Ordering.{nat_cmp}
 use Rattle.std.specs.Cmp.Lexicographic.{slice_cmp}
@@ -30,8 +30,28 @@ keys_in register = map key_in (sets_in register)
 abbrev pub key_at : List (List ℕ) → ℕ → List ℕ
 key_at keys n = get_or keys n []
 
+-- the number of the set of one state of this polarity alone
+abbrev pub single_in : Register → Polarity → ℕ → Option ℕ
+single_in register Positive s = get_or register.positive s None
+single_in register Negative s = get_or register.negative s None
+
+-- the number of the set with this key
 abbrev pub number_in : Register → List ℕ → Option ℕ
-number_in register = get (slice_cmp nat_cmp) register.numbers
+number_in register (zero ∷ s ∷ []) = single_in register Positive s
+number_in register (suc zero ∷ s ∷ []) = single_in register Negative s
+number_in register key = get (slice_cmp nat_cmp) register.numbers key
+
+-- the state has this number, and the others are as before
+pub record PutsNumber (s number : ℕ) (old new : List (Option ℕ)) : Type 0 where
+  pub here : get_or new s None ≡ Some number
+  pub others : (t : ℕ) → t ≢ s → get_or new t None ≡ get_or old t None
+
+-- the set of one state of this polarity has this number, and all else is as before
+pub record PutsSingle (p : Polarity) (s number : ℕ) (old new : Register) : Type 0 where
+  pub here : single_in new p s ≡ Some number
+  pub others : (q : Polarity) (t : ℕ) → ((q ≡ p) → (t ≡ s) → ⊥) → single_in new q t ≡ single_in old q t
+  pub sets : new.sets ≡ old.sets
+  pub numbers : new.numbers ≡ old.numbers
 
 -- each set rises, and has its place as its number
 pub record IsRegister (register : Register) : Type 0 where

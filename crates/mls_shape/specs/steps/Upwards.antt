@@ -1,9 +1,8 @@
 -- Classes of states whose heads name alone later states, and states whose heads name none, from the last state to the
 -- first.
-use Rattle.std.specs.Prelude.{◌≡◌, ◌⊎◌, ◌&&◌, ℕ, ◌<◌, ◌≤◌, ◌+◌, Bool, true, List, length, set, is_none, Some}
+use Rattle.std.specs.Prelude.{◌≡◌, ◌⊎◌, ◌&&◌, ℕ, ◌<◌, ◌≤◌, ◌+◌, Bool, true, List, length, set, get_or, is_none, Option, Some, None}
 use Rattle.std.specs.BTreeMap.{BTreeMap, get}
 use Rattle.std.specs.Ordering.{nat_cmp}
-use Rattle.std.specs.declared.cmp.Ordering.{Ordering}
 use Rattle.std.specs.Cmp.Lexicographic.{slice_cmp}
 use Rattle.mls_automaton.specs.declared.automaton.Head.{Head}
 use Rattle.mls_automaton.specs.Automata.{Automaton, polarity_at, head_at}
@@ -28,9 +27,9 @@ NamesLater a = (s : ℕ) → s < length a.states
     → HasStatesIn (λ q c. StandsBehind a s c) (polarity_at a s) (head_at a s)
 
 -- the key has this number from now on, and others keep theirs
-pub record Knows {K : Type 0} (cmp : K → K → Ordering) (key : K) (number : ℕ) (old new : BTreeMap K ℕ) : Type 0 where
-  pub now : get cmp new key ≡ Some number
-  pub kept : (other : K) (n : ℕ) → get cmp old other ≡ Some n → get cmp new other ≡ Some n
+pub record Knows (key : List ℕ) (number : ℕ) (old new : BTreeMap (List ℕ) ℕ) : Type 0 where
+  pub now : get (slice_cmp nat_cmp) new key ≡ Some number
+  pub kept : (other : List ℕ) (n : ℕ) → get (slice_cmp nat_cmp) old other ≡ Some n → get (slice_cmp nat_cmp) new other ≡ Some n
 
 -- these states have the classes of their keys
 pub record AreKeyed (a : Automaton) (IsDone : ℕ → Type 0) (classes : List ℕ) (known : BTreeMap (List ℕ) ℕ) : Type 0 where
@@ -53,13 +52,18 @@ pub record Classifies (a : Automaton) (s : ℕ) (old : List ℕ) (known : BTreeM
   pub key : List ℕ
   pub class : ℕ
   pub has : IsKeyOf a (class_in old) s key
-  pub knows : Knows (slice_cmp nat_cmp) key class known known'
+  pub knows : Knows key class known known'
   pub stored : new ≡ set old s class
 
+-- the class has this number from now on, and others keep theirs
+pub record NumbersClass (class number : ℕ) (old new : List (Option ℕ)) : Type 0 where
+  pub now : get_or new class None ≡ Some number
+  pub kept : (other n : ℕ) → get_or old other None ≡ Some n → get_or new other None ≡ Some n
+
 -- the first k states have the numbers of their classes
-pub record AreInOrder (k : ℕ) (classes : List ℕ) (numbers : BTreeMap ℕ ℕ) (ordered : List ℕ) : Type 0 where
+pub record AreInOrder (k : ℕ) (classes : List ℕ) (numbers : List (Option ℕ)) (ordered : List ℕ) : Type 0 where
   pub size : length ordered ≡ k
-  pub numbered : (s : ℕ) → s < k → get nat_cmp numbers (class_in classes s) ≡ Some (class_in ordered s)
+  pub numbered : (s : ℕ) → s < k → get_or numbers (class_in classes s) None ≡ Some (class_in ordered s)
 
 -- among the first n states, those of one class have one number
 pub record AreJoined (n : ℕ) (classes ordered : List ℕ) : Type 0 where

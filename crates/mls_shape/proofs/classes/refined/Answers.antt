@@ -8,6 +8,9 @@ pub loop-s-init : goal.loop-s-init
 loop-s-init c =
     numbering_none (IsKeyOf c.args.a.now (class_in c.args.classes.now)) c.new-numbering.result c.new-numbering.ensures.numbers c.new-numbering.ensures.chosen c.new-numbering.ensures.known
 
+pub add-requires : goal.add-requires
+add-requires c = λ key k e. (c.loop-s.invariant.found key k e).0
+
 pub loop-s-preserved : goal.loop-s-preserved
 loop-s-preserved c =
     numbering_more (IsKeyOf c.args.a.now (class_in c.args.classes.now)) c.loop-s.s c.loop-s.numbering c.add.new.self c.loop-s.invariant c.in_ok-key.key c.in_ok-key.ensures c.in_ok-add.ensures

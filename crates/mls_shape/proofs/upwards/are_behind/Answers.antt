@@ -1,4 +1,4 @@
-use Rattle.std.proofs.Common.{inl, inr, ℕ, arith, sym, subst, get_or, All}
+use Rattle.std.proofs.Common.{inl, inr, arith, sym, subst, get_or, All}
 use Rattle.std.proofs.lemmas.Bool.{cases_eq}
 use Rattle.std.proofs.lemmas.List.{get_or_default}
 use Rattle.mls_shape.specs.steps.Upwards.{StandsBehind}

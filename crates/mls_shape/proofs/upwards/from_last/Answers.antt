@@ -1,5 +1,3 @@
-use Rattle.std.proofs.Common.{◌∙◌, ap, length}
-use Rattle.std.proofs.lemmas.List.{length-replicate}
 use Rattle.mls_shape.proofs.FromLast.{upwards_keep}
 use Rattle.mls_shape.proofs.upwards.from_last.Goals as goal
 
