@@ -1,15 +1,10 @@
 -- What a search has found, as marks below a limit.
-use Rattle.std.proofs.Common.{IsTrue, ◌≡◌, ◌↔◌, ◌⊎◌, inl, inr, ℕ, ◌+◌, ◌<◌, ◌≤◌, ◌==◌, not, Bool, true, false, List, [], ◌∷◌, ◌++◌, take, refl, sym, ap, ◌∙◌, subst, arith, length, get_or, Contains}
+use Rattle.std.proofs.Common.{◌≡◌, ◌↔◌, ◌⊎◌, inl, inr, ℕ, ◌+◌, ◌<◌, ◌≤◌, ◌==◌, Bool, true, false, List, [], ◌∷◌, ◌++◌, take, refl, sym, ap, ◌∙◌, subst, arith, length, get_or, Contains}
 use Rattle.std.specs.List.{range_with_len}
-use Rattle.std.specs.BTreeSet.{BTreeSet, contains, Updates}
-use Rattle.std.specs.Ordering.{nat_cmp}
 use Rattle.std.proofs.Math.ListN.{set, get_or-map}
 use Rattle.std.proofs.lemmas.Bool.{cases_eq, cases_lt, eq-eqb, eqb-true}
-use Rattle.std.proofs.lemmas.Cmp.{nat_cmp_total}
 use Rattle.std.proofs.lemmas.List.{ext_get_or, get_or_default, get_or_past, get_or-set_same, get_or-set_other, length-map, length-set}
 use Rattle.std.proofs.lemmas.List.FromFn.{length-range_with_len, get_or-range_with_len}
-use Rattle.std.proofs.lemmas.Map.Lookups.{exact_unsigned}
-use Rattle.std.proofs.lemmas.Map.Views.{btree_set_contains_iff}
 use Rattle.mls_book.proofs.Lattice.{or_cases, or_left, or_right}
 use Rattle.mls_automaton.specs.declared.automaton.FieldSet.{FieldSet}
 use Rattle.mls_automaton.specs.declared.state_set.StateId.{StateId}
@@ -18,9 +13,8 @@ use Rattle.mls_automaton.specs.steps.Searching.{Found, Grows, IsBelow}
 use Rattle.mls_automaton.proofs.Lists.{Contains-cases, Contains-here, Contains-later}
 use Rattle.mls_automaton.proofs.Searches.{grows-both, grows-nothing, grows-one, grows-same, next-cases, next-last, next-more}
 use Rattle.mls_solver.specs.steps.Among.{is_among}
-use Rattle.mls_solver.proofs.Settling.{inserted}
-use Rattle.mls_biunify.specs.declared.reach.Search.{Search}
-use Rattle.mls_biunify.specs.steps.Keeping.{Finds, found_of, InRoots, WasFound, marks_below}
+use Rattle.mls_biunify.specs.steps.Keeping.{Finds, found_of, InRoots, Walk, marks_below}
+use Rattle.mls_biunify.specs.steps.Marking.{FindsNumber}
 
 pub among-contains : (xs : List ℕ) (x : ℕ) → is_among xs x ≡ true → Contains xs x
 among-contains [] x it = let wrong : false ≡ true = it in absurd (cc)
@@ -98,74 +92,57 @@ marks-more n xs ys s low more =
         ]
 
 -- one state more, which was not found before
-pub finds-one : (old new : Search) (s : ℕ) (b : Bool) → b ≡ not (contains nat_cmp old.found s) → b ≡ true → Updates nat_cmp old.found new.found s true → new.work.items ≡ old.work.items ++ s ∷ [] → Finds old new (λ j. j ≡ s)
-finds-one old new s b is-new came updates work limit below =
+pub finds-one : (old new : Walk) (s : ℕ) (b : Bool) → FindsNumber old.found s new.found b → b ≡ true → new.work ≡ old.work ++ s ∷ [] → Finds old new (λ j. j ≡ s)
+finds-one old new s b it came work limit below =
     subst (λ (f : Found). Grows (found_of limit old) f (λ j. j ≡ s)) same
-    (grows-one (marks_below limit old.found.keys) old.work.items s (subst (λ m. s < m) (sym (marks-length limit old.found.keys)) low) (marks-at limit old.found.keys s low ∙ none (is_among old.found.keys s) refl))
+    (grows-one (marks_below limit old.found) old.work s (subst (λ m. s < m) (sym (marks-length limit old.found)) low) (marks-at limit old.found s low ∙ none (is_among old.found s) refl))
   where
     low : s < limit
     low = below s refl
 
-    none : (b : Bool) → is_among old.found.keys s ≡ b → b ≡ false
-    none true e =
-        let there : contains nat_cmp old.found s ≡ true = (btree_set_contains_iff nat_cmp_total exact_unsigned old.found s).1 (among-contains old.found.keys s e) in
-        let wrong : true ≡ false = sym came ∙ (is-new ∙ ap not there) in
-        absurd (cc)
+    none : (b : Bool) → is_among old.found s ≡ b → b ≡ false
+    none true e = absurd (it.absent came (among-contains old.found s e))
     none false e = refl
 
-    same : record { marks = set (marks_below limit old.found.keys) s true; work = old.work.items ++ s ∷ [] } ≡ found_of limit new
+    same : record { marks = set (marks_below limit old.found) s true; work = old.work ++ s ∷ [] } ≡ found_of limit new
     same = λ i. record {
-      marks = marks-more limit old.found.keys new.found.keys s low (inserted old.found new.found s updates) i;
+      marks = marks-more limit old.found new.found s low it.numbers i;
       work = sym work i;
     }
 
 -- a state that was found before
-pub finds-none : (old new : Search) (s : ℕ) (b : Bool) → b ≡ not (contains nat_cmp old.found s) → b ≡ false → new.found.keys ≡ old.found.keys → new.work.items ≡ old.work.items → Finds old new (λ j. j ≡ s)
-finds-none old new s b is-new absent keys work limit below =
-    subst (λ (f : Found). Grows (found_of limit old) f (λ j. j ≡ s)) (λ i. record { marks = marks_below limit (sym keys i); work = sym work i })
+pub finds-none : (old new : Walk) (s : ℕ) (b : Bool) → FindsNumber old.found s new.found b → b ≡ false → new.work ≡ old.work → Finds old new (λ j. j ≡ s)
+finds-none old new s b it absent work limit below =
+    subst (λ (f : Found). Grows (found_of limit old) f (λ j. j ≡ s)) (λ i. record { marks = marks_below limit (sym (it.same absent) i); work = sym work i })
     (grows-nothing (found_of limit old) (λ j. j ≡ s)
-    (λ j e. is-marked limit old.found.keys j (below j e) (subst (Contains old.found.keys) (sym e) ((btree_set_contains_iff nat_cmp_total exact_unsigned old.found s).0 (was (contains nat_cmp old.found s) refl)))))
-  where
-    was : (c : Bool) → contains nat_cmp old.found s ≡ c → c ≡ true
-    was true e = refl
-    was false e = let wrong : false ≡ true = sym absent ∙ (is-new ∙ ap not e) in absurd (cc)
+    (λ j e. is-marked limit old.found j (below j e) (subst (Contains old.found) (sym e) (it.there absent))))
 
 -- what is found stays below a number where all that comes is below it
-pub finds-below : (old new : Search) (P : ℕ → Type 0) (n : ℕ) → Finds old new P → IsBelow P n → IsBelow (Contains old.found.keys) n → IsBelow (Contains new.found.keys) n
+pub finds-below : (old new : Walk) (P : ℕ → Type 0) (n : ℕ) → Finds old new P → IsBelow P n → IsBelow (Contains old.found) n → IsBelow (Contains new.found) n
 finds-below old new P n finds low before j it =
     elim (cases_lt j n) [
       | inl less ↦ less
       | inr high ↦
           let grows = finds (j + 1) (λ k p. let less : k < n = low k p in omega arith) in
-          elim (grows.found j (is-marked (j + 1) new.found.keys j (omega arith) it)) [
-            | inl was ↦ before j (marked-is (j + 1) old.found.keys j was).1
+          elim (grows.found j (is-marked (j + 1) new.found j (omega arith) it)) [
+            | inl was ↦ before j (marked-is (j + 1) old.found j was).1
             | inr one ↦ low j one.0
           ]
     ]
 
--- what a set holds, by its test
-pub found-iff : (set : BTreeSet ℕ) (x : ℕ) → IsTrue (contains nat_cmp set x) ↔ WasFound set.keys x
-found-iff set x = let iff = btree_set_contains_iff nat_cmp_total exact_unsigned set x in (λ it. record { is = iff.0 it }, λ found. iff.1 found.is)
-
-pub held : (set : BTreeSet ℕ) (x : ℕ) → contains nat_cmp set x ≡ true → Contains set.keys x
-held set x it = (btree_set_contains_iff nat_cmp_total exact_unsigned set x).0 it
-
-pub not-held : (set : BTreeSet ℕ) (x : ℕ) → contains nat_cmp set x ≡ false → Contains set.keys x → ⊥
-not-held set x none it = let wrong : true ≡ false = sym ((btree_set_contains_iff nat_cmp_total exact_unsigned set x).1 it) ∙ none in cc
-
-pub finds-nothing : (s : Search) (P : ℕ → Type 0) → ((j : ℕ) → P j → ⊥) → Finds s s P
+pub finds-nothing : (s : Walk) (P : ℕ → Type 0) → ((j : ℕ) → P j → ⊥) → Finds s s P
 finds-nothing s P none limit below = grows-nothing (found_of limit s) P (λ j it. absurd (none j it))
 
 -- one step after the other
-pub finds-both : (a b c : Search) (P Q R : ℕ → Type 0) → Finds a b P → Finds b c Q → ((j : ℕ) → P j → R j) → ((j : ℕ) → Q j → R j) → ((j : ℕ) → R j → P j ⊎ Q j) → Finds a c R
+pub finds-both : (a b c : Walk) (P Q R : ℕ → Type 0) → Finds a b P → Finds b c Q → ((j : ℕ) → P j → R j) → ((j : ℕ) → Q j → R j) → ((j : ℕ) → R j → P j ⊎ Q j) → Finds a c R
 finds-both a b c P Q R first second is-first is-second parts limit below =
     grows-both (found_of limit a) (found_of limit b) (found_of limit c) P Q R (first limit (λ j it. below j (is-first j it))) (second limit (λ j it. below j (is-second j it))) is-first is-second parts
 
-pub finds-same : (a b : Search) (P Q : ℕ → Type 0) → Finds a b P → ((j : ℕ) → P j → Q j) → ((j : ℕ) → Q j → P j) → Finds a b Q
+pub finds-same : (a b : Walk) (P Q : ℕ → Type 0) → Finds a b P → ((j : ℕ) → P j → Q j) → ((j : ℕ) → Q j → P j) → Finds a b Q
 finds-same a b P Q finds to from limit below = grows-same (found_of limit a) (found_of limit b) P Q (finds limit (λ j it. below j (to j it))) to from
 
 -- the next member of a set
-pub finds-member : (a b c : Search) (xs : List ℕ) (i : ℕ) → i < length xs → Finds a b (Contains (take i xs)) → Finds b c (λ j. j ≡ get_or xs i 0) → Finds a c (Contains (take (i + 1) xs))
+pub finds-member : (a b c : Walk) (xs : List ℕ) (i : ℕ) → i < length xs → Finds a b (Contains (take i xs)) → Finds b c (λ j. j ≡ get_or xs i 0) → Finds a c (Contains (take (i + 1) xs))
 finds-member a b c xs i low first second =
     finds-both a b c (Contains (take i xs)) (λ j. j ≡ get_or xs i 0) (Contains (take (i + 1) xs)) first second
     (λ j it. next-more xs i 0 low j it)
@@ -173,7 +150,7 @@ finds-member a b c xs i low first second =
     (λ j it. elim (next-cases xs i 0 low j it) [ inl before ↦ inl before | inr e ↦ inr (sym e) ])
 
 -- the next field
-pub finds-field : (a b c : Search) (xs : List FieldSet) (i : ℕ) (d : FieldSet) → i < length xs → d ≡ get_or xs i d → Finds a b (InAnyField (take i xs)) → Finds b c (Contains d.set) → Finds a c (InAnyField (take (i + 1) xs))
+pub finds-field : (a b c : Walk) (xs : List FieldSet) (i : ℕ) (d : FieldSet) → i < length xs → d ≡ get_or xs i d → Finds a b (InAnyField (take i xs)) → Finds b c (Contains d.set) → Finds a c (InAnyField (take (i + 1) xs))
 finds-field a b c xs i d low is first second =
     finds-both a b c (InAnyField (take i xs)) (Contains d.set) (InAnyField (take (i + 1) xs)) first second
     (λ j it. (it.0, next-more xs i d low it.0 it.1, it.2))
@@ -181,7 +158,7 @@ finds-field a b c xs i d low is first second =
     (λ j it. elim (next-cases xs i d low it.0 it.1) [ inl before ↦ inl (it.0, before, it.2) | inr e ↦ inr (subst (λ (f : FieldSet). Contains f.set j) (sym e ∙ sym is) it.2) ])
 
 -- the next root
-pub finds-root : (a b c : Search) (xs : List StateId) (i : ℕ) (d : StateId) → i < length xs → Finds a b (InRoots (take i xs)) → Finds b c (λ j. j ≡ (get_or xs i d).0) → Finds a c (InRoots (take (i + 1) xs))
+pub finds-root : (a b c : Walk) (xs : List StateId) (i : ℕ) (d : StateId) → i < length xs → Finds a b (InRoots (take i xs)) → Finds b c (λ j. j ≡ (get_or xs i d).0) → Finds a c (InRoots (take (i + 1) xs))
 finds-root a b c xs i d low first second =
     finds-both a b c (InRoots (take i xs)) (λ j. j ≡ (get_or xs i d).0) (InRoots (take (i + 1) xs)) first second
     (λ j it. (it.0, next-more xs i d low it.0 it.1, it.2))

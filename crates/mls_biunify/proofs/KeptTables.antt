@@ -12,7 +12,8 @@ use Rattle.mls_solver.specs.steps.Numbers.{ByOne}
 use Rattle.mls_solver.proofs.Relating.{taken-before, taken-last, taken-cases}
 use Rattle.mls_biunify.specs.Live.{IsReachedFrom, numbers_in, named as by-name, root as by-root}
 use Rattle.mls_biunify.specs.steps.Absorbing.{AreLoose, RemovesStates}
-use Rattle.mls_biunify.specs.steps.Keeping.{AddsCut, AreShortened, EmptiesHeads, InRoots, IsUnfound, KeepsStates, StaysAmong, WasFound}
+use Rattle.mls_biunify.specs.steps.Keeping.{AddsCut, AreShortened, EmptiesHeads, InRoots, IsUnfound, KeepsStates, StaysAmong}
+use Rattle.mls_biunify.specs.steps.Marking.{WasFound}
 use Rattle.mls_biunify.specs.steps.Tables.{CutsEdges, IsNumbered, Numbered, SetsHead}
 use Rattle.mls_biunify.specs.steps.TwoWay.{AreCuts}
 use Rattle.mls_biunify.proofs.Claiming.{names-there}

@@ -19,6 +19,7 @@ pub mod Claiming
 pub mod Filling
 pub mod Regions
 pub mod PlacedStates
+pub mod FoundMarks
 pub mod FoundStates
 pub mod Walking
 pub mod KeptTables

@@ -12,9 +12,8 @@ use Rattle.mls_automaton.proofs.Lists.{Contains-here, Contains-cases}
 use Rattle.mls_automaton.proofs.Reaching.{entry-found, found-entry}
 use Rattle.mls_solver.specs.Solutions.{scheme_over}
 use Rattle.mls_biunify.specs.Live.{IsReachedFrom, root as at-root, named as by-name}
-use Rattle.mls_biunify.specs.steps.Keeping.{Finds, found_of, InRoots, IsSearch, marks_below}
+use Rattle.mls_biunify.specs.steps.Keeping.{Finds, found_of, InRoots, IsSearch, Walk, marks_below}
 use Rattle.mls_biunify.specs.steps.Tables.{IsNumbered, Numbered}
-use Rattle.mls_biunify.specs.declared.reach.Search.{Search}
 use Rattle.mls_biunify.proofs.Claiming.{names-there}
 use Rattle.mls_biunify.proofs.FoundStates.{finds-below, is-marked, marked-is, marks-length}
 
@@ -111,27 +110,27 @@ walked t roots f is work j = (is.sound j, complete j)
     ]
 
 -- what is found in a table is below its limit
-pub record IsSearchIn (t : Numbered) (roots : List StateId) (s : Search) : Type 0 where
-  pub below : IsBelow (Contains s.found.keys) t.limit
+pub record IsSearchIn (t : Numbered) (roots : List StateId) (s : Walk) : Type 0 where
+  pub below : IsBelow (Contains s.found) t.limit
   pub is : IsSearch t roots (found_of t.limit s)
 
-pub begun-in : (t : Numbered) → IsNumbered t → (roots : List StateId) → AreThere t roots → (a b : Search) → a.found.keys ≡ [] → a.work.items ≡ [] → Finds a b (InRoots roots) → IsSearchIn t roots b
+pub begun-in : (t : Numbered) → IsNumbered t → (roots : List StateId) → AreThere t roots → (a b : Walk) → a.found ≡ [] → a.work ≡ [] → Finds a b (InRoots roots) → IsSearchIn t roots b
 begun-in t numbered roots there a b empty work finds = record {
   below = finds-below a b (InRoots roots) t.limit finds low (λ j it. absurd (none j it));
-  is = begun t roots (found_of t.limit a) (found_of t.limit b) (marks-length t.limit a.found.keys) (λ j it. none j (marked-is t.limit a.found.keys j it).1) work (finds t.limit low);
+  is = begun t roots (found_of t.limit a) (found_of t.limit b) (marks-length t.limit a.found) (λ j it. none j (marked-is t.limit a.found j it).1) work (finds t.limit low);
 }
   where
     low : IsBelow (InRoots roots) t.limit
     low = root-low t numbered roots there
 
-    none : (j : ℕ) → Contains a.found.keys j → ⊥
+    none : (j : ℕ) → Contains a.found j → ⊥
     none j it = let there : Contains [] j = subst (λ xs. Contains xs j) empty it in let low : there.0 < 0 = there.1 in absurd (omega arith)
 
 -- what the head of a state names is below the limit
 pub head-below : (t : Numbered) → IsNumbered t → (k : ℕ) (h : Head) → h ≡ head_at t.automaton k → IsBelow (HeadNames h) t.limit
 head-below t numbered k h e j it = numbered.low j (names-there t numbered k j (subst (λ (g : Head). HeadNames g j) e it))
 
-pub looked-in : (t : Numbered) → IsNumbered t → (roots : List StateId) (before rest after : Search) (k : ℕ) → IsSearchIn t roots before → rest.found.keys ≡ before.found.keys → before.work.items ≡ rest.work.items ++ k ∷ [] → Finds rest after (Names t.automaton k) → IsSearchIn t roots after
+pub looked-in : (t : Numbered) → IsNumbered t → (roots : List StateId) (before rest after : Walk) (k : ℕ) → IsSearchIn t roots before → rest.found ≡ before.found → before.work ≡ rest.work ++ k ∷ [] → Finds rest after (Names t.automaton k) → IsSearchIn t roots after
 looked-in t numbered roots before rest after k it keys work finds = record {
   below = finds-below rest after (Names t.automaton k) t.limit finds low (λ j found. it.below j (subst (λ (xs : List ℕ). Contains xs j) keys found));
   is = looked t roots (found_of t.limit before) (found_of t.limit rest) k it.is (ap (marks_below t.limit) keys) work (found_of t.limit after) (finds t.limit low);
@@ -140,10 +139,10 @@ looked-in t numbered roots before rest after k it keys work finds = record {
     low : IsBelow (Names t.automaton k) t.limit
     low j named = numbered.low j (names-there t numbered k j named)
 
-pub walked-in : (t : Numbered) (roots : List StateId) (s : Search) → IsSearchIn t roots s → s.work.items ≡ [] → (j : ℕ) → Contains s.found.keys j ↔ IsReachedFrom t.automaton roots j
+pub walked-in : (t : Numbered) (roots : List StateId) (s : Walk) → IsSearchIn t roots s → s.work ≡ [] → (j : ℕ) → Contains s.found j ↔ IsReachedFrom t.automaton roots j
 walked-in t roots s it none j = (
-  λ found. (walked t roots (found_of t.limit s) it.is none j).0 (is-marked t.limit s.found.keys j (it.below j found) found),
-  λ reached. (marked-is t.limit s.found.keys j ((walked t roots (found_of t.limit s) it.is none j).1 reached)).1,
+  λ found. (walked t roots (found_of t.limit s) it.is none j).0 (is-marked t.limit s.found j (it.below j found) found),
+  λ reached. (marked-is t.limit s.found j ((walked t roots (found_of t.limit s) it.is none j).1 reached)).1,
 )
 
 -- what the heads of a scheme reach from its root and its binders is what they reach from these states as roots

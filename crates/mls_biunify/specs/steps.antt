@@ -1,5 +1,6 @@
 pub mod TwoWay
 pub mod LiveParts
+pub mod Marking
 pub mod Relating
 pub mod Tables
 pub mod TableParts

@@ -7,26 +7,31 @@ ghost use Rattle.mls_automaton.specs.Reached.{Names};
 ghost use Rattle.mls_biunify.specs.Live.{IsReachedFrom, numbers_in};
 ghost use Rattle.mls_biunify.specs.steps.Absorbing.{AreLoose, RemovesStates};
 ghost use Rattle.mls_biunify.specs.steps.Keeping.{AddsCut, AreShortened, EmptiesHeads, IsUnfound, KeepsStates, StaysAmong};
-ghost use Rattle.mls_biunify.specs.steps.Keeping.{WasFound};
+ghost use Rattle.mls_biunify.specs.steps.Marking.{WasFound};
 ghost use Rattle.mls_biunify.specs.steps.Tables.{IsNumbered};
 
-use crate::reach::reached;
+use crate::marks::Marks;
+use crate::reach::{Search, mark_reached};
 use crate::table::Table;
 use mls_automaton::automaton::Head;
 use mls_automaton::state_set::{StateId, StateSet};
 use mls_base::memory::Memory;
 use std::alloc::Global;
-use std::collections::BTreeSet;
 
 // Takes out the states that heads do not reach from the roots.
-pub fn keep_reached(table: &mut Table, alloc: Global, roots: &[StateId]) -> Result<(), Memory>
+pub fn keep_reached(
+    table: &mut Table,
+    search: &mut Search<Marks>,
+    alloc: Global,
+    roots: &[StateId],
+) -> Result<(), Memory>
     requires { All (λ (root : StateId). get_or table.old.there root.0 false ≡ true) roots.now }
     ensures ok { OnOk result (KeepsStates table.old (IsReachedFrom table.old.automaton roots.now) table.new) }
     ensures err { OnErr result (table.new ≡ table.old) }
 {
     let _limit = table.limit();
     let all = table.numbers(alloc)?;
-    keep_among(table, alloc, all.as_slice(), roots)?;
+    keep_among(table, search, alloc, all.as_slice(), roots)?;
     Ok(())
 }
 
@@ -34,6 +39,7 @@ pub fn keep_reached(table: &mut Table, alloc: Global, roots: &[StateId]) -> Resu
 // over these states alone, and over the heads and the edges of those that are reached.
 pub fn keep_among(
     table: &mut Table,
+    search: &mut Search<Marks>,
     alloc: Global,
     states: &[usize],
     roots: &[StateId],
@@ -48,31 +54,32 @@ pub fn keep_among(
     ensures err { OnErr result (table.new ≡ table.old) }
 {
     let _limit = table.limit();
-    let found = reached(alloc, table, roots)?;
-    let kept = states_of(alloc, &found)?;
-    let gone = unfound(alloc, states, &found)?;
-    let after = cuts_after(alloc, table, kept.as_slice(), &found)?;
-    let before = cuts_before(alloc, table, kept.as_slice(), &found)?;
+    mark_reached(table, search, roots)?;
+    let found = &search.found;
+    let kept = states_of(alloc, found)?;
+    let gone = unfound(alloc, states, found)?;
+    let after = cuts_after(alloc, table, kept.as_slice(), found)?;
+    let before = cuts_before(alloc, table, kept.as_slice(), found)?;
     table.cut(gone.as_slice(), after, before);
     empty_heads(table, gone.as_slice());
     remove_all(table, gone);
     Ok(kept)
 }
 
-// The states of these numbers.
-fn states_of(alloc: Global, numbers: &BTreeSet<usize>) -> Result<Vec<StateId>, Memory>
-    ensures { IfOk result (λ states. numbers_in states.items ≡ numbers.now.keys) }
+// The states that were found.
+fn states_of(alloc: Global, found: &Marks) -> Result<Vec<StateId>, Memory>
+    ensures { IfOk result (λ states. numbers_in states.items ≡ found.now) }
 {
     let mut states = Vec::new(alloc);
-    for s in numbers {
+    for s in found.as_slice() {
         states.push(StateId(*s))?;
     }
     Ok(states)
 }
 
 // Those of these states that were not found.
-fn unfound(alloc: Global, states: &[usize], found: &BTreeSet<usize>) -> Result<Vec<usize>, Memory>
-    ensures { IfOk result (λ gone. (s : ℕ) → Contains gone.items s ↔ IsUnfound states.now found.now.keys s) }
+fn unfound(alloc: Global, states: &[usize], found: &Marks) -> Result<Vec<usize>, Memory>
+    ensures { IfOk result (λ gone. (s : ℕ) → Contains gone.items s ↔ IsUnfound states.now found.now s) }
 {
     let mut gone = Vec::new(alloc);
     for s in states {
@@ -82,11 +89,11 @@ fn unfound(alloc: Global, states: &[usize], found: &BTreeSet<usize>) -> Result<V
 }
 
 // Puts a number behind others, if it was not found.
-fn push_unfound(gone: &mut Vec<usize>, found: &BTreeSet<usize>, s: usize) -> Result<(), Memory>
+fn push_unfound(gone: &mut Vec<usize>, found: &Marks, s: usize) -> Result<(), Memory>
     ensures { OnOk result ((j : ℕ) → Contains gone.new.items j
-        ↔ Contains gone.old.items j ⊎ ((j ≡ s) × (Contains found.now.keys j → ⊥))) }
+        ↔ Contains gone.old.items j ⊎ ((j ≡ s) × (Contains found.now j → ⊥))) }
 {
-    if found.contains(&s) {
+    if found.contains(s) {
         return Ok(());
     }
     gone.push(s)?;
@@ -98,10 +105,10 @@ fn cuts_after(
     alloc: Global,
     table: &Table,
     kept: &[StateId],
-    found: &BTreeSet<usize>,
+    found: &Marks,
 ) -> Result<Vec<(usize, StateSet)>, Memory>
     requires { All (λ (s : StateId). get_or table.now.there s.0 false ≡ true) kept.now }
-    ensures { IfOk result (λ cuts. AreShortened (HasFlow table.now.automaton) found.now.keys kept.now cuts.items) }
+    ensures { IfOk result (λ cuts. AreShortened (HasFlow table.now.automaton) found.now kept.now cuts.items) }
 {
     let mut cuts = Vec::new(alloc);
     for s in kept {
@@ -115,10 +122,10 @@ fn cuts_before(
     alloc: Global,
     table: &Table,
     kept: &[StateId],
-    found: &BTreeSet<usize>,
+    found: &Marks,
 ) -> Result<Vec<(usize, StateSet)>, Memory>
     requires { All (λ (s : StateId). get_or table.now.there s.0 false ≡ true) kept.now }
-    ensures { IfOk result (λ cuts. AreShortened (λ p n. HasFlow table.now.automaton n p) found.now.keys kept.now
+    ensures { IfOk result (λ cuts. AreShortened (λ p n. HasFlow table.now.automaton n p) found.now kept.now
         cuts.items) }
 {
     let mut cuts = Vec::new(alloc);
@@ -134,9 +141,9 @@ fn add_cut(
     alloc: Global,
     s: StateId,
     set: &StateSet,
-    found: &BTreeSet<usize>,
+    found: &Marks,
 ) -> Result<(), Memory>
-    ensures { OnOk result (AddsCut s.0 set.now found.now.keys cuts.old.items cuts.new.items) }
+    ensures { OnOk result (AddsCut s.0 set.now found.now cuts.old.items cuts.new.items) }
 {
     if were_found(found, set.as_slice()) {
         return Ok(());
@@ -146,19 +153,12 @@ fn add_cut(
     Ok(())
 }
 
-// Whether a state was found.
-fn was_found(found: &BTreeSet<usize>, s: usize) -> bool
-    ensures { IsTrue result ↔ WasFound found.now.keys s }
-{
-    found.contains(&s)
-}
-
 // Whether all these states were found.
-fn were_found(found: &BTreeSet<usize>, states: &[usize]) -> bool
-    ensures { IsTrue result → All (WasFound found.now.keys) states.now }
+fn were_found(found: &Marks, states: &[usize]) -> bool
+    ensures { IsTrue result → All (WasFound found.now) states.now }
 {
     for s in states {
-        if !was_found(found, *s) {
+        if !found.contains(*s) {
             return false;
         }
     }
@@ -166,8 +166,8 @@ fn were_found(found: &BTreeSet<usize>, states: &[usize]) -> bool
 }
 
 // Those of these states that were found.
-fn left_of(alloc: Global, found: &BTreeSet<usize>, states: &[usize]) -> Result<StateSet, Memory>
-    ensures { IfOk result (λ left. (j : ℕ) → Contains left j ↔ Contains states.now j × Contains found.now.keys j) }
+fn left_of(alloc: Global, found: &Marks, states: &[usize]) -> Result<StateSet, Memory>
+    ensures { IfOk result (λ left. (j : ℕ) → Contains left j ↔ Contains states.now j × Contains found.now j) }
 {
     let mut left = StateSet::new(alloc);
     for s in states {
@@ -177,11 +177,11 @@ fn left_of(alloc: Global, found: &BTreeSet<usize>, states: &[usize]) -> Result<S
 }
 
 // Inserts a state, if it was found.
-fn insert_found(left: &mut StateSet, found: &BTreeSet<usize>, s: usize) -> Result<(), Memory>
+fn insert_found(left: &mut StateSet, found: &Marks, s: usize) -> Result<(), Memory>
     ensures { OnOk result ((j : ℕ) → Contains left.new j
-        ↔ Contains left.old j ⊎ ((j ≡ s) × Contains found.now.keys j)) }
+        ↔ Contains left.old j ⊎ ((j ≡ s) × Contains found.now j)) }
 {
-    if !was_found(found, s) {
+    if !found.contains(s) {
         return Ok(());
     }
     left.insert(StateId(s))?;

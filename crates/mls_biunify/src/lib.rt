@@ -10,6 +10,7 @@ mod edges;
 mod frozen;
 mod keep;
 pub mod live;
+mod marks;
 mod reach;
 mod relation;
 mod rename;

@@ -25,6 +25,8 @@ use crate::clash::first_clash_of;
 use crate::copy::copied_table;
 use crate::frozen::frozen;
 use crate::keep::{keep_among, keep_reached};
+use crate::marks::Marks;
+use crate::reach::Search;
 use crate::relation::Relation;
 use crate::settlement::{link_all, new_edges, new_heads, store_heads, touched};
 use crate::table::Table;
@@ -43,6 +45,8 @@ use std::marker::Model;
 pub struct Live {
     table: Table,
     relation: Relation,
+    // What the last walk found. The next one takes it out, and needs no memory for what has a place here.
+    search: Search<Marks>,
     is_solved: bool,
     is_ready: bool,
 }
@@ -67,6 +71,7 @@ impl Live {
         Live {
             table: Table::new(alloc),
             relation: Relation::new(alloc),
+            search: Search::new(Marks::new(alloc), alloc),
             is_solved: false,
             is_ready: false,
         }
@@ -232,7 +237,7 @@ impl Live {
         ensures err { OnErr result (self.new ≡ self.old) }
     {
         let alloc = self.relation.allocator();
-        keep_reached(&mut self.table, alloc, roots)?;
+        keep_reached(&mut self.table, &mut self.search, alloc, roots)?;
         self.is_solved = false;
         self.is_ready = false;
         Ok(())
@@ -262,7 +267,13 @@ impl Live {
         let alloc = self.relation.allocator();
         let _limit = self.table.limit();
         let numbers = numbers_of(alloc, states.as_slice())?;
-        let kept = keep_among(&mut self.table, alloc, numbers.as_slice(), roots)?;
+        let kept = keep_among(
+            &mut self.table,
+            &mut self.search,
+            alloc,
+            numbers.as_slice(),
+            roots,
+        )?;
         self.is_solved = false;
         self.is_ready = false;
         Ok(kept)

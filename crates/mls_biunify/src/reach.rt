@@ -1,11 +1,12 @@
 //! The states of a table that heads reach from some.
-ghost use Rattle.std.specs.Prelude.{◌≡◌, ◌↔◌, ℕ, true, false, get_or, All, Contains, IfOk, OnOk};
+ghost use Rattle.std.specs.Prelude.{◌≡◌, ◌↔◌, ℕ, true, false, [], get_or, All, Contains, IfOk, OnOk};
 ghost use Rattle.mls_automaton.specs.Reached.{HeadNames, InAnyField, InFunction, InRecord};
 ghost use Rattle.mls_automaton.specs.declared.state_set.StateId.{StateId};
 ghost use Rattle.mls_automaton.specs.steps.Searching.{InArms};
 ghost use Rattle.mls_biunify.specs.Live.{IsReachedFrom};
-ghost use Rattle.mls_biunify.specs.steps.Keeping.{Finds, InRoots};
+ghost use Rattle.mls_biunify.specs.steps.Keeping.{FindsIn, InRoots};
 
+use crate::marks::{Found, Marks};
 use crate::table::Table;
 use mls_automaton::automaton::{Arms, FieldSet, FieldSets, Head};
 use mls_automaton::state_set::{StateId, StateSet};
@@ -15,17 +16,28 @@ use std::collections::BTreeSet;
 
 // The states that were found so far, and those of them whose heads are still to be looked at.
 #[derive(Drop)]
-struct Search {
-    found: BTreeSet<usize>,
+pub struct Search<F> {
+    pub found: F,
     work: Vec<usize>,
 }
 
-impl Search {
+impl<F: Found> Search<F> {
+    // Nothing was found.
+    pub fn new(found: F, alloc: Global) -> Search<F>
+        ensures found { result.found ≡ found }
+        ensures work { result.work.items ≡ [] }
+    {
+        Search {
+            found,
+            work: Vec::new(alloc),
+        }
+    }
+
     // Finds a state.
     fn mark(&mut self, s: usize) -> Result<(), Memory>
-        ensures { OnOk result (Finds self.old self.new (λ j. j ≡ s)) }
+        ensures { OnOk result (FindsIn F.members self.old self.new (λ j. j ≡ s)) }
     {
-        let is_new = self.found.insert(s)?;
+        let is_new = self.found.find(s)?;
         if !is_new {
             return Ok(());
         }
@@ -35,7 +47,7 @@ impl Search {
 
     // Finds the members of a set.
     fn mark_set(&mut self, set: &StateSet) -> Result<(), Memory>
-        ensures { OnOk result (Finds self.old self.new (Contains set.now)) }
+        ensures { OnOk result (FindsIn F.members self.old self.new (Contains set.now)) }
     {
         for s in set.as_slice() {
             self.mark(*s)?;
@@ -45,7 +57,7 @@ impl Search {
 
     // Finds the states of a domain and a codomain.
     fn mark_arms(&mut self, arms: &Arms) -> Result<(), Memory>
-        ensures { OnOk result (Finds self.old self.new (InArms arms.now)) }
+        ensures { OnOk result (FindsIn F.members self.old self.new (InArms arms.now)) }
     {
         self.mark_set(&arms.domain)?;
         self.mark_set(&arms.codomain)?;
@@ -53,7 +65,7 @@ impl Search {
     }
 
     fn mark_function(&mut self, function: &Option<Arms>) -> Result<(), Memory>
-        ensures { OnOk result (Finds self.old self.new (InFunction function.now)) }
+        ensures { OnOk result (FindsIn F.members self.old self.new (InFunction function.now)) }
     {
         match function {
             None => Ok(()),
@@ -66,7 +78,7 @@ impl Search {
 
     // Finds the states of fields.
     fn mark_fields(&mut self, fields: &[FieldSet]) -> Result<(), Memory>
-        ensures { OnOk result (Finds self.old self.new (InAnyField fields.now)) }
+        ensures { OnOk result (FindsIn F.members self.old self.new (InAnyField fields.now)) }
     {
         for field in fields {
             self.mark_set(&field.set)?;
@@ -75,7 +87,7 @@ impl Search {
     }
 
     fn mark_record(&mut self, fields: &Option<FieldSets>) -> Result<(), Memory>
-        ensures { OnOk result (Finds self.old self.new (InRecord fields.now)) }
+        ensures { OnOk result (FindsIn F.members self.old self.new (InRecord fields.now)) }
     {
         match fields {
             None => Ok(()),
@@ -88,7 +100,7 @@ impl Search {
 
     // Finds the states that a head names.
     fn mark_head(&mut self, head: &Head) -> Result<(), Memory>
-        ensures { OnOk result (Finds self.old self.new (HeadNames head.now)) }
+        ensures { OnOk result (FindsIn F.members self.old self.new (HeadNames head.now)) }
     {
         self.mark_function(&head.function)?;
         self.mark_record(&head.fields)?;
@@ -97,7 +109,7 @@ impl Search {
 
     // Finds the roots.
     fn mark_roots(&mut self, roots: &[StateId]) -> Result<(), Memory>
-        ensures { OnOk result (Finds self.old self.new (InRoots roots.now)) }
+        ensures { OnOk result (FindsIn F.members self.old self.new (InRoots roots.now)) }
     {
         for root in roots {
             self.mark(root.0)?;
@@ -106,20 +118,45 @@ impl Search {
     }
 }
 
-// The states that heads reach from the roots. It goes over these states alone.
+// Finds the states that heads reach from the roots. It goes over these states alone.
+fn walk<F: Found>(table: &Table, search: &mut Search<F>, roots: &[StateId]) -> Result<(), Memory>
+    requires there { All (λ (root : StateId). get_or table.now.there root.0 false ≡ true) roots.now }
+    requires found { F.members search.old.found ≡ [] }
+    requires work { search.old.work.items ≡ [] }
+    ensures { OnOk result ((s : ℕ)
+        → Contains (F.members search.new.found) s ↔ IsReachedFrom table.now.automaton roots.now s) }
+{
+    let _limit = table.limit();
+    search.mark_roots(roots)?;
+    while let Some(s) = search.work.pop() {
+        search.mark_head(table.head(StateId(s)))?;
+    }
+    Ok(())
+}
+
+// The states that heads reach from the roots.
 pub fn reached(alloc: Global, table: &Table, roots: &[StateId]) -> Result<BTreeSet<usize>, Memory>
     requires { All (λ (root : StateId). get_or table.now.there root.0 false ≡ true) roots.now }
     ensures { IfOk result (λ found. (s : ℕ)
         → Contains found.keys s ↔ IsReachedFrom table.now.automaton roots.now s) }
 {
-    let _limit = table.limit();
-    let mut search = Search {
-        found: BTreeSet::new(alloc),
-        work: Vec::new(alloc),
-    };
-    search.mark_roots(roots)?;
-    while let Some(s) = search.work.pop() {
-        search.mark_head(table.head(StateId(s)))?;
-    }
+    let mut search = Search::new(BTreeSet::new(alloc), alloc);
+    walk(table, &mut search, roots)?;
     Ok(search.found)
+}
+
+// Marks the states that heads reach from the roots, and no others. What an earlier walk found goes first.
+pub fn mark_reached(
+    table: &Table,
+    search: &mut Search<Marks>,
+    roots: &[StateId],
+) -> Result<(), Memory>
+    requires { All (λ (root : StateId). get_or table.now.there root.0 false ≡ true) roots.now }
+    ensures { OnOk result ((s : ℕ)
+        → Contains search.new.found s ↔ IsReachedFrom table.now.automaton roots.now s) }
+{
+    search.found.clear();
+    search.work.clear();
+    walk(table, search, roots)?;
+    Ok(())
 }

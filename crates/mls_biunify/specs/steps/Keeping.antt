@@ -14,13 +14,25 @@ use Rattle.mls_biunify.specs.steps.Tables.{Numbered}
 abbrev pub marks_below : ℕ → List ℕ → List Bool
 marks_below limit numbers = map (is_among numbers) (range_with_len 0 limit)
 
--- a search, where all that is to be found is below the limit
-abbrev pub found_of : ℕ → Search → Found
-found_of limit s = record { marks = marks_below limit s.found.keys; work = s.work.items }
+-- which states a walk has found, and which of these are still to be looked at
+pub record Walk : Type 0 where
+  pub found : List ℕ
+  pub work : List ℕ
+
+abbrev pub walk_of : {F : Type 0} → (F → List ℕ) → Search F → Walk
+walk_of members s = record { found = members s.found; work = s.work.items }
+
+-- a walk, where all that is to be found is below the limit
+abbrev pub found_of : ℕ → Walk → Found
+found_of limit s = record { marks = marks_below limit s.found; work = s.work }
 
 -- the states of this kind were found, and nothing else was; what is new is to be looked at
-abbrev pub Finds : Search → Search → (ℕ → Type 0) → Type 0
+abbrev pub Finds : Walk → Walk → (ℕ → Type 0) → Type 0
 Finds old new IsOne = (limit : ℕ) → IsBelow IsOne limit → Grows (found_of limit old) (found_of limit new) IsOne
+
+-- the same of searches, whose found states are these members
+abbrev pub FindsIn : {F : Type 0} → (F → List ℕ) → Search F → Search F → (ℕ → Type 0) → Type 0
+FindsIn members old new IsOne = Finds (walk_of members old) (walk_of members new) IsOne
 
 abbrev pub InRoots : List StateId → ℕ → Type 0
 InRoots roots j = (root : StateId) × Contains roots root × (root.0 ≡ j)
@@ -37,10 +49,6 @@ pub record IsSearch (t : Numbered) (roots : List StateId) (s : Found) : Type 0 w
 -- the state is one of these, and was not found
 abbrev pub IsUnfound : List ℕ → List ℕ → ℕ → Type 0
 IsUnfound states found s = Contains states s × (Contains found s → ⊥)
-
--- the state was found
-pub record WasFound (found : List ℕ) (s : ℕ) : Type 0 where
-  pub is : Contains found s
 
 -- What is left of the sets of a relation at these states, of which just those that were found stay: the list has the
 -- sets that lose a member, and perhaps others.

@@ -7,7 +7,7 @@ use Rattle.mls_biunify.proofs.KeptTables.{shortened-all, shortened-more, shorten
 use Rattle.mls_biunify.proofs.keep.cuts_after.Goals as goal
 
 pub loop-s-init : goal.loop-s-init
-loop-s-init c = shortened-none (HasFlow c.args.table.now.automaton) c.args.found.now.keys c.args.kept.now c.new-cuts.result.items c.new-cuts.ensures.items
+loop-s-init c = shortened-none (HasFlow c.args.table.now.automaton) c.args.found.now c.args.kept.now c.new-cuts.result.items c.new-cuts.ensures.items
 
 pub after-requires : goal.after-requires
 after-requires c =
@@ -16,7 +16,7 @@ after-requires c =
 
 pub loop-s-preserved : goal.loop-s-preserved
 loop-s-preserved c =
-    shortened-more (HasFlow c.args.table.now.automaton) c.args.found.now.keys c.args.kept.now c.loop-s.s-index c.loop-s-test.true c.after.result.now c.after.ensures.partners c.loop-s.cuts.items c.add_cut.new.cuts.items c.loop-s.invariant c.in_ok-add_cut.ensures
+    shortened-more (HasFlow c.args.table.now.automaton) c.args.found.now c.args.kept.now c.loop-s.s-index c.loop-s-test.true c.after.result.now c.after.ensures.partners c.loop-s.cuts.items c.add_cut.new.cuts.items c.loop-s.invariant c.in_ok-add_cut.ensures
 
 pub returns : goal.returns
-returns c = shortened-all (HasFlow c.args.table.now.automaton) c.args.found.now.keys c.args.kept.now c.loop-s.s-index c.loop-s.cuts.items (take-all c.args.kept.now c.loop-s.s-index c.loop-s-test.false) c.loop-s.invariant
+returns c = shortened-all (HasFlow c.args.table.now.automaton) c.args.found.now c.args.kept.now c.loop-s.s-index c.loop-s.cuts.items (take-all c.args.kept.now c.loop-s.s-index c.loop-s-test.false) c.loop-s.invariant

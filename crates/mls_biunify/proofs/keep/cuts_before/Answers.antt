@@ -7,7 +7,7 @@ use Rattle.mls_biunify.proofs.KeptTables.{shortened-all, shortened-more, shorten
 use Rattle.mls_biunify.proofs.keep.cuts_before.Goals as goal
 
 pub loop-s-init : goal.loop-s-init
-loop-s-init c = shortened-none (λ p n. HasFlow c.args.table.now.automaton n p) c.args.found.now.keys c.args.kept.now c.new-cuts.result.items c.new-cuts.ensures.items
+loop-s-init c = shortened-none (λ p n. HasFlow c.args.table.now.automaton n p) c.args.found.now c.args.kept.now c.new-cuts.result.items c.new-cuts.ensures.items
 
 pub before-requires : goal.before-requires
 before-requires c =
@@ -16,7 +16,7 @@ before-requires c =
 
 pub loop-s-preserved : goal.loop-s-preserved
 loop-s-preserved c =
-    shortened-more (λ p n. HasFlow c.args.table.now.automaton n p) c.args.found.now.keys c.args.kept.now c.loop-s.s-index c.loop-s-test.true c.before-in-loop-s.result.now c.before-in-loop-s.ensures.partners c.loop-s.cuts.items c.add_cut.new.cuts.items c.loop-s.invariant c.in_ok-add_cut.ensures
+    shortened-more (λ p n. HasFlow c.args.table.now.automaton n p) c.args.found.now c.args.kept.now c.loop-s.s-index c.loop-s-test.true c.before-in-loop-s.result.now c.before-in-loop-s.ensures.partners c.loop-s.cuts.items c.add_cut.new.cuts.items c.loop-s.invariant c.in_ok-add_cut.ensures
 
 pub returns : goal.returns
-returns c = shortened-all (λ p n. HasFlow c.args.table.now.automaton n p) c.args.found.now.keys c.args.kept.now c.loop-s.s-index c.loop-s.cuts.items (take-all c.args.kept.now c.loop-s.s-index c.loop-s-test.false) c.loop-s.invariant
+returns c = shortened-all (λ p n. HasFlow c.args.table.now.automaton n p) c.args.found.now c.args.kept.now c.loop-s.s-index c.loop-s.cuts.items (take-all c.args.kept.now c.loop-s.s-index c.loop-s-test.false) c.loop-s.invariant

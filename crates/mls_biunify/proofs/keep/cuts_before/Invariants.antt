@@ -5,4 +5,4 @@ use Rattle.mls_biunify.proofs.keep.cuts_before.Given as goal
 
 -- what is left of the sets of the states so far
 abbrev pub invariant-loop-s : goal.invariant-loop-s
-invariant-loop-s l = AreShortened (λ p n. HasFlow l.table.automaton n p) l.found.keys (take l.s-index l.kept) l.cuts.items
+invariant-loop-s l = AreShortened (λ p n. HasFlow l.table.automaton n p) l.found (take l.s-index l.kept) l.cuts.items

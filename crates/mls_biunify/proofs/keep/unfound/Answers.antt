@@ -6,14 +6,14 @@ use Rattle.mls_biunify.proofs.keep.unfound.Goals as goal
 
 pub loop-s-init : goal.loop-s-init
 loop-s-init c =
-    subst (λ (xs : List ℕ). (j : ℕ) → Contains xs j ↔ Contains [] j ⊎ ByOne (take 0 c.args.states.now) (λ s k. (k ≡ s) × (Contains c.args.found.now.keys k → ⊥)) j) (sym c.new-gone.ensures.items)
-    (grow-none (λ s k. (k ≡ s) × (Contains c.args.found.now.keys k → ⊥)) [] c.args.states.now)
+    subst (λ (xs : List ℕ). (j : ℕ) → Contains xs j ↔ Contains [] j ⊎ ByOne (take 0 c.args.states.now) (λ s k. (k ≡ s) × (Contains c.args.found.now k → ⊥)) j) (sym c.new-gone.ensures.items)
+    (grow-none (λ s k. (k ≡ s) × (Contains c.args.found.now k → ⊥)) [] c.args.states.now)
 
 pub loop-s-preserved : goal.loop-s-preserved
 loop-s-preserved c =
-    grow-more (λ s k. (k ≡ s) × (Contains c.args.found.now.keys k → ⊥)) [] c.args.states.now c.loop-s.s-index c.loop-s-test.true c.loop-s.gone.items c.push_unfound.new.gone.items c.loop-s.invariant c.in_ok-push_unfound.ensures
+    grow-more (λ s k. (k ≡ s) × (Contains c.args.found.now k → ⊥)) [] c.args.states.now c.loop-s.s-index c.loop-s-test.true c.loop-s.gone.items c.push_unfound.new.gone.items c.loop-s.invariant c.in_ok-push_unfound.ensures
 
 pub returns : goal.returns
 returns c =
-    unfound-all c.args.states.now c.args.found.now.keys c.loop-s.gone.items c.loop-s.gone.items refl
-    (grow-all (λ s k. (k ≡ s) × (Contains c.args.found.now.keys k → ⊥)) [] c.args.states.now c.loop-s.s-index c.loop-s-test.false c.loop-s.gone.items c.loop-s.invariant)
+    unfound-all c.args.states.now c.args.found.now c.loop-s.gone.items c.loop-s.gone.items refl
+    (grow-all (λ s k. (k ≡ s) × (Contains c.args.found.now k → ⊥)) [] c.args.states.now c.loop-s.s-index c.loop-s-test.false c.loop-s.gone.items c.loop-s.invariant)

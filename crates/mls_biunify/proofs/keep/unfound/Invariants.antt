@@ -5,4 +5,4 @@ use Rattle.mls_biunify.proofs.keep.unfound.Given as goal
 
 -- those of the states so far
 abbrev pub invariant-loop-s : goal.invariant-loop-s
-invariant-loop-s l = (j : ℕ) → Contains l.gone.items j ↔ Contains [] j ⊎ ByOne (take l.s-index l.states) (λ s k. (k ≡ s) × (Contains l.found.keys k → ⊥)) j
+invariant-loop-s l = (j : ℕ) → Contains l.gone.items j ↔ Contains [] j ⊎ ByOne (take l.s-index l.states) (λ s k. (k ≡ s) × (Contains l.found k → ⊥)) j
