@@ -1,23 +1,18 @@
 -- Environments that are put together binder by binder.
 --     with_nothing, empty_is  one binder alone, and none
---     notes_none, notes_more, are_binders         the binders of two environments
 --     entries_push, entries_more      one entry more, and in a longer book
 --     placed_entries          the same binders with their own nodes
 --     entries_joined, joined_none, joined_alone, joined_same      both environments in one
 --     entries_meet            the meet of both
-use Rattle.std.proofs.Common.{◌≡◌, inl, inr, ℕ, zero, suc, ◌<◌, Bool, true, false, cond, List, [], ◌∷◌, ◌++◌, map, length, get_or, refl, sym, ap, ◌∙◌, subst, arith, append_assoc, Contains, Option, Some, None}
-use Rattle.std.specs.Prelude.{All, IsSome, is_some}
+use Rattle.std.proofs.Common.{◌≡◌, inl, inr, ℕ, zero, suc, ◌<◌, Bool, true, false, cond, List, [], ◌∷◌, ◌++◌, map, length, get_or, refl, sym, ap, ◌∙◌, subst, arith, Contains, Option, Some, None}
+use Rattle.std.specs.Prelude.{All, is_some}
 use Rattle.std.specs.FinMap as env
 use Rattle.std.specs.FinMap.{get-empty, same_map, nat_cmp-IsAntisymmetric}
-use Rattle.std.specs.BTreeSet.{BTreeSet, IsEmpty, IsOrdered, Updates}
 use Rattle.std.specs.Ordering.{nat_cmp, eq_by_cmp}
 use Rattle.std.specs.declared.cmp.Ordering.TheVariants.{Equal}
 use Rattle.std.proofs.lemmas.Cmp.{nat_cmp_total}
-use Rattle.std.proofs.lemmas.List.Elements.{All-nil, All-cons, All-head, All-tail, Contains-append_left, Contains-append_right}
-use Rattle.std.proofs.lemmas.List.{map-append}
-use Rattle.std.proofs.lemmas.Map.Keys.{below_from_sorted}
-use Rattle.std.proofs.lemmas.Map.Views.{btree_set_contains_iff}
-use Rattle.mls_automaton.proofs.Lists.{Contains-here, Contains-later, Contains-cases}
+use Rattle.std.proofs.lemmas.List.Elements.{All-nil, All-cons, All-head, All-tail}
+use Rattle.mls_automaton.proofs.Lists.{Contains-cases}
 use Rattle.mls_book.specs.declared.book.Node.{Node}
 use Rattle.mls_book.specs.declared.book.Node.TheVariants as node
 use Rattle.mls_book.specs.Books.{node_at}
@@ -27,10 +22,8 @@ use Rattle.mls_deriv.specs.Steps.{env_of, IsRising}
 use Rattle.mls_deriv.proofs.StepEnvironments.{env_same, env_first}
 use Rattle.mls_layout.specs.Runs.{id}
 use Rattle.mls_layout.specs.Scopes.{entry}
-use Rattle.mls_layout.specs.steps.Posable.{HasJust}
-use Rattle.mls_layout.proofs.KeySets.{just_none, just_more, number_same, number_self}
 use Rattle.mls_lines.specs.Conclusions.{IsWith, IsPlaced, Replaces, ComesFrom, IsJoined}
-use Rattle.mls_lines.specs.Environments.{NotesBinders, AreBinders, JoinsAt, JoinsIn, MeetsAt, MeetsIn, IsMetIn, AreEntries}
+use Rattle.mls_lines.specs.Environments.{AreBinders, JoinsAt, JoinsIn, MeetsAt, MeetsIn, IsMetIn, AreEntries}
 use Rattle.mls_lines.specs.Stepping.{binder_node}
 use Rattle.mls_lines.proofs.Scopes.{looked, got, same_key, itself_key}
 
@@ -53,49 +46,6 @@ with_nothing x i longer it =
         ap (env.get (env_of longer)) is ∙ (it.found ∙ (sym (env_first (entry x i) []) ∙ ap (env.get (env_of (entry x i ∷ []))) (sym is)))
     by_test q false e =
         it.others q (differs q x e) ∙ (get-empty nat_cmp q ∙ sym (got (entry x i ∷ []) q ∙ ap (λ t. cond t (Some i) None) e))
-
--- a binder that has a node is among the binders
-looked_there : (d : List BinderNode) (x : ℕ) → IsSome (looked d x) → Contains (map (λ (e : BinderNode). e.binder) d) x
-looked_there [] x there = absurd (cc)
-looked_there (first ∷ d) x there = by_test (eq_by_cmp nat_cmp x first.binder) refl there (looked_there d x)
-  where
-    by_test : (t : Bool) → eq_by_cmp nat_cmp x first.binder ≡ t → IsSome (cond t (Some first.node.0) (looked d x)) → (IsSome (looked d x) → Contains (map (λ (e : BinderNode). e.binder) d) x)
-        → Contains (map (λ (e : BinderNode). e.binder) (first ∷ d)) x
-    by_test true e is later = subst (Contains (map (λ (e : BinderNode). e.binder) (first ∷ d))) (sym (same_key x first.binder e)) (Contains-here first.binder (map (λ (e : BinderNode). e.binder) d))
-    by_test false e is later = Contains-later first.binder (map (λ (e : BinderNode). e.binder) d) x (later is)
-
-pub notes_none : (set : BTreeSet ℕ) → IsEmpty set → HasJust nat_cmp [] set
-notes_none set none = just_none nat_cmp number_same number_self set none
-
--- one binder more
-pub notes_more : (d : List BinderNode) (e : BinderNode) (old now new : BTreeSet ℕ) → NotesBinders d old now → Updates nat_cmp now new e.binder true → NotesBinders (d ++ e ∷ []) old new
-notes_more d e old now new notes updates xs it =
-    subst (λ (ys : List ℕ). HasJust nat_cmp ys new)
-    (append_assoc xs (map (λ (e : BinderNode). e.binder) d) (e.binder ∷ []) ∙ ap (λ (ys : List ℕ). xs ++ ys) (sym (map-append (λ (e : BinderNode). e.binder) d (e ∷ []))))
-    (just_more nat_cmp number_same number_self (xs ++ map (λ (e : BinderNode). e.binder) d) now new e.binder (notes xs it) updates)
-
--- the binders that two environments note
-pub are_binders : (d e : List BinderNode) (none noted all : BTreeSet ℕ) (binders : List ℕ) → IsEmpty none → NotesBinders d none noted → NotesBinders e noted all
-    → IsOrdered nat_cmp all → binders ≡ all.keys → AreBinders d e binders
-are_binders d e none noted all binders empty first second ordered is =
-    subst (AreBinders d e) (sym is)
-    (record {
-      rise = λ i j less low. below_from_sorted all.keys i j 0 ordered less low;
-      first = λ x there. listed x (Contains-append_left firsts seconds x (looked_there d x (subst IsSome (got d x) there)));
-      second = λ x there. listed x (Contains-append_right firsts seconds x (looked_there e x (subst IsSome (got e x) there)));
-    })
-  where
-    firsts : List ℕ
-    firsts = map (λ (e : BinderNode). e.binder) d
-
-    seconds : List ℕ
-    seconds = map (λ (e : BinderNode). e.binder) e
-
-    just : HasJust nat_cmp (firsts ++ seconds) all
-    just = second firsts (first [] (notes_none none empty))
-
-    listed : (x : ℕ) → Contains (firsts ++ seconds) x → Contains all.keys x
-    listed x there = (btree_set_contains_iff nat_cmp_total exact all x).0 ((just x).1 there)
 
 -- a list without an entry
 pub empty_is : (d : List BinderNode) → length d ≡ 0 → d ≡ []

@@ -3,6 +3,7 @@ pub mod Runs
 pub mod Stepping
 pub mod Environments
 pub mod JoinedEnvironments
+pub mod MergedEnvironments
 pub mod Growing
 pub mod Bringing
 pub mod GoingOn

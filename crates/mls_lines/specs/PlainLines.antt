@@ -1,6 +1,6 @@
 -- What is written plainly for a node of a part: the lines that are told of its form, over the nodes that were laid out
 -- for the states of the constraint.
-use Rattle.std.specs.Prelude.{◌≡◌, ℕ, ◌<◌, List, [], ◌++◌, length, IsSome, Option, Some, None}
+use Rattle.std.specs.Prelude.{◌≡◌, ℕ, ◌<◌, List, ◌++◌, length, IsSome, Option, Some, None}
 use Rattle.std.specs.BTreeMap.{BTreeMap, get}
 use Rattle.std.specs.Ordering.{nat_cmp}
 use Rattle.mls_book.specs.declared.book.Node.{Node}
@@ -8,7 +8,6 @@ use Rattle.mls_book.specs.Books.{IsClosedBook}
 use Rattle.mls_automaton.specs.Automata.{Automaton}
 use Rattle.mls_automaton.specs.declared.scheme.Scheme.{Scheme}
 use Rattle.mls_term.specs.declared.term.TermForm.{TermForm}
-use Rattle.mls_term.specs.declared.term.TermForm.TheVariants as form
 use Rattle.mls_deriv.specs.declared.claim.Put.{Put}
 use Rattle.mls_deriv.specs.declared.derivation.BinderNode.{BinderNode}
 use Rattle.mls_deriv.specs.declared.derivation.StepLine.{StepLine}

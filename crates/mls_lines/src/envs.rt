@@ -1,18 +1,16 @@
-//! Environments of steps with a binder more, or without it.
-ghost use Rattle.std.specs.Prelude.{◌≡◌, ◌++◌, ◌∷◌, [], IfOk, OnOk, true, false};
-ghost use Rattle.std.specs.BTreeSet.{IsOrdered};
-ghost use Rattle.std.specs.Ordering.{nat_cmp};
+//! Environments of steps with a binder more, or without it, and what two of them need.
+ghost use Rattle.std.specs.Prelude.{◌≡◌, ◌++◌, ◌∷◌, [], map, IfOk, OnOk, true, false};
 ghost use Rattle.mls_deriv.specs.Steps.{IsRising};
 ghost use Rattle.mls_lines.specs.Conclusions.{IsWith, IsWithout};
-ghost use Rattle.mls_lines.specs.Environments.{AreBinders, NotesBinders};
+ghost use Rattle.mls_lines.specs.Environments.{AreNeeded, IsNext};
 ghost use Rattle.mls_lines.specs.Stepping.{above, below};
 
+use mls_base::list::List;
 use mls_base::memory::Memory;
 use mls_book::book::NodeId;
 use mls_deriv::derivation::{BinderNode, BinderNodes};
-use mls_parts::split::Numbers;
 use std::alloc::Global;
-use std::collections::BTreeSet;
+use std::cmp::Ordering;
 
 // Adds an entry where it is kept.
 fn push_kept(left: &mut BinderNodes, entry: BinderNode, is_kept: bool) -> Result<(), Memory>
@@ -80,39 +78,56 @@ pub fn without(alloc: Global, env: &[BinderNode], binder: usize) -> Result<Binde
     Ok(shorter)
 }
 
-// Notes the binders of an environment.
-fn note_binders(noted: &mut BTreeSet<usize>, env: &[BinderNode]) -> Result<(), Memory>
-    ensures { OnOk result (NotesBinders env.now noted.old noted.new) }
+/// A binder that one of two environments has, with its node, or that both have, with both nodes.
+#[derive(Clone, Copy)]
+pub enum Needed {
+    One(BinderNode),
+    Both(usize, NodeId, NodeId),
+}
+
+// What two environments need first, where these are their first entries, and how many entries of each are gone then.
+fn next_of(left: BinderNode, right: BinderNode) -> (Needed, usize, usize)
+    ensures { IsNext left right result.0 result.1 result.2 }
+{
+    match left.binder.cmp(&right.binder) {
+        Ordering::Less => (Needed::One(left), 1, 0),
+        Ordering::Equal => (Needed::Both(left.binder, left.node, right.node), 1, 1),
+        Ordering::Greater => (Needed::One(right), 0, 1),
+    }
+}
+
+// Adds what one environment alone needs.
+fn push_alone(all: &mut List<Needed>, env: &[BinderNode]) -> Result<(), Memory>
+    ensures { OnOk result (all.new ≡ all.old ++ map Needed.One env.now) }
 {
     for entry in env {
-        noted.insert(entry.binder)?;
+        all.push(Needed::One(*entry))?;
     }
     Ok(())
 }
 
-// The binders that are noted, in rising order.
-fn listed(alloc: Global, noted: &BTreeSet<usize>) -> Result<Numbers, Memory>
-    ensures keys { IfOk result (λ binders. binders ≡ noted.now.keys) }
-    ensures ordered { IsOrdered nat_cmp noted.now }
-{
-    let mut binders = Numbers::new(alloc);
-    for binder in noted {
-        binders.push(*binder)?;
-    }
-    Ok(binders)
-}
-
-/// The binders of two environments, in rising order.
+/// What two environments need, in the order of their binders.
 ///
 /// # Errors
 ///
 /// `Memory` where memory is wanting.
-pub fn both(alloc: Global, first: &[BinderNode], second: &[BinderNode]) -> Result<Numbers, Memory>
-    ensures { IfOk result (AreBinders first.now second.now) }
+pub fn merged(
+    alloc: Global,
+    first: &[BinderNode],
+    second: &[BinderNode],
+) -> Result<List<Needed>, Memory>
+    ensures { IsRising first.now → IsRising second.now → IfOk result (AreNeeded first.now second.now) }
 {
-    let mut noted = BTreeSet::new(alloc);
-    note_binders(&mut noted, first)?;
-    note_binders(&mut noted, second)?;
-    let binders = listed(alloc, &noted)?;
-    Ok(binders)
+    let mut all = List::new(alloc);
+    let mut i = 0;
+    let mut j = 0;
+    while i < first.len() && j < second.len() {
+        let (next, left, right) = next_of(first[i], second[j]);
+        all.push(next)?;
+        i += left;
+        j += right;
+    }
+    push_alone(&mut all, &first[i..])?;
+    push_alone(&mut all, &second[j..])?;
+    Ok(all)
 }

@@ -1,15 +1,16 @@
 //! Environments of several parts: what each part offers, and all of it in one.
-ghost use Rattle.std.specs.Prelude.{◌≡◌, ℕ, IfOk, OnOk};
+ghost use Rattle.std.specs.Prelude.{◌≡◌, ℕ, List, map, All, IfOk, OnOk};
 ghost use Rattle.mls_book.specs.Books.{node_at};
 ghost use Rattle.mls_book.specs.declared.book.Node.TheVariants.{Meet};
+ghost use Rattle.mls_deriv.specs.declared.derivation.BinderNode.{BinderNode as IsBinderNode};
 ghost use Rattle.mls_deriv.specs.Steps.{IsRising};
 ghost use Rattle.mls_lines.specs.Conclusions.{IsJoined, IsOffered, IsPlaced, by_step};
-ghost use Rattle.mls_lines.specs.Environments.{Agrees, AreEntries, IsMetIn, JoinsAt, JoinsIn, MeetsAt, MeetsIn};
-ghost use Rattle.mls_lines.specs.Stepping.{binder_node, conclusion_of};
+ghost use Rattle.mls_lines.specs.Environments.{Agrees, AreEntries, HasNodes, IsMetIn, JoinsIn, MeetsIn, needed_binder};
+ghost use Rattle.mls_lines.specs.Stepping.{conclusion_of};
 ghost use Rattle.mls_lines.specs.Writer.{Grows, HaveRisingSteps, Offers, own_node};
 
-use crate::envs::{both, with};
-use crate::steps::{Conclusion, are_same, copied, node_of, whole_copy};
+use crate::envs::{Needed, merged, with};
+use crate::steps::{Conclusion, are_same, copied, whole_copy};
 use crate::writer::nodes::behind;
 use crate::writer::{Concluded, PartView, Writer};
 use mls_base::memory::Memory;
@@ -155,51 +156,40 @@ impl Writer {
         Ok(met)
     }
 
-    // The node of a binder of one environment or both.
-    fn joined_node(
-        &mut self,
-        view: &PartView,
-        binder: usize,
-        first: &[BinderNode],
-        second: &[BinderNode],
-    ) -> Result<NodeId, Memory>
+    // A binder that both environments have, or one, with its node in both.
+    fn joined_entry(&mut self, view: &PartView, needed: &Needed) -> Result<BinderNode, Memory>
         ensures grows { OnOk result (Grows self.old self.new) }
-        ensures node { IsRising first.now → IsRising second.now → IfOk result (λ id. JoinsAt self.new.laid.book
-            (own_node self.old view.now.posing.now binder) (binder_node first.now binder)
-            (binder_node second.now binder) id.0) }
+        ensures entry { (d e : List IsBinderNode) → HasNodes d e needed.now → IfOk result (λ entry.
+            (entry.binder ≡ needed_binder needed.now)
+            × JoinsIn self.new.laid.book (own_node self.old view.now.posing.now) d e entry.binder entry.node.0) }
     {
-        match node_of(first, binder) {
-            None => node_of(second, binder).ok_or(Memory),
-            Some(left) => match node_of(second, binder) {
-                None => Ok(left),
-                Some(right) => {
-                    let node = self.agreed(view, binder, left, right)?;
-                    Ok(node)
-                }
-            },
+        match needed {
+            Needed::One(entry) => Ok(*entry),
+            Needed::Both(binder, left, right) => {
+                let node = self.agreed(view, *binder, *left, *right)?;
+                Ok(BinderNode {
+                    binder: *binder,
+                    node,
+                })
+            }
         }
     }
 
-    // These binders, each with its node of one environment or both.
+    // The environment of what two of them need.
     fn joined_entries(
         &mut self,
         alloc: Global,
         view: &PartView,
-        binders: &[usize],
-        first: &[BinderNode],
-        second: &[BinderNode],
+        all: &[Needed],
     ) -> Result<BinderNodes, Memory>
         ensures grows { OnOk result (Grows self.old self.new) }
-        ensures entries { IsRising first.now → IsRising second.now → IfOk result (AreEntries
-            (JoinsIn self.new.laid.book (own_node self.old view.now.posing.now) first.now second.now) binders.now) }
+        ensures entries { (d e : List IsBinderNode) → All (HasNodes d e) all.now → IfOk result (AreEntries
+            (JoinsIn self.new.laid.book (own_node self.old view.now.posing.now) d e) (map needed_binder all.now)) }
     {
         let mut env = BinderNodes::new(alloc);
-        for binder in binders {
-            let node = self.joined_node(view, *binder, first, second)?;
-            env.push(BinderNode {
-                binder: *binder,
-                node,
-            })?;
+        for needed in all {
+            let entry = self.joined_entry(view, needed)?;
+            env.push(entry)?;
         }
         Ok(env)
     }
@@ -226,53 +216,39 @@ impl Writer {
         if second.is_empty() {
             return copied(alloc, first);
         }
-        let binders = both(alloc, first, second)?;
-        let env = self.joined_entries(alloc, view, binders.as_slice(), first, second)?;
+        let all = merged(alloc, first, second)?;
+        let env = self.joined_entries(alloc, view, all.as_slice())?;
         Ok(env)
     }
 
-    // The node of a binder of one environment or both, the meet of both nodes where it has two.
-    fn met_node(
-        &mut self,
-        binder: usize,
-        first: &[BinderNode],
-        second: &[BinderNode],
-    ) -> Result<NodeId, Memory>
+    // A binder that both environments have, or one, with its node there, or the meet of both.
+    fn met_entry(&mut self, needed: &Needed) -> Result<BinderNode, Memory>
         ensures grows { OnOk result (Grows self.old self.new) }
-        ensures node { IsRising first.now → IsRising second.now → IfOk result (λ id. MeetsAt self.new.laid.book
-            (binder_node first.now binder) (binder_node second.now binder) id.0) }
+        ensures entry { (d e : List IsBinderNode) → HasNodes d e needed.now → IfOk result (λ entry.
+            (entry.binder ≡ needed_binder needed.now) × MeetsIn self.new.laid.book d e entry.binder entry.node.0) }
     {
-        match node_of(first, binder) {
-            None => node_of(second, binder).ok_or(Memory),
-            Some(left) => match node_of(second, binder) {
-                None => Ok(left),
-                Some(right) => {
-                    let node = self.meet(left, right)?;
-                    Ok(node)
-                }
-            },
+        match needed {
+            Needed::One(entry) => Ok(*entry),
+            Needed::Both(binder, left, right) => {
+                let node = self.meet(*left, *right)?;
+                Ok(BinderNode {
+                    binder: *binder,
+                    node,
+                })
+            }
         }
     }
 
-    // These binders, each with its node of one environment, or the meet of both.
-    fn met_entries(
-        &mut self,
-        alloc: Global,
-        binders: &[usize],
-        first: &[BinderNode],
-        second: &[BinderNode],
-    ) -> Result<BinderNodes, Memory>
+    // The meets of what two environments need.
+    fn met_entries(&mut self, alloc: Global, all: &[Needed]) -> Result<BinderNodes, Memory>
         ensures grows { OnOk result (Grows self.old self.new) }
-        ensures entries { IsRising first.now → IsRising second.now → IfOk result (AreEntries
-            (MeetsIn self.new.laid.book first.now second.now) binders.now) }
+        ensures entries { (d e : List IsBinderNode) → All (HasNodes d e) all.now → IfOk result (AreEntries
+            (MeetsIn self.new.laid.book d e) (map needed_binder all.now)) }
     {
         let mut env = BinderNodes::new(alloc);
-        for binder in binders {
-            let node = self.met_node(*binder, first, second)?;
-            env.push(BinderNode {
-                binder: *binder,
-                node,
-            })?;
+        for needed in all {
+            let entry = self.met_entry(needed)?;
+            env.push(entry)?;
         }
         Ok(env)
     }
@@ -292,8 +268,8 @@ impl Writer {
         ensures meets { IsRising first.now → IsRising second.now → IfOk result (IsMetIn self.new.laid.book
             first.now second.now) }
     {
-        let binders = both(alloc, first, second)?;
-        let met = self.met_entries(alloc, binders.as_slice(), first, second)?;
+        let all = merged(alloc, first, second)?;
+        let met = self.met_entries(alloc, all.as_slice())?;
         Ok(met)
     }
 }

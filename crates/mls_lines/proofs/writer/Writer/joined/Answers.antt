@@ -1,9 +1,11 @@
-use Rattle.std.proofs.Common.{◌≡◌, ◌∙◌, ℕ, List, [], length, sym, subst}
+use Rattle.std.proofs.Common.{◌≡◌, ◌∙◌, List, [], map, length, sym, subst}
+use Rattle.std.specs.Prelude.{All}
 use Rattle.std.proofs.lemmas.Bool.Decides.{Decides-eqb}
 use Rattle.std.proofs.lemmas.Result.{IfOk-weaker}
 use Rattle.mls_deriv.specs.declared.derivation.BinderNode.{BinderNode}
 use Rattle.mls_lines.specs.Conclusions.{IsJoined}
-use Rattle.mls_lines.specs.Environments.{AreEntries, JoinsIn}
+use Rattle.mls_lines.specs.declared.envs.Needed.{Needed}
+use Rattle.mls_lines.specs.Environments.{AreEntries, HasNodes, JoinsIn, needed_binder}
 use Rattle.mls_lines.specs.Writer.{own_node}
 use Rattle.mls_lines.proofs.JoinedEnvironments.{empty_is, entries_joined, joined_none, joined_alone, joined_same}
 use Rattle.mls_lines.proofs.writer.Writer.joined.Goals as goal
@@ -41,7 +43,9 @@ returns-then-is_empty-2-clause-joined c = λ rising rising'.
 
 pub returns-clause-joined : goal.returns-clause-joined
 returns-clause-joined c = λ rising rising'.
-    entries_joined (own_node c.args.self.now c.args.view.now.posing.now) c.joined_entries.new.self.laid.book c.args.first.now c.args.second.now c.in_ok-env.env c.in_ok-binders.binders
-    c.in_ok-binders.ensures
-    (subst (λ (xs : List ℕ). AreEntries (JoinsIn c.joined_entries.new.self.laid.book (own_node c.args.self.now c.args.view.now.posing.now) c.args.first.now c.args.second.now) xs c.in_ok-env.env) c.as_slice.ensures
-    (c.in_ok-env.ensures.entries rising rising'))
+    let d : List BinderNode = c.args.first.now in
+    let e : List BinderNode = c.args.second.now in
+    let it = c.in_ok-all.ensures rising rising' in
+    entries_joined (own_node c.args.self.now c.args.view.now.posing.now) c.joined_entries.new.self.laid.book d e c.in_ok-env.env (map needed_binder c.in_ok-all.all) it.binders
+    (subst (λ (all : List Needed). AreEntries (JoinsIn c.joined_entries.new.self.laid.book (own_node c.args.self.now c.args.view.now.posing.now) d e) (map needed_binder all) c.in_ok-env.env) c.as_slice.ensures
+    (c.in_ok-env.ensures.entries d e (subst (All (HasNodes d e)) (sym c.as_slice.ensures) it.nodes)))

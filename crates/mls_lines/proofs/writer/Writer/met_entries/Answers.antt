@@ -1,37 +1,41 @@
-use Rattle.std.proofs.Common.{◌++◌, ◌∷◌, [], ℕ, List, take, get_or, sym, subst}
-use Rattle.std.proofs.lemmas.List.{take_all, take_more}
-use Rattle.mls_book.specs.declared.book.NodeId.{NodeId}
+use Rattle.std.proofs.Common.{◌≡◌, ◌∙◌, ◌++◌, ◌∷◌, [], ℕ, ◌+◌, List, ap, map, take, get_or, sym, subst}
+use Rattle.std.proofs.lemmas.List.{map-append, take_all, take_more}
 use Rattle.mls_deriv.specs.declared.derivation.BinderNode.{BinderNode}
-use Rattle.mls_lines.specs.Environments.{AreEntries, MeetsIn}
+use Rattle.mls_lines.specs.declared.envs.Needed.{Needed}
+use Rattle.mls_lines.specs.declared.envs.Needed.TheVariants as needed
+use Rattle.mls_lines.specs.Environments.{AreEntries, MeetsIn, needed_binder}
 use Rattle.mls_lines.proofs.Growing.{grows_itself, grows_then, meets_more}
 use Rattle.mls_lines.proofs.writer.Writer.met_entries.Goals as goal
 
-pub loop-binder-init : goal.loop-binder-init
-loop-binder-init c = record {
+pub loop-needed-init : goal.loop-needed-init
+loop-needed-init c = record {
   grows = grows_itself c.args.self.now;
-  entries = λ rising rising'. subst (AreEntries (MeetsIn c.args.self.now.laid.book c.args.first.now c.args.second.now) []) (sym c.new-env.ensures) tt;
+  entries = λ d e every. subst (AreEntries (MeetsIn c.args.self.now.laid.book d e) []) (sym c.new-env.ensures) tt;
 }
 
-pub loop-binder-preserved : goal.loop-binder-preserved
-loop-binder-preserved c =
+pub loop-needed-preserved : goal.loop-needed-preserved
+loop-needed-preserved c =
     let w = c.args.self.now in
-    let now = c.loop-binder.self in
-    let new = c.met_node.new.self in
-    let d : List BinderNode = c.args.first.now in
-    let e : List BinderNode = c.args.second.now in
-    let xs : List ℕ = c.args.binders.now in
-    let i : ℕ = c.loop-binder.binder-index in
-    let n : NodeId = c.in_ok-node.node in
+    let now = c.loop-needed.self in
+    let new = c.met_entry.new.self in
+    let all : List Needed = c.args.all.now in
+    let i : ℕ = c.loop-needed.needed-index in
+    let own : BinderNode = c.in_ok-entry.entry in
+    let none : Needed = needed.One (record { binder = 0; node = record { 0 = 0 } }) in
+    let binders : map needed_binder (take i all) ++ needed_binder (get_or all i none) ∷ [] ≡ map needed_binder (take (i + 1) all) =
+    sym (ap (map needed_binder) (take_more all i none c.loop-needed-test.true) ∙ map-append needed_binder (take i all) (get_or all i none ∷ [])) in
     record {
-      grows = grows_then w now new c.loop-binder.invariant.grows c.in_ok-node.ensures.grows;
+      grows = grows_then w now new c.loop-needed.invariant.grows c.in_ok-entry.ensures.grows;
       entries =
-          λ rising rising'.
-          subst (λ (ys : List ℕ). AreEntries (MeetsIn new.laid.book d e) ys c.push.new.self) (sym (take_more xs i 0 c.loop-binder-test.true))
-          (subst (AreEntries (MeetsIn new.laid.book d e) (take i xs ++ get_or xs i 0 ∷ [])) (sym c.in_ok-push.ensures.ok)
-          (meets_more w now new c.loop-binder.invariant.grows c.in_ok-node.ensures.grows d e (take i xs) c.loop-binder.env (get_or xs i 0) n (c.loop-binder.invariant.entries rising rising') (c.in_ok-node.ensures.node rising rising')));
+          λ d e every.
+          let it = c.in_ok-entry.ensures.entry d e (every i none c.loop-needed-test.true) in
+          subst (λ (xs : List ℕ). AreEntries (MeetsIn new.laid.book d e) xs c.push.new.self) binders
+          (subst (λ (x : ℕ). AreEntries (MeetsIn new.laid.book d e) (map needed_binder (take i all) ++ x ∷ []) c.push.new.self) it.0
+          (subst (AreEntries (MeetsIn new.laid.book d e) (map needed_binder (take i all) ++ own.binder ∷ [])) (sym c.in_ok-push.ensures.ok)
+          (meets_more w now new c.loop-needed.invariant.grows c.in_ok-entry.ensures.grows d e (map needed_binder (take i all)) c.loop-needed.env own.binder own.node (c.loop-needed.invariant.entries d e every) it.1)));
     }
 
 pub returns-clause-entries : goal.returns-clause-entries
-returns-clause-entries c = λ rising rising'.
-    subst (λ (ys : List ℕ). AreEntries (MeetsIn c.loop-binder.self.laid.book c.args.first.now c.args.second.now) ys c.loop-binder.env)
-    (take_all c.loop-binder.binder-index c.args.binders.now c.loop-binder-test.false) (c.loop-binder.invariant.entries rising rising')
+returns-clause-entries c = λ d e every.
+    subst (λ (all : List Needed). AreEntries (MeetsIn c.loop-needed.self.laid.book d e) (map needed_binder all) c.loop-needed.env)
+    (take_all c.loop-needed.needed-index c.args.all.now c.loop-needed-test.false) (c.loop-needed.invariant.entries d e every)
