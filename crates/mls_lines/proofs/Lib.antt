@@ -9,6 +9,7 @@ pub mod Bringing
 pub mod GoingOn
 pub mod PlainForms
 pub mod Lengthening
+pub mod CopiedNodes
 pub mod ToldForms
 pub mod PlainRecords
 pub mod WrittenNodes

@@ -83,7 +83,7 @@ pub fn push_book(alloc: Global, book: &mut Book, other: &Book) -> Result<usize, 
     let first = book.len();
     for i in 0..other.len() {
         let node = raised_node(alloc, other.node(NodeId(i)), first)?;
-        push_checked(book, node)?;
+        book.push(node)?;
     }
     Ok(first)
 }
