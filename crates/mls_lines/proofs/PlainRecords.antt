@@ -1,13 +1,13 @@
 -- The lines that are written plainly for a record, whose parts are brought to their fields one after the other.
---     fields_more, field_of_part      the fields of the parts
+--     fields_more, fields_long, field_of_part      the fields of the parts
 --     rising_grown, joins_none, joins_more        what the parts are offered
 --     brings_none, brings_next        the lines that bring them to their fields
 --     make_writes             the lines of a record
-use Rattle.std.proofs.Common.{◌≡◌, inl, inr, ℕ, zero, suc, ◌<◌, List, [], ◌∷◌, ◌++◌, length, get_or, refl, sym, ap, ◌∙◌, subst, arith, append-nil, append_assoc, Contains, Some, None}
+use Rattle.std.proofs.Common.{◌≡◌, inl, inr, ℕ, zero, suc, ◌<◌, ◌≤◌, List, [], ◌∷◌, ◌++◌, length, map, get_or, refl, sym, ap, ◌∙◌, subst, arith, append-nil, append_assoc, Contains, Some, None}
 use Rattle.std.specs.Prelude.{IsSome}
 use Rattle.std.specs.BTreeMap.{BTreeMap, get}
 use Rattle.std.specs.Ordering.{nat_cmp}
-use Rattle.std.proofs.lemmas.List.{map-append}
+use Rattle.std.proofs.lemmas.List.{length-map, map-append}
 use Rattle.mls_automaton.proofs.Lists.{Contains-cases}
 use Rattle.mls_book.specs.declared.book.Field.{Field}
 use Rattle.mls_book.specs.declared.book.Node.{Node}
@@ -57,6 +57,13 @@ fields_more fields parts nodes part u are found =
     ∙ ((λ n. are n ++ found n ∷ []) ∙ sym (map-append (λ (id : NodeId). Some id) nodes (u ∷ [])))
 
 -- the node at the place of a part is the field of its label
+pub fields_long : (fields : List Field) (parts : List Part) (nodes : List NodeId) → AreFieldsOf fields parts nodes → length parts ≤ length nodes
+fields_long fields parts nodes are =
+    let one : length (map (λ (part : Part). field_at part.label fields) parts) ≡ length parts = length-map parts (λ (part : Part). field_at part.label fields) in
+    let other : length (map (λ (id : NodeId). Some id) nodes) ≡ length nodes = length-map nodes (λ (id : NodeId). Some id) in
+    let same : length (map (λ (part : Part). field_at part.label fields) parts) ≡ length (map (λ (id : NodeId). Some id) nodes) = ap length are in
+    omega (arith, one, other, same)
+
 pub field_of_part : (fields : List Field) (parts : List Part) (nodes : List NodeId) (i : ℕ) (d : Part) (u : NodeId) → AreFieldsOf fields parts nodes → i < length parts → i < length nodes
     → field_at (get_or parts i d).label fields ≡ Some (get_or nodes i u)
 field_of_part fields [] nodes i d u are low inside = absurd (omega (arith, low))

@@ -1,5 +1,5 @@
 //! The lines of records and projections.
-ghost use Rattle.std.specs.Prelude.{◌≡◌, ◌<◌, List, length, All, IfOk, OnOk, Some};
+ghost use Rattle.std.specs.Prelude.{◌≡◌, ◌<◌, ◌≤◌, List, length, All, IfOk, OnOk, Some};
 ghost use Rattle.mls_book.specs.Books.{field_at, node_at};
 ghost use Rattle.mls_book.specs.declared.book.Field.{Field as IsField};
 ghost use Rattle.mls_book.specs.declared.book.Node.TheVariants.{Rcd};
@@ -128,11 +128,13 @@ impl Writer {
         alloc: Global,
         fields: &[NodeId],
         parts: &[Part],
-    ) -> Result<NodeIds, Memory> {
+    ) -> Result<NodeIds, Memory>
+        requires { length parts.now ≤ length fields.now }
+        ensures { IfOk result (λ own. length parts.now ≤ length own) }
+    {
         let mut own = NodeIds::new(alloc);
         for (number, part) in parts.iter().enumerate() {
-            let field = *fields.get(number).ok_or(Memory)?;
-            own.push(self.own_type(part.child, field)?)?;
+            own.push(self.own_type(part.child, fields[number])?)?;
         }
         Ok(own)
     }
@@ -169,6 +171,7 @@ impl Writer {
         env: &[BinderNode],
         parts: &[Part],
     ) -> Result<List<usize>, Memory>
+        requires { length parts.now ≤ length fields.now }
         ensures laid { OnOk result (self.new.laid ≡ self.old.laid) }
         ensures brings { (of_record : List IsField) → AreFieldsOf of_record parts.now fields.now → IsSound self.old
             → IsRising env.now → HasLowEnv (length self.old.laid.book) env.now
@@ -177,7 +180,7 @@ impl Writer {
     {
         let mut steps = List::new(alloc);
         for (number, part) in parts.iter().enumerate() {
-            let field = *fields.get(number).ok_or(Memory)?;
+            let field = fields[number];
             steps.push(self.adapted(alloc, part.child, env, field)?)?;
         }
         Ok(steps)
@@ -195,13 +198,14 @@ impl Writer {
         fields: &[NodeId],
         parts: &[Part],
     ) -> Result<BinderNodes, Memory>
+        requires { length parts.now ≤ length fields.now }
         ensures grows { OnOk result (Grows self.old self.new) }
         ensures joins { (of_record : List IsField) → AreFieldsOf of_record parts.now fields.now → HaveRisingSteps self.old
             → IfOk result (JoinsParts self.old self.new view.now.posing.now of_record parts.now) }
     {
         let mut env = BinderNodes::new(alloc);
         for (number, part) in parts.iter().enumerate() {
-            let field = *fields.get(number).ok_or(Memory)?;
+            let field = fields[number];
             let offered = self.offered(alloc, view, part.child, field)?;
             env = self.joined(alloc, view, env.as_slice(), offered.as_slice())?;
         }

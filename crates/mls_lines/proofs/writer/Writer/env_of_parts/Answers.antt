@@ -1,5 +1,5 @@
-use Rattle.std.proofs.Common.{◌≡◌, ◌∙◌, ◌++◌, ◌<◌, ◌∷◌, [], List, take, get_or, length, sym, ap, subst, rules, Some}
-use Rattle.std.proofs.lemmas.List.{take_all, take_more}
+use Rattle.std.proofs.Common.{◌≡◌, ◌∙◌, ◌++◌, ◌<◌, ◌≤◌, ◌∷◌, [], List, take, get_or, length, sym, ap, subst, arith, Some}
+use Rattle.std.proofs.lemmas.List.{get_or_default, take_all, take_more}
 use Rattle.mls_deriv.specs.declared.derivation.BinderNode.{BinderNode}
 use Rattle.mls_deriv.specs.Steps.{IsRising}
 use Rattle.mls_book.specs.declared.book.NodeId.{NodeId}
@@ -25,7 +25,7 @@ loop-number-preserved c =
     let now = c.loop-number.self in
     let new = c.joined.new.self in
     let part : Part = c.index-parts-number.result in
-    let u : NodeId = c.in_ok-field.field-0.now in
+    let u : NodeId = get_or c.args.fields.now c.loop-number.number (record { 0 = 0 }) in
     let d : List BinderNode = c.loop-number.env in
     let e : List BinderNode = c.in_ok-offered.offered in
     let joined : List BinderNode = c.in_ok-env.env in
@@ -36,8 +36,10 @@ loop-number-preserved c =
       grows = grows_then w now new grows c.in_ok-env.ensures.grows;
       joins = λ fields are rising.
           let before = c.loop-number.invariant.joins fields are rising in
-          let inside : c.loop-number.number < length c.args.fields.now = search rules in
-          let node_is : u ≡ get_or c.args.fields.now c.loop-number.number u = search rules in
+          let long : length c.args.parts.now ≤ length c.args.fields.now = c.requires in
+          let low : c.loop-number.number < length c.args.parts.now = c.loop-number-test.true in
+          let inside : c.loop-number.number < length c.args.fields.now = omega (arith, long, low) in
+          let node_is : u ≡ get_or c.args.fields.now c.loop-number.number u = get_or_default c.args.fields.now c.loop-number.number (record { 0 = 0 }) u inside in
           let at : field_at part.label fields ≡ Some u =
           subst (λ (one : Part). field_at one.label fields ≡ Some u) (sym c.index-parts-number.is) (field_of_part fields c.args.parts.now c.args.fields.now c.loop-number.number part u are c.loop-number-test.true inside ∙ ap (λ (n : NodeId). Some n) (sym node_is)) in
           let offers = c.in_ok-offered.ensures (rising_grown w now grows rising) in

@@ -1,9 +1,23 @@
+use Rattle.std.proofs.Common.{◌≤◌, List, length, sym, subst}
+use Rattle.mls_book.specs.declared.book.NodeId.{NodeId}
 use Rattle.mls_solver.proofs.Answered.{always_ok}
 use Rattle.mls_layout.specs.declared.layout.LaidOut.{LaidOut}
 use Rattle.mls_lines.specs.Writer.{Lengthens}
 use Rattle.mls_lines.proofs.Lengthening.{lengthens_grown, lengthens_kept, lengthens_then}
+use Rattle.mls_lines.proofs.PlainRecords.{fields_long}
 use Rattle.mls_lines.proofs.writer.Writer.make.Goals as goal
 use Rattle.mls_lines.proofs.writer.Writer.make.Goals.{in-true, in-false+in_ok-root-in-false}
+
+-- there is a field, and a type, for each part
+pub own_fields-requires : goal.own_fields-requires
+own_fields-requires c =
+    subst (λ (nodes : List NodeId). length c.args.parts.now ≤ length nodes) (sym c.as_slice.ensures) (fields_long c.in_ok-fields.ensures.0 c.args.parts.now c.in_ok-fields.fields c.in_ok-fields.ensures.2)
+
+pub env_of_parts-requires : goal.env_of_parts-requires
+env_of_parts-requires c = subst (λ (nodes : List NodeId). length c.args.parts.now ≤ length nodes) (sym c.as_slice-2.ensures) c.in_ok-own.ensures
+
+pub parts-requires : goal.parts-requires
+parts-requires c = subst (λ (nodes : List NodeId). length c.args.parts.now ≤ length nodes) (sym c.as_slice-3.ensures) c.in_ok-own.ensures
 
 pub returns : goal.returns
 returns c =

@@ -1,5 +1,5 @@
-use Rattle.std.proofs.Common.{◌≡◌, ◌∙◌, ◌+◌, ◌++◌, ◌<◌, ◌∷◌, [], ℕ, List, take, get_or, length, refl, sym, ap, subst, rules, Some}
-use Rattle.std.proofs.lemmas.List.{take_all, take_more}
+use Rattle.std.proofs.Common.{◌≡◌, ◌∙◌, ◌+◌, ◌++◌, ◌<◌, ◌≤◌, ◌∷◌, [], ℕ, List, take, get_or, length, refl, sym, ap, subst, arith, Some}
+use Rattle.std.proofs.lemmas.List.{get_or_default, take_all, take_more}
 use Rattle.mls_book.specs.declared.book.NodeId.{NodeId}
 use Rattle.mls_book.specs.Books.{field_at}
 use Rattle.mls_book.proofs.Children.{at_found}
@@ -20,20 +20,22 @@ loop-number-init c = record {
 pub loop-number-preserved : goal.loop-number-preserved
 loop-number-preserved c = record {
   laid = c.in_ok-adapted.ensures.laid ∙ c.loop-number.invariant.laid;
-  brings = λ fields are sound rising low all.
+  brings = λ fields are sound rising env_low all.
       let w = c.args.self.now in
       let now = c.loop-number.self in
       let new = c.adapted.new.self in
       let part : Part = c.index-parts-number.result in
-      let u : NodeId = c.in_ok-field.field-0.now in
+      let u : NodeId = get_or c.args.fields.now c.loop-number.number (record { 0 = 0 }) in
       let d : List BinderNode = c.args.env.now in
-      let before = c.loop-number.invariant.brings fields are sound rising low all in
-      let inside : c.loop-number.number < length c.args.fields.now = search rules in
-      let node_is : u ≡ get_or c.args.fields.now c.loop-number.number u = search rules in
+      let before = c.loop-number.invariant.brings fields are sound rising env_low all in
+      let long : length c.args.parts.now ≤ length c.args.fields.now = c.requires in
+      let low : c.loop-number.number < length c.args.parts.now = c.loop-number-test.true in
+      let inside : c.loop-number.number < length c.args.fields.now = omega (arith, long, low) in
+      let node_is : u ≡ get_or c.args.fields.now c.loop-number.number u = get_or_default c.args.fields.now c.loop-number.number (record { 0 = 0 }) u inside in
       let at : field_at part.label fields ≡ Some u =
       subst (λ (one : Part). field_at one.label fields ≡ Some u) (sym c.index-parts-number.is) (field_of_part fields c.args.parts.now c.args.fields.now c.loop-number.number part u are c.loop-number-test.true inside ∙ ap (λ (n : NodeId). Some n) (sym node_is)) in
       let laid_is : now.laid ≡ w.laid = c.loop-number.invariant.laid in
-      let it = c.in_ok-adapted.ensures.brings rising before.adds.sound (subst (λ (l : LaidOut). HasLowEnv (length l.book) d) (sym laid_is) low)
+      let it = c.in_ok-adapted.ensures.brings rising before.adds.sound (subst (λ (l : LaidOut). HasLowEnv (length l.book) d) (sym laid_is) env_low)
       (subst (λ (l : LaidOut). u.0 < length l.book) (sym laid_is) (at_found (λ k. k < length w.laid.book) part.label fields all u at)) in
       subst (λ (numbers : List ℕ). BringsParts w new d fields (take (c.loop-number.number + 1) c.args.parts.now) numbers) (sym c.in_ok-push.ensures.ok)
       (subst (λ (parts : List Part). BringsParts w new d fields parts (c.loop-number.steps ++ c.in_ok-adapted.field-0 ∷ []))

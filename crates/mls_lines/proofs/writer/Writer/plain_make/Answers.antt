@@ -1,16 +1,26 @@
-use Rattle.std.proofs.Common.{◌∙◌, ◌<◌, length, List, [], refl, sym, ap, subst, None, get_or}
+use Rattle.std.proofs.Common.{◌∙◌, ◌<◌, ◌≤◌, length, List, [], refl, sym, ap, subst, None, get_or}
 use Rattle.mls_deriv.specs.declared.derivation.BinderNode.{BinderNode}
 use Rattle.mls_deriv.specs.Steps.{IsRising}
 use Rattle.mls_parts.specs.Posings.{root_in}
 use Rattle.mls_book.specs.declared.book.Field.{Field}
+use Rattle.mls_book.specs.declared.book.NodeId.{NodeId}
 use Rattle.mls_lines.specs.PlainRecords.{AreFieldsOf, BringsParts}
 use Rattle.mls_lines.specs.Writer.{HasLowEnv}
 use Rattle.mls_lines.proofs.LowNodes.{fields_low, parts_low, up}
 use Rattle.std.specs.Prelude.{All}
 use Rattle.mls_lines.proofs.GoingOn.{sound_grown}
 use Rattle.mls_lines.proofs.Lengthening.{lengthens_grown, lengthens_kept}
-use Rattle.mls_lines.proofs.PlainRecords.{all_joined_rising, make_writes}
+use Rattle.mls_lines.proofs.PlainRecords.{all_joined_rising, fields_long, make_writes}
 use Rattle.mls_lines.proofs.writer.Writer.plain_make.Goals as goal
+
+-- there is a field for each part
+pub env_of_parts-requires : goal.env_of_parts-requires
+env_of_parts-requires c =
+    subst (λ (nodes : List NodeId). length c.args.parts.now ≤ length nodes) (sym c.as_slice.ensures) (fields_long c.in_ok-fields.ensures.0 c.args.parts.now c.in_ok-fields.fields c.in_ok-fields.ensures.2)
+
+pub parts-requires : goal.parts-requires
+parts-requires c =
+    subst (λ (nodes : List NodeId). length c.args.parts.now ≤ length nodes) (sym c.as_slice-2.ensures) (fields_long c.in_ok-fields.ensures.0 c.args.parts.now c.in_ok-fields.fields c.in_ok-fields.ensures.2)
 
 pub returns-clause-writes : goal.returns-clause-writes
 returns-clause-writes c = λ k places sound have.
