@@ -7,7 +7,6 @@ use mls_deriv::derivation::{
     BinderNode, BinderNodes, SectionLine, SectionLines, StepLine, StepRule,
 };
 use mls_deriv::steps::is_same;
-use mls_lines::copies::push_checked;
 use std::alloc::Global;
 
 /// The nodes and the lines of a section.
@@ -137,15 +136,18 @@ impl Numbers {
         for is_kept in serves {
             numbers.push(count)?;
             if *is_kept {
-                count = count.checked_add(1).ok_or(Memory)?;
+                count += 1;
             }
         }
         Ok(Numbers { numbers })
     }
 
-    fn at(&self, id: NodeId) -> Result<NodeId, Memory> {
-        let number = *self.numbers.get(id.0).ok_or(Memory)?;
-        Ok(NodeId(number))
+    // The new number of a node. One that is not in the book keeps its number: the check refuses such lines.
+    fn at(&self, id: NodeId) -> NodeId {
+        match self.numbers.get(id.0) {
+            Some(number) => NodeId(*number),
+            None => id,
+        }
     }
 
     fn fields(&self, alloc: Global, fields: &[Field]) -> Result<Fields, Memory> {
@@ -153,7 +155,7 @@ impl Numbers {
         for field in fields {
             copies.push(Field {
                 label: field.label.clone()?,
-                node: self.at(field.node)?,
+                node: self.at(field.node),
             })?;
         }
         Ok(copies)
@@ -166,10 +168,10 @@ impl Numbers {
             Node::Var(x) => Ok(Node::Var(*x)),
             Node::Bool => Ok(Node::Bool),
             Node::Int => Ok(Node::Int),
-            Node::Arrow(from, to) => Ok(Node::Arrow(self.at(*from)?, self.at(*to)?)),
+            Node::Arrow(from, to) => Ok(Node::Arrow(self.at(*from), self.at(*to))),
             Node::Rcd(fields) => Ok(Node::Rcd(self.fields(alloc, fields.as_slice())?)),
-            Node::Join(left, right) => Ok(Node::Join(self.at(*left)?, self.at(*right)?)),
-            Node::Meet(left, right) => Ok(Node::Meet(self.at(*left)?, self.at(*right)?)),
+            Node::Join(left, right) => Ok(Node::Join(self.at(*left), self.at(*right))),
+            Node::Meet(left, right) => Ok(Node::Meet(self.at(*left), self.at(*right))),
         }
     }
 
@@ -196,7 +198,7 @@ impl Numbers {
         for entry in env {
             copy.push(BinderNode {
                 binder: entry.binder,
-                node: self.at(entry.node)?,
+                node: self.at(entry.node),
             })?;
         }
         Ok(copy)
@@ -206,7 +208,7 @@ impl Numbers {
         match rule {
             StepRule::Var => Ok(StepRule::Var),
             StepRule::Use(step) => Ok(StepRule::Use(*step)),
-            StepRule::Name(first) => Ok(StepRule::Name(self.at(*first)?)),
+            StepRule::Name(first) => Ok(StepRule::Name(self.at(*first))),
             StepRule::Lit => Ok(StepRule::Lit),
             StepRule::Fun(step) => Ok(StepRule::Fun(*step)),
             StepRule::App(first, second) => Ok(StepRule::App(*first, *second)),
@@ -229,7 +231,7 @@ impl Numbers {
             node: step.node,
             rule: self.rule(alloc, &step.rule)?,
             env: self.env(alloc, last, step.env.as_slice())?,
-            root: self.at(step.root)?,
+            root: self.at(step.root),
         })
     }
 
@@ -242,9 +244,9 @@ impl Numbers {
         match line {
             SectionLine::Let(k, step) => Ok(SectionLine::Let(*k, *step)),
             SectionLine::Step(step) => Ok(SectionLine::Step(self.step(alloc, last, step)?)),
-            SectionLine::Put(variable, id) => Ok(SectionLine::Put(*variable, self.at(*id)?)),
+            SectionLine::Put(variable, id) => Ok(SectionLine::Put(*variable, self.at(*id))),
             SectionLine::Pair(mode, left, right) => {
-                Ok(SectionLine::Pair(*mode, self.at(*left)?, self.at(*right)?))
+                Ok(SectionLine::Pair(*mode, self.at(*left), self.at(*right)))
             }
         }
     }
@@ -262,11 +264,15 @@ impl Numbers {
         Ok(copies)
     }
 
+    // The nodes that serve. One that may not stand behind those before it is left out: the check refuses such lines.
     fn book(&self, alloc: Global, book: &Book, serves: &[bool]) -> Result<Book, Memory> {
         let mut copy = Book::new(alloc);
         for (i, is_kept) in serves.iter().enumerate() {
             if *is_kept && i < book.len() {
-                push_checked(&mut copy, self.node(alloc, book.node(NodeId(i)))?)?;
+                let node = self.node(alloc, book.node(NodeId(i)))?;
+                if copy.can_push(&node) {
+                    copy.push(node)?;
+                }
             }
         }
         Ok(copy)
