@@ -1,4 +1,4 @@
-use Rattle.std.proofs.Common.{rules, ◌∙◌, ℕ, List, ◌+◌, ◌<◌, ◌≤◌, ◌++◌, length, map, ap, arith, sym, subst}
+use Rattle.std.proofs.Common.{rules, ◌∙◌, ℕ, List, ◌+◌, ◌<◌, ◌≤◌, ◌++◌, length, map, ap, sym, subst}
 use Rattle.mls_book.specs.declared.book.Node.{Node}
 use Rattle.mls_book.specs.Books.{node_at, IsOrdered}
 use Rattle.mls_deriv.specs.Steps.{raised}
