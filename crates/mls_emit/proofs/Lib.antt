@@ -1,5 +1,6 @@
 pub mod KnownNames
 pub mod PlacedNames
+pub mod FoundNames
 pub mod NamesBelow
 pub mod KeptDrafts
 pub mod AddedParts

@@ -8,6 +8,7 @@ pub mod Writer
 pub mod PlainLines
 pub mod PlainRecords
 pub mod PlainParts
+pub mod Found
 pub mod Showing
 pub mod Globals
 pub mod Puts

@@ -1,5 +1,5 @@
 //! What is known of the names of a section, and where their types stand in its book.
-ghost use Rattle.std.specs.Prelude.{◌≡◌, IfOk, OnOk, Some};
+ghost use Rattle.std.specs.Prelude.{◌≡◌, IfOk, IsSome, OnOk, Some};
 ghost use Rattle.std.specs.BTreeMap.{get};
 ghost use Rattle.std.specs.Ordering.{nat_cmp};
 ghost use Rattle.mls_book.specs.Books.{IsClosedBook};
@@ -43,31 +43,19 @@ pub type Globals = BTreeMap<usize, GlobalAt>;
 pub type FirstParts = BTreeMap<usize, FirstPart>;
 
 /// Where the type of a name of the environment stands.
-///
-/// # Errors
-///
-/// `Memory` where that is not known.
-pub fn global_at(globals: &Globals, g: usize) -> Result<&GlobalAt, Memory>
-    ensures { IfOk result (λ global. get nat_cmp globals.now g ≡ Some global.now) }
+pub fn global_at(globals: &Globals, g: usize) -> &GlobalAt
+    requires { IsSome (get nat_cmp globals.now g) }
+    ensures { get nat_cmp globals.now g ≡ Some result.now }
 {
-    match globals.get(&g) {
-        None => Err(Memory),
-        Some(global) => Ok(global),
-    }
+    &globals[&g]
 }
 
 /// The first part of a let.
-///
-/// # Errors
-///
-/// `Memory` where that is not known.
-pub fn first_part(firsts: &FirstParts, k: usize) -> Result<&FirstPart, Memory>
-    ensures { IfOk result (λ part. get nat_cmp firsts.now k ≡ Some part.now) }
+pub fn first_part(firsts: &FirstParts, k: usize) -> &FirstPart
+    requires { IsSome (get nat_cmp firsts.now k) }
+    ensures { get nat_cmp firsts.now k ≡ Some result.now }
 {
-    match firsts.get(&k) {
-        None => Err(Memory),
-        Some(part) => Ok(part),
-    }
+    &firsts[&k]
 }
 
 /// Puts the book of a name's type behind the book of a section.

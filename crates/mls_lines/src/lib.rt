@@ -1,4 +1,7 @@
 //! The lines of a part of a derivation, written node by node.
+//!
+//! A sum of numbers of steps, nodes, states or variables that no machine word holds is answered as want of memory: so many
+//! of them would need more memory than there is.
 #![tactic(auto)]
 
 pub mod copies;

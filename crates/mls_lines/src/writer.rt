@@ -4,6 +4,7 @@ ghost use Rattle.std.specs.Prelude.{◌≡◌, [], IfOk, Ok, OnOk};
 ghost use Rattle.mls_deriv.specs.declared.derivation.StepRule.TheVariants.{Lit};
 ghost use Rattle.mls_lines.specs.declared.steps.Conclusion.{Conclusion as IsConclusion};
 ghost use Rattle.mls_lines.specs.declared.writer.Concluded.TheVariants.{Step};
+ghost use Rattle.mls_lines.specs.Found.{AreFound, IsFound};
 ghost use Rattle.mls_lines.specs.Stepping.{AddsStep};
 ghost use Rattle.mls_lines.specs.Writer.{Lengthens};
 
@@ -120,6 +121,8 @@ impl Writer {
         node: usize,
         form: &TermForm,
     ) -> Result<Concluded, Memory>
+        requires { IsFound view.now.globals.now view.now.firsts.now view.now.known.now.lets view.now.posing.now form.now
+            node }
         ensures { OnOk result (Lengthens self.old.laid self.new.laid) }
     {
         match form {
@@ -162,6 +165,8 @@ impl Writer {
         nodes: &[TermNode],
         part: &[usize],
     ) -> Result<(), Memory>
+        requires { AreFound view.now.globals.now view.now.firsts.now view.now.known.now.lets view.now.posing.now nodes.now
+            part.now }
         ensures { OnOk result (Lengthens self.old.laid self.new.laid) }
     {
         for i in part {

@@ -29,6 +29,7 @@ ghost use Rattle.mls_emit.specs.PlainSections.{so_far, IsPlainSection, NamesFirs
 ghost use Rattle.mls_allowed.specs.SectionParts.{AddsFirstPart, AddsWhole, HaveCome, IsBegun, IsWholeType, SoFar};
 ghost use Rattle.mls_allowed.specs.MadeFirsts.{around_states, IsFirstLaid, IsFirstType, IsPartLaidOut, IsPartSolved};
 ghost use Rattle.mls_emit.specs.declared.derive.Way.TheVariants.{Plain};
+ghost use Rattle.mls_lines.specs.Found.{AreFound, HaveFirsts};
 ghost use Rattle.mls_lines.specs.PlainLines.{HaveLowPlaces};
 ghost use Rattle.mls_lines.specs.PlainParts.{CanWritePart, ConcludesNothing, WritesPart, WritesWhole, type_binders};
 ghost use Rattle.mls_lines.specs.Writer.{Lengthens};
@@ -420,6 +421,7 @@ impl Draft {
         part: &[usize],
         posing: &Posing,
     ) -> Result<(), Memory>
+        requires found { AreFound self.now.globals self.now.firsts self.now.known.lets posing.now nodes.now part.now }
         ensures lengthens { OnOk result (Lengthens writer.old.laid writer.new.laid) }
         ensures writes { (c : Constraint) (parts : ℕ → List ℕ) → self.now.way ≡ Plain
             → CanWritePart writer.old.laid writer.old.steps self.now.globals self.now.firsts c posing.now parts
@@ -454,6 +456,7 @@ impl Draft {
         at: &TypeAt,
     ) -> Result<usize, Memory>
         requires part { 0 < length part.now }
+        requires found { AreFound self.old.globals self.old.firsts self.old.known.lets posing.now nodes.now part.now }
         ensures longer { OnOk result (IsLonger laid.book self.new.book) }
         ensures kept { self.new ≡ record self.old { book = self.new.book; steps = self.new.steps } }
         ensures lines { (c : Constraint) (parts : ℕ → List ℕ) → self.old.way ≡ Plain
@@ -576,6 +579,7 @@ impl Draft {
         at: &TypeAt,
     ) -> Result<usize, Memory>
         requires list { 0 < length list.now }
+        requires found { AreFound self.old.globals self.old.firsts self.old.known.lets solved.posing nodes.now list.now }
         requires closed { IsClosed solved.posing.automaton }
         requires related { HoldsStates solved.posing.automaton solved.solution.found }
         requires rises { Rises solved.around }
@@ -611,10 +615,13 @@ impl Draft {
         requires term { AreTermNodes nodes.now }
         requires part { IsTermPart nodes.now root part.now }
         requires known { KnowsBefore nodes.now self.old.known root }
+        requires places { HavePlaces nodes.now self.old.globals (length nodes.now) }
+        requires firsts { HaveFirsts self.old.known.lets self.old.firsts }
         requires read { IsRead read.now }
         requires begins { HasFrom self.old.book 0 read.now.book }
         ensures longer { OnOk result (IsLonger self.old.book self.new.book) }
         ensures known { OnOk result (KnowsBefore nodes.now self.new.known (root + 1)) }
+        ensures firsts { OnOk result (HaveFirsts self.new.known.lets self.new.firsts) }
         ensures globals { self.new.known.globals ≡ self.old.known.globals }
         ensures way { self.new.way ≡ self.old.way }
         ensures first { (k : ℕ) → self.old.way ≡ Plain → part.now.of_let ≡ Some k
@@ -648,10 +655,13 @@ impl Draft {
         requires term { AreTermNodes nodes.now }
         requires parts { AreTermParts nodes.now parts.now }
         requires known { KnowsBefore nodes.now self.old.known root }
+        requires places { HavePlaces nodes.now self.old.globals (length nodes.now) }
+        requires firsts { HaveFirsts self.old.known.lets self.old.firsts }
         requires read { IsRead read.now }
         requires begins { HasFrom self.old.book 0 read.now.book }
         ensures longer { OnOk result (IsLonger self.old.book self.new.book) }
         ensures known { OnOk result (KnowsBefore nodes.now self.new.known (root + 1)) }
+        ensures firsts { OnOk result (HaveFirsts self.new.known.lets self.new.firsts) }
         ensures globals { self.new.known.globals ≡ self.old.known.globals }
         ensures way { self.new.way ≡ self.old.way }
         ensures come { (begun : SoFar) → self.old.way ≡ Plain

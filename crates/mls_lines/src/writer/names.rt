@@ -1,11 +1,12 @@
 //! The lines of names and of lets.
-ghost use Rattle.std.specs.Prelude.{◌≡◌, ◌≢◌, ℕ, List, [], length, IfOk, OnOk, Some};
+ghost use Rattle.std.specs.Prelude.{◌≡◌, ◌≢◌, ℕ, List, [], length, IfOk, IsSome, OnOk, Some};
 ghost use Rattle.std.specs.BTreeMap.{get};
 ghost use Rattle.std.specs.Ordering.{nat_cmp};
 ghost use Rattle.mls_book.specs.Books.{IsBook};
 ghost use Rattle.mls_term.specs.declared.term.TermForm.TheVariants as form;
 ghost use Rattle.mls_layout.specs.Parts.{Constraint};
 ghost use Rattle.mls_lines.specs.declared.writer.Concluded.TheVariants.{Step};
+ghost use Rattle.mls_lines.specs.Found.{HasFirst, HasPlace};
 ghost use Rattle.mls_lines.specs.PlainLines.{HaveLowFirsts, HaveLowGlobals, HaveRisingFirsts, IsSound};
 ghost use Rattle.mls_lines.specs.PlainLines.{SettlesNode, WritesNode};
 ghost use Rattle.mls_lines.specs.Puts.{ArePutsOfFirst, ArePutsOfGlobal, FollowFrom};
@@ -24,23 +25,19 @@ use mls_parts::pose::{KnownTypes, Posing};
 use std::alloc::Global;
 
 // The state with which the copy of a known type at a node begins.
-fn copy_at(posing: &Posing, node: usize) -> Result<usize, Memory>
-    ensures { IfOk result (λ first. get nat_cmp posing.now.copies node ≡ Some first) }
+fn copy_at(posing: &Posing, node: usize) -> usize
+    requires { IsSome (get nat_cmp posing.now.copies node) }
+    ensures { get nat_cmp posing.now.copies node ≡ Some result }
 {
-    match posing.copies.get(&node) {
-        None => Err(Memory),
-        Some(first) => Ok(*first),
-    }
+    posing.copies[&node]
 }
 
 // The type that is known of the first part of a let.
-fn let_type(known: &KnownTypes, k: usize) -> Result<&Scheme, Memory>
-    ensures { IfOk result (λ scheme. get nat_cmp known.now.lets k ≡ Some scheme.now) }
+fn let_type(known: &KnownTypes, k: usize) -> &Scheme
+    requires { IsSome (get nat_cmp known.now.lets k) }
+    ensures { get nat_cmp known.now.lets k ≡ Some result.now }
 {
-    match known.lets.get(&k) {
-        None => Err(Memory),
-        Some(scheme) => Ok(scheme),
-    }
+    &known.lets[&k]
 }
 
 // The conclusion where these variables are still to be put in.
@@ -65,13 +62,14 @@ impl Writer {
         node: usize,
         g: usize,
     ) -> Result<Conclusion, Memory>
+        requires { HasPlace view.now.globals.now view.now.posing.now g node }
         ensures lengthens { OnOk result (Lengthens self.old.laid self.new.laid) }
         ensures writes { (c : Constraint) (parts : ℕ → List ℕ) → IsSound self.old
             → HaveLowGlobals (length self.old.laid.book) view.now.globals.now → IfOk result (λ own. WritesNode
             view.now.globals.now view.now.firsts.now view.now.known.now.lets c view.now.posing.now parts node
             (form.Global g) self.old self.new (Step own)) }
     {
-        let global = global_at(view.globals, g)?;
+        let global = global_at(view.globals, g);
         let puts = self.puts_of_global(alloc, view, node, global)?;
         let rule = StepRule::Name(NodeId(global.first));
         let env = BinderNodes::new(alloc);
@@ -87,12 +85,13 @@ impl Writer {
         node: usize,
         global: &GlobalAt,
     ) -> Result<Puts, Memory>
+        requires { IsSome (get nat_cmp view.now.posing.now.copies node) }
         ensures grows { IfOk result (λ puts. Grows self.old self.new) }
         ensures is_book { IsBook self.old.laid.book → OnOk result (IsBook self.new.laid.book) }
         ensures joins { IsBook self.old.laid.book → IfOk result (ArePutsOfGlobal self.new.laid.book
             self.old.laid.places view.now.posing.now node global.now) }
     {
-        let first = copy_at(view.posing, node)?;
+        let first = copy_at(view.posing, node);
         let puts = global_puts(alloc, &mut self.laid.book, &self.laid.places, global, first)?;
         Ok(puts)
     }
@@ -106,12 +105,13 @@ impl Writer {
         k: usize,
         part: &FirstPart,
     ) -> Result<Puts, Memory>
+        requires { HasFirst view.now.firsts.now view.now.known.now.lets view.now.posing.now k node }
         ensures follow { IfOk result (FollowFrom part.now.variable) }
         ensures edges { IfOk result (ArePutsOfFirst self.now.laid.places view.now.posing.now view.now.known.now.lets
             node k part.now.variable) }
     {
-        let scheme = let_type(view.known, k)?;
-        let first = copy_at(view.posing, node)?;
+        let scheme = let_type(view.known, k);
+        let first = copy_at(view.posing, node);
         let places = &self.laid.places;
         let puts = let_puts(alloc, places, view.posing, scheme, part.variable, first)?;
         Ok(puts)
@@ -129,13 +129,14 @@ impl Writer {
         node: usize,
         k: usize,
     ) -> Result<Conclusion, Memory>
+        requires { HasFirst view.now.firsts.now view.now.known.now.lets view.now.posing.now k node }
         ensures laid { OnOk result (self.new.laid ≡ self.old.laid) }
         ensures writes { (c : Constraint) (parts : ℕ → List ℕ) → IsSound self.old → HaveRisingFirsts view.now.firsts.now
             → HaveLowFirsts (length self.old.laid.book) view.now.firsts.now
             → IfOk result (λ own. WritesNode view.now.globals.now view.now.firsts.now view.now.known.now.lets c
             view.now.posing.now parts node (form.Inner k) self.old self.new (Step own)) }
     {
-        let part = first_part(view.firsts, k)?;
+        let part = first_part(view.firsts, k);
         let puts = self.puts_of_let(alloc, view, node, k, part)?;
         let rule = StepRule::Use(part.step);
         let env = copied(alloc, part.env.as_slice())?;
@@ -152,6 +153,7 @@ impl Writer {
         k: usize,
         part: &FirstPart,
     ) -> Result<Puts, Memory>
+        requires { HasFirst view.now.firsts.now view.now.known.now.lets view.now.posing.now k node }
         ensures none { part.now.env ≡ [] → IfOk result (λ puts. puts ≡ []) }
         ensures follow { IfOk result (FollowFrom part.now.variable) }
         ensures edges { part.now.env ≢ [] → IfOk result (ArePutsOfFirst self.now.laid.places view.now.posing.now
@@ -203,6 +205,7 @@ impl Writer {
         k: usize,
         second: usize,
     ) -> Result<Conclusion, Memory>
+        requires { HasFirst view.now.firsts.now view.now.known.now.lets view.now.posing.now k node }
         ensures lengthens { OnOk result (Lengthens self.old.laid self.new.laid) }
         ensures writes { (c : Constraint) (parts : ℕ → List ℕ) (j : ℕ) → IsSound self.old
             → HaveRisingFirsts view.now.firsts.now → HaveLowFirsts (length self.old.laid.book) view.now.firsts.now
@@ -210,7 +213,7 @@ impl Writer {
             view.now.globals.now view.now.firsts.now view.now.known.now.lets c view.now.posing.now parts node
             (form.Let k j second) self.old self.new (Step own)) }
     {
-        let part = first_part(view.firsts, k)?;
+        let part = first_part(view.firsts, k);
         let puts = self.puts_in_let(alloc, view, node, k, part)?;
         let inner = self.settled(alloc, view, second, puts.as_slice())?;
         let met = self.meets(alloc, part.env.as_slice(), inner.env.as_slice())?;

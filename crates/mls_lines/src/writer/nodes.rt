@@ -71,9 +71,6 @@ impl Writer {
         ensures { IfOk result (λ id. get_or self.now.laid.own.records state None ≡ Some id) }
     {
         let id = self.laid.record(state).ok_or(Memory)?;
-        if id.0 >= self.laid.book.len() {
-            return Err(Memory);
-        }
         Ok(id)
     }
 

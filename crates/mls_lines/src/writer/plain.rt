@@ -3,6 +3,7 @@
 ghost use Rattle.std.specs.Prelude.{ℕ, List, length, IfOk, OnOk};
 ghost use Rattle.mls_layout.specs.Parts.{Constraint};
 ghost use Rattle.mls_parts.specs.PosedGoals.{IsPosedAt};
+ghost use Rattle.mls_lines.specs.Found.{AreFound, IsFound};
 ghost use Rattle.mls_lines.specs.PlainLines.{HasOwnParts, HaveLowFirsts, HaveLowGlobals, HaveRisingFirsts, IsSound};
 ghost use Rattle.mls_lines.specs.PlainLines.{WritesNode};
 ghost use Rattle.mls_lines.specs.PlainParts.{CanWritePart, ConcludesNothing, WritesPart};
@@ -26,6 +27,8 @@ impl Writer {
         node: usize,
         form: &TermForm,
     ) -> Result<Concluded, Memory>
+        requires { IsFound view.now.globals.now view.now.firsts.now view.now.known.now.lets view.now.posing.now form.now
+            node }
         ensures lengthens { OnOk result (Lengthens self.old.laid self.new.laid) }
         ensures writes { (c : Constraint) (parts : ℕ → List ℕ) → IsSound self.old
             → HasOwnParts self.old c.automaton parts → HaveRisingFirsts view.now.firsts.now
@@ -71,6 +74,8 @@ impl Writer {
         nodes: &[TermNode],
         part: &[usize],
     ) -> Result<(), Memory>
+        requires { AreFound view.now.globals.now view.now.firsts.now view.now.known.now.lets view.now.posing.now nodes.now
+            part.now }
         ensures lengthens { OnOk result (Lengthens self.old.laid self.new.laid) }
         ensures writes { (c : Constraint) (parts : ℕ → List ℕ) → CanWritePart self.old.laid self.old.steps
             view.now.globals.now view.now.firsts.now c view.now.posing.now parts nodes.now part.now

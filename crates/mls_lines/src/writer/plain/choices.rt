@@ -1,5 +1,5 @@
 //! The plain lines of conditionals.
-ghost use Rattle.std.specs.Prelude.{◌≡◌, ℕ, List, IfOk, OnOk, Some};
+ghost use Rattle.std.specs.Prelude.{◌≡◌, ℕ, List, IfOk, IsSome, OnOk, Some};
 ghost use Rattle.std.specs.BTreeMap.{get};
 ghost use Rattle.std.specs.Ordering.{nat_cmp};
 ghost use Rattle.mls_term.specs.declared.term.TermForm.TheVariants as form;
@@ -18,13 +18,11 @@ use mls_parts::pose::Posing;
 use std::alloc::Global;
 
 // The state that the branches of a conditional go into.
-fn result_of(posing: &Posing, node: usize) -> Result<usize, Memory>
-    ensures { IfOk result (λ state. get nat_cmp posing.now.results node ≡ Some state) }
+fn result_of(posing: &Posing, node: usize) -> usize
+    requires { IsSome (get nat_cmp posing.now.results node) }
+    ensures { get nat_cmp posing.now.results node ≡ Some result }
 {
-    match posing.results.get(&node) {
-        None => Err(Memory),
-        Some(state) => Ok(*state),
-    }
+    posing.results[&node]
 }
 
 impl Writer {
@@ -64,6 +62,7 @@ impl Writer {
         first: usize,
         second: usize,
     ) -> Result<Conclusion, Memory>
+        requires { IsSome (get nat_cmp view.now.posing.now.results node) }
         ensures lengthens { OnOk result (Lengthens self.old.laid self.new.laid) }
         ensures writes { (c : Constraint) (parts : ℕ → List ℕ) → IsSound self.old
             → HasOwnParts self.old c.automaton parts
@@ -72,7 +71,7 @@ impl Writer {
             view.now.known.now.lets c view.now.posing.now parts node (form.If condition first second)
             self.old self.new (Step own)) }
     {
-        let state = result_of(view.posing, node)?;
+        let state = result_of(view.posing, node);
         let truth = self.laid.boolean;
         let into = self.place(state);
         let env = self.env_of_parts_of_choice(alloc, view, condition, first, second, into)?;

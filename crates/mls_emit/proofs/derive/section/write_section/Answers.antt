@@ -11,6 +11,7 @@ use Rattle.mls_sections.specs.KnownNames.{AreNameTypes}
 use Rattle.mls_emit.specs.Derivable.{names_read}
 use Rattle.mls_emit.specs.Drafts.{AreGlobalsIn, HavePlaces}
 use Rattle.mls_emit.proofs.KnownNames.{firsts_none}
+use Rattle.mls_emit.proofs.FoundNames.{no_firsts}
 use Rattle.mls_emit.proofs.PlacedNames.{globals_kept, no_globals}
 use Rattle.mls_lines.proofs.Lengthening.{longer_from}
 use Rattle.mls_emit.proofs.derive.section.write_section.Goals as goal
@@ -61,6 +62,7 @@ loop-root-init c = (
     come = come.start;
   },
   omega arith,
+  no_firsts c.add_globals.new.self.known.lets c.add_globals.new.self.firsts (subst (λ (lets : BTreeMap ℕ Scheme). IsEmpty lets) (sym c.add_globals.ensures.lets) c.in_ok-draft.ensures.begins.lets),
 )
 
 pub loop-root-preserved : goal.loop-root-preserved
@@ -80,6 +82,7 @@ loop-root-preserved c = (
         come = c.in_ok-add_root.ensures.come it.begun (c.loop-root.invariant.5 ∙ plain) it.come;
       },
   omega arith,
+  c.in_ok-add_root.ensures.firsts,
 )
 
 -- all parts have come

@@ -18,7 +18,7 @@ pub returns-clause-writes : goal.returns-clause-writes
 returns-clause-writes c = λ k parts j sound rise low.
     let w = c.args.self.now in
     let p = c.args.view.now.posing.now in
-    let part = c.in_ok-part.part.now in
+    let part = c.first_part-part.result.now in
     let puts : List Put = c.in_ok-puts.puts in
     let now = c.settled.new.self in
     let grown = c.meets.new.self in
@@ -29,13 +29,13 @@ returns-clause-writes c = λ k parts j sound rise low.
     (c.in_ok-inner.ensures.settles part.variable (subst (FollowFrom part.variable) (sym c.as_slice.ensures) c.in_ok-puts.ensures.follow) sound) in
     let met_in = subst (λ (d : List BinderNode). IsMetIn grown.laid.book d inner.env met) c.as_slice-2.ensures
     (subst (λ (d : List BinderNode). IsMetIn grown.laid.book c.as_slice-2.result.now d met) c.as_slice-3.ensures
-    (c.in_ok-met.ensures.meets (subst IsRising (sym c.as_slice-2.ensures) (rise c.args.k part c.in_ok-part.ensures)) (subst IsRising (sym c.as_slice-3.ensures) it.rising))) in
+    (c.in_ok-met.ensures.meets (subst IsRising (sym c.as_slice-2.ensures) (rise c.args.k part c.first_part-part.ensures)) (subst IsRising (sym c.as_slice-3.ensures) it.rising))) in
     let all_is : c.add_puts.new.puts ≡ inner.puts ++ puts = c.in_ok-add_puts.ensures ∙ ap (λ (l : List Put). inner.puts ++ l) c.as_slice-4.ensures in
     subst (λ (own : Conclusion). WritesNode c.args.view.now.globals.now c.args.view.now.firsts.now c.args.view.now.known.now.lets k p parts c.args.node (form.Let c.args.k j c.args.second) w new (Step own)) (sym c.with_puts.ensures)
     (subst (λ (l : List Put). WritesNode c.args.view.now.globals.now c.args.view.now.firsts.now c.args.view.now.known.now.lets k p parts c.args.node (form.Let c.args.k j c.args.second) w new (Step (record c.in_ok-own.own { puts = l }))) (sym all_is)
     (let_writes c.args.view.now.globals.now c.args.view.now.firsts.now c.args.view.now.known.now.lets k p parts c.args.node w sound c.args.k j c.args.second now grown new part puts inner c.in_ok-own.own met low
     (let_puts_low (length w.laid.book) w.laid.places p c.args.view.now.known.now.lets c.args.node c.args.k part.variable puts sound.places part.env c.in_ok-puts.ensures.none c.in_ok-puts.ensures.edges)
-    c.in_ok-part.ensures c.in_ok-puts.ensures.none c.in_ok-puts.ensures.edges it
+    c.first_part-part.ensures c.in_ok-puts.ensures.none c.in_ok-puts.ensures.edges it
     c.in_ok-met.ensures.grows met_in refl refl c.in_ok-own.ensures))
 
 pub returns-clause-lengthens : goal.returns-clause-lengthens

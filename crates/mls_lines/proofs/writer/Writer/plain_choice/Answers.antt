@@ -27,7 +27,7 @@ returns-clause-writes c = λ k parts sound have posed.
     let now = sound_grown w grown grows sound in
     let truth_low = there_low w.laid.book truth.0 node.Bool (λ no. absurd (cc)) have.is_boolean in
     let place = ap (λ (n : NodeId). n.0) c.place-into.ensures in
-    let top_low : top.0 < length w.laid.book = subst (λ n. n < length w.laid.book) (sym place) (sound.places c.in_ok-state.state) in
+    let top_low : top.0 < length w.laid.book = subst (λ n. n < length w.laid.book) (sym place) (sound.places c.result_of-state.result) in
     let low = three_low w grown p sound grows c.args.condition c.args.first c.args.second truth.0 top.0 c.in_ok-env.env joins truth_low top_low in
     let top_up = up w grown p sound grows top.0 top_low in
     let it = subst (λ (d : List BinderNode). BringsNode grown once c.args.condition d truth c.in_ok-asked.asked) c.as_slice.ensures
@@ -41,7 +41,7 @@ returns-clause-writes c = λ k parts sound have posed.
     (c.in_ok-no.ensures.brings (subst IsRising (sym c.as_slice-3.ensures) rising) last_now (subst (HasLowEnv (length twice.laid.book)) (sym c.as_slice-3.ensures) (subst (λ (l : LaidOut). HasLowEnv (length l.book) c.in_ok-env.env) (sym (later.laid ∙ it.laid)) low))
     (subst (λ (l : LaidOut). top.0 < length l.book) (sym (later.laid ∙ it.laid)) top_up)) in
     choice_writes c.args.view.now.globals.now c.args.view.now.firsts.now c.args.view.now.known.now.lets k p parts c.args.node w sound grown once twice thrice _ grows c.args.condition c.args.first c.args.second truth top c.in_ok-env.env
-    c.in_ok-asked.asked c.in_ok-yes.yes c.in_ok-no.no it later latest c.in_ok-own.own refl refl c.in_ok-state.state posed c.in_ok-state.ensures have refl place joins c.in_ok-own.ensures
+    c.in_ok-asked.asked c.in_ok-yes.yes c.in_ok-no.no it later latest c.in_ok-own.own refl refl c.result_of-state.result posed c.result_of-state.ensures have refl place joins c.in_ok-own.ensures
 
 pub returns-clause-lengthens : goal.returns-clause-lengthens
 returns-clause-lengthens c =

@@ -16,7 +16,7 @@ returns-clause-grows c = record {
 
 pub returns-clause-joins : goal.returns-clause-joins
 returns-clause-joins c = λ is. record {
-  first = c.in_ok-first.first;
-  copy = c.in_ok-first.ensures;
+  first = c.copy_at-first.result;
+  copy = c.copy_at-first.ensures;
   joins = c.in_ok-puts.ensures.joins is;
 }

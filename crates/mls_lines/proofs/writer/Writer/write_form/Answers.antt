@@ -1,5 +1,21 @@
+use Rattle.std.proofs.Common.{subst}
+use Rattle.mls_term.specs.declared.term.TermForm.{TermForm}
+use Rattle.mls_lines.specs.Found.{IsFound}
 use Rattle.mls_lines.proofs.Lengthening.{lengthens_itself, stepped_kept, stepped_long}
 use Rattle.mls_lines.proofs.writer.Writer.write_form.Goals as goal
+
+-- what is looked up is found
+pub inner-requires : goal.inner-requires
+inner-requires c =
+    subst (λ (f : TermForm). IsFound c.args.view.now.globals.now c.args.view.now.firsts.now c.args.view.now.known.now.lets c.args.view.now.posing.now f c.args.node) c.in-Inner.is c.requires
+
+pub global-requires : goal.global-requires
+global-requires c =
+    subst (λ (f : TermForm). IsFound c.args.view.now.globals.now c.args.view.now.firsts.now c.args.view.now.known.now.lets c.args.view.now.posing.now f c.args.node) c.in-Global.is c.requires
+
+pub let_in-requires : goal.let_in-requires
+let_in-requires c =
+    subst (λ (f : TermForm). IsFound c.args.view.now.globals.now c.args.view.now.firsts.now c.args.view.now.known.now.lets c.args.view.now.posing.now f c.args.node) c.in-Let.is c.requires
 
 pub returns-in-Bound : goal.returns-in-Bound
 returns-in-Bound c = lengthens_itself c.args.self.now.laid

@@ -5,9 +5,27 @@ use Rattle.mls_term.specs.declared.term.TermForm.TheVariants as form
 use Rattle.mls_parts.specs.PosedGoals.{IsPosedAt}
 use Rattle.mls_lines.specs.declared.writer.Concluded.TheVariants.{Bound}
 use Rattle.mls_lines.specs.PlainLines.{WritesNode}
+use Rattle.mls_lines.specs.Found.{IsFound}
 use Rattle.mls_lines.proofs.PlainForms.{leaf_of, number_writes, truth_writes, bound_writes, stepped_is}
 use Rattle.mls_lines.proofs.Lengthening.{lengthens_itself, stepped_kept, stepped_long}
 use Rattle.mls_lines.proofs.writer.Writer.write_plain_form.Goals as goal
+
+-- what is looked up is found
+pub inner-requires : goal.inner-requires
+inner-requires c =
+    subst (λ (f : TermForm). IsFound c.args.view.now.globals.now c.args.view.now.firsts.now c.args.view.now.known.now.lets c.args.view.now.posing.now f c.args.node) c.in-Inner.is c.requires
+
+pub global-requires : goal.global-requires
+global-requires c =
+    subst (λ (f : TermForm). IsFound c.args.view.now.globals.now c.args.view.now.firsts.now c.args.view.now.known.now.lets c.args.view.now.posing.now f c.args.node) c.in-Global.is c.requires
+
+pub plain_choice-requires : goal.plain_choice-requires
+plain_choice-requires c =
+    subst (λ (f : TermForm). IsFound c.args.view.now.globals.now c.args.view.now.firsts.now c.args.view.now.known.now.lets c.args.view.now.posing.now f c.args.node) c.in-If.is c.requires
+
+pub let_in-requires : goal.let_in-requires
+let_in-requires c =
+    subst (λ (f : TermForm). IsFound c.args.view.now.globals.now c.args.view.now.firsts.now c.args.view.now.known.now.lets c.args.view.now.posing.now f c.args.node) c.in-Let.is c.requires
 
 pub returns-in-Bound-clause-writes : goal.returns-in-Bound-clause-writes
 returns-in-Bound-clause-writes c = λ k parts sound have rise firsts_low globals_low posed.

@@ -9,7 +9,14 @@ use Rattle.mls_allowed.specs.MadeFirsts.{IsPartLaidOut}
 use Rattle.mls_lines.specs.PlainParts.{CanWritePart, WritesWhole, type_binders}
 use Rattle.mls_lines.proofs.Growing.{longer_then}
 use Rattle.mls_emit.specs.declared.derive.section.Draft.{Draft}
+use Rattle.mls_emit.proofs.FoundNames.{found_in}
 use Rattle.mls_emit.proofs.derive.section.Draft.add_lines.Goals as goal
+
+-- the part is laid out, and what is looked up is still found
+pub write-requires-clause-found : goal.write-requires-clause-found
+write-requires-clause-found c =
+    let kept = c.laid_out.ensures.kept in
+    found_in c.args.self.now c.laid_out.new.self (λ n. (kept n).known) (λ n. (kept n).firsts) (λ n. (kept n).globals) c.args.nodes.now c.args.list.now c.args.solved.posing c.requires.found
 
 pub returns-clause-longer : goal.returns-clause-longer
 returns-clause-longer c = longer_then c.args.self.now.book c.in_ok-laid.laid.book c.write.new.self.book c.in_ok-laid.ensures.longer c.in_ok-step.ensures.longer

@@ -1,5 +1,6 @@
 use Rattle.std.proofs.Common.{◌≡◌, ◌∙◌, ◌<◌, ◌≤◌, ℕ, List, length, ap, subst, sym, arith}
 use Rattle.std.proofs.lemmas.Result.{on_ok_weaker}
+use Rattle.std.specs.Prelude.{Contains}
 use Rattle.mls_automaton.specs.Sets.{Rises}
 use Rattle.mls_parts.specs.declared.pose.KnownTypes.{KnownTypes}
 use Rattle.mls_parts.specs.PartUses.{KnowTypes}
@@ -17,6 +18,7 @@ use Rattle.mls_emit.proofs.KnownNames.{before_more, before_same, know_types}
 use Rattle.mls_solver.proofs.Answered.{always_ok}
 use Rattle.mls_layout.specs.LaidOut.{IsLonger}
 use Rattle.mls_lines.proofs.Growing.{longer_then}
+use Rattle.mls_emit.proofs.FoundNames.{all_found, found_in, kept_firsts, one_first}
 use Rattle.mls_emit.proofs.derive.section.Draft.add_part.Goals as goal
 
 -- `parts_of` gives the nodes of a part in order
@@ -45,6 +47,39 @@ add_lines-requires-clause-list c = subst (λ (xs : List ℕ). 0 < length xs) (sy
 
 pub add_lines-requires-clause-places : goal.add_lines-requires-clause-places
 add_lines-requires-clause-places c = c.in_ok-at.ensures.places
+
+-- what is looked up for the nodes of the part is found
+pub add_lines-requires-clause-found : goal.add_lines-requires-clause-found
+add_lines-requires-clause-found c =
+    let old = c.args.self.now in
+    let own = c.in_ok-solved.solved in
+    let kept = c.type_of.ensures.kept in
+    found_in old c.type_of.new.self (ap (λ (d : Draft). d.known) kept) (ap (λ (d : Draft). d.firsts) kept) (ap (λ (d : Draft). d.globals) kept) c.args.nodes.now c.as_slice-list.result.now own.posing
+    (all_found c.args.nodes.now old.globals old.firsts old.known c.as_slice-list.result.now own.posing own.solution own.around c.requires.places c.requires.firsts
+    (λ i there. (c.requires.part.only i (subst (λ (xs : List ℕ). Contains xs i) c.as_slice-list.ensures there)).0) c.in_ok-solved.ensures)
+
+-- each let that is known has its first part
+pub returns-in-Some-clause-firsts : goal.returns-in-Some-clause-firsts
+returns-in-Some-clause-firsts c =
+    let old = c.args.self.now in
+    let made = c.type_of.new.self in
+    let wrote = c.add_lines.new.self in
+    let new = c.add_first.new.self in
+    let at = c.in_ok-at.at in
+    let typed = c.type_of.ensures.kept in
+    let written = c.add_lines.ensures.kept in
+    let have =
+    kept_firsts old wrote ((ap (λ (d : Draft). d.known) written) ∙ (ap (λ (d : Draft). d.known) typed)) ((ap (λ (d : Draft). d.firsts) written) ∙ (ap (λ (d : Draft). d.firsts) typed)) c.requires.firsts in
+    on_ok_weaker c.add_first.result
+    (λ (names : NamesFirst (so_far wrote) (so_far new) c.in-Some.k c.in_ok-step.step old.variable at.scheme at.places).
+    one_first wrote.known.lets new.known.lets wrote.firsts new.firsts c.in-Some.k at.scheme _ have names.knows.updates names.firsts)
+    c.add_first.ensures.first
+
+pub returns-in-None-clause-firsts : goal.returns-in-None-clause-firsts
+returns-in-None-clause-firsts c =
+    let typed = c.type_of.ensures.kept in
+    let written = c.add_lines.ensures.kept in
+    kept_firsts c.args.self.now c.add_lines.new.self ((ap (λ (d : Draft). d.known) written) ∙ (ap (λ (d : Draft). d.known) typed)) ((ap (λ (d : Draft). d.firsts) written) ∙ (ap (λ (d : Draft). d.firsts) typed)) c.requires.firsts
 
 -- the type of a first part is known now
 pub returns-in-Some-clause-known : goal.returns-in-Some-clause-known

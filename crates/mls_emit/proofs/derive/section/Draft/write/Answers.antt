@@ -16,7 +16,14 @@ use Rattle.mls_lines.proofs.LowNodes.{below_longer}
 use Rattle.mls_lines.specs.PlainParts.{CanWritePart, WritesPart, WritesWhole, type_binders}
 use Rattle.mls_layout.specs.LaidOut.{IsLonger}
 use Rattle.mls_lines.proofs.WholeParts.{at_end, binders_low, binders_rising, whole_writes}
+use Rattle.mls_emit.proofs.FoundNames.{found_in}
 use Rattle.mls_emit.proofs.derive.section.Draft.write.Goals as goal
+
+-- what is looked up is found where the steps are taken out
+pub write_nodes-requires : goal.write_nodes-requires
+write_nodes-requires c =
+    let kept = c.writer-writer.ensures.kept in
+    record { found = found_in c.args.self.now c.writer-writer.new.self (λ n. (kept n).known) (λ n. (kept n).firsts) (λ n. (kept n).globals) c.args.nodes.now c.args.part.now c.args.posing.now c.requires.found }
 
 pub returns-clause-lines : goal.returns-clause-lines
 returns-clause-lines c = λ k parts way can low.
