@@ -53,22 +53,6 @@ fn raised_node(alloc: Global, node: &Node, up: usize) -> Result<Node, Memory>
     }
 }
 
-/// Adds a node that may stand next.
-///
-/// # Errors
-///
-/// `Memory` where memory is wanting, and where the node may not stand there.
-pub fn push_checked(book: &mut Book, node: Node) -> Result<NodeId, Memory>
-    ensures ok { OnOk result (book.new ≡ book.old ++ node ∷ []) }
-    ensures number { IfOk result (λ id. id.0 ≡ length book.old) }
-{
-    if !book.can_push(&node) {
-        return Err(Memory);
-    }
-    let id = book.push(node)?;
-    Ok(id)
-}
-
 /// Adds a copy of a book, and answers the number of its first node.
 ///
 /// # Errors

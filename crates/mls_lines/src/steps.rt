@@ -30,6 +30,16 @@ pub struct Conclusion {
     pub puts: Puts,
 }
 
+impl Conclusion {
+    /// The type, where no variable is left to be put in.
+    pub fn own_type(&self) -> Option<NodeId> {
+        match self.puts.is_empty() {
+            true => Some(self.root),
+            false => None,
+        }
+    }
+}
+
 /// The lines of a section so far, and how many steps they have.
 #[derive(Drop)]
 pub struct Steps {

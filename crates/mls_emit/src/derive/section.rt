@@ -384,6 +384,8 @@ impl Draft {
             root: StateId(root),
         };
         let pairs = walk_of(alloc, &general, &at.scheme)?;
+        // The solved constraint takes much memory, and serves nothing any more.
+        drop(general);
         let book = replace_book(&mut self.book, alloc);
         lay_out(
             alloc,

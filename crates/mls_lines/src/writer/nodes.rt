@@ -160,10 +160,7 @@ impl Writer {
     pub fn concluded_type(&self, node: usize) -> Result<Option<NodeId>, Memory> {
         match self.concluded_at(node)? {
             Concluded::Bound(_) => Ok(None),
-            Concluded::Step(of) => match of.puts.is_empty() {
-                true => Ok(Some(of.root)),
-                false => Ok(None),
-            },
+            Concluded::Step(of) => Ok(of.own_type()),
         }
     }
 
@@ -185,7 +182,7 @@ impl Writer {
     pub fn placed_type(&self, view: &PartView, node: usize) -> Result<Option<NodeId>, Memory> {
         match self.concluded_at(node)? {
             Concluded::Bound(x) => Ok(Some(self.place(view.posing.binder(*x)))),
-            Concluded::Step(_) => self.concluded_type(node),
+            Concluded::Step(of) => Ok(of.own_type()),
         }
     }
 

@@ -8,7 +8,6 @@ ghost use Rattle.mls_lines.specs.PlainLines.{IsSound};
 ghost use Rattle.mls_lines.specs.PlainRecords.{AreFieldsOf, BringsParts, JoinsParts};
 ghost use Rattle.mls_lines.specs.Writer.{Grows, HasLowEnv, HaveRisingSteps, Lengthens};
 
-use crate::copies::push_checked;
 use crate::steps::Conclusion;
 use crate::writer::nodes::behind;
 use crate::writer::{PartView, Writer};
@@ -52,6 +51,14 @@ fn numbers_of(alloc: Global, parts: &[Part]) -> Result<BTreeMap<&[u8], usize>, M
     Ok(numbers)
 }
 
+// The node of the part at the label of a field, or its own where no part is there.
+fn node_of_part(numbers: &BTreeMap<&[u8], usize>, nodes: &[NodeId], field: &Field) -> NodeId {
+    match numbers.get(field.label.bytes()) {
+        Some(number) => nodes.get(*number).copied().unwrap_or(field.node),
+        None => field.node,
+    }
+}
+
 // The labels of these fields with the nodes of the parts at these labels.
 fn with_nodes(
     alloc: Global,
@@ -62,10 +69,9 @@ fn with_nodes(
     let numbers = numbers_of(alloc, parts)?;
     let mut own = Fields::new(alloc);
     for field in fields.as_slice() {
-        let number = *numbers.get(field.label.bytes()).ok_or(Memory)?;
         own.push(Field {
             label: field.label.clone()?,
-            node: *nodes.get(number).ok_or(Memory)?,
+            node: node_of_part(&numbers, nodes, field),
         })?;
     }
     Ok(own)
@@ -139,7 +145,8 @@ impl Writer {
         Ok(own)
     }
 
-    // The record of these labels, where the parts have these types.
+    // The record of these labels, where the parts have these types. A node that is no such record stays: the check refuses
+    // its lines.
     fn own_record(
         &mut self,
         alloc: Global,
@@ -150,13 +157,17 @@ impl Writer {
         ensures { OnOk result (Lengthens self.old.laid self.new.laid) }
     {
         if record.0 >= self.laid.book.len() {
-            return Err(Memory);
+            return Ok(record);
         }
         let node = match self.laid.book.node(record) {
             Node::Rcd(fields) => Node::Rcd(with_nodes(alloc, fields, parts, own)?),
-            _ => return Err(Memory),
+            _ => return Ok(record),
         };
-        push_checked(&mut self.laid.book, node)
+        if !self.laid.book.can_push(&node) {
+            return Ok(record);
+        }
+        let id = self.laid.book.push(node)?;
+        Ok(id)
     }
 
     /// The steps of the parts of a record at these types.
