@@ -29,6 +29,20 @@ impl<T: Drop> List<T> {
         }
     }
 
+    /// The items of a vector.
+    pub fn of(items: Vec<T>) -> List<T>
+        ensures { result ≡ items.items }
+    {
+        List { items }
+    }
+
+    /// The items as a vector, which gives them one by one.
+    pub fn into_vec(self) -> Vec<T>
+        ensures { result.items ≡ self }
+    {
+        self.items
+    }
+
     /// Adds an item at the end.
     ///
     /// # Errors

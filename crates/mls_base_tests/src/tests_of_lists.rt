@@ -12,6 +12,8 @@ fn holds_items_in_order(rt: HostRuntime) -> Result<(), Fail> {
     assert_eq!(rt; list.as_slice(), [3, 5].as_slice());
     list.reverse();
     assert_eq!(rt; list.as_slice(), [5, 3].as_slice());
-    assert_eq!(rt; list.reversed().len(), 2);
+    let mut items = list.reversed().into_vec();
+    items.push(7)?;
+    assert_eq!(rt; List::of(items).as_slice(), [3, 5, 7].as_slice());
     Ok(())
 }
