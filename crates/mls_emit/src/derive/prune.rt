@@ -6,8 +6,8 @@ use mls_book::book::{Book, Field, Fields, Node, NodeId};
 use mls_deriv::derivation::{
     BinderNode, BinderNodes, SectionLine, SectionLines, StepLine, StepRule,
 };
-use mls_deriv::steps::is_same;
 use std::alloc::Global;
+use std::mem;
 
 /// The nodes and the lines of a section.
 #[derive(Drop)]
@@ -118,16 +118,6 @@ struct Numbers {
     numbers: Vec<usize>,
 }
 
-// From so many binders on an environment is compared with the last one before its nodes are looked up.
-const LONG: usize = 8;
-
-// The last long environment, and the same one with the new numbers. Steps behind one another often have the same.
-#[derive(Drop)]
-struct LastEnv<'a> {
-    old: &'a [BinderNode],
-    new: BinderNodes,
-}
-
 impl Numbers {
     // The numbers of the nodes that serve follow each other.
     fn of(alloc: Global, serves: &[bool]) -> Result<Numbers, Memory> {
@@ -175,93 +165,42 @@ impl Numbers {
         }
     }
 
-    // An environment with the new numbers.
-    fn env<'a>(
-        &self,
-        alloc: Global,
-        last: &mut LastEnv<'a>,
-        env: &'a [BinderNode],
-    ) -> Result<BinderNodes, Memory> {
-        if env.len() < LONG {
-            return self.renumbered(alloc, env);
+    // Gives the nodes of an environment their new numbers.
+    fn renumber_env(&self, alloc: Global, env: &mut BinderNodes) {
+        let mut entries = mem::replace(env, BinderNodes::new(alloc)).into_vec();
+        for entry in entries.iter_mut() {
+            entry.node = self.at(entry.node);
         }
-        if !is_same(env, last.old) {
-            last.new = self.renumbered(alloc, env)?;
-            last.old = env;
-        }
-        Ok(last.new.clone()?)
+        *env = List::of(entries);
     }
 
-    fn renumbered(&self, alloc: Global, env: &[BinderNode]) -> Result<BinderNodes, Memory> {
-        let mut copy = BinderNodes::new(alloc);
-        copy.reserve(env.len())?;
-        for entry in env {
-            copy.push(BinderNode {
-                binder: entry.binder,
-                node: self.at(entry.node),
-            })?;
+    fn renumber_step(&self, alloc: Global, step: &mut StepLine) {
+        if let StepRule::Name(first) = step.rule {
+            step.rule = StepRule::Name(self.at(first));
         }
-        Ok(copy)
+        step.root = self.at(step.root);
+        self.renumber_env(alloc, &mut step.env);
     }
 
-    fn rule(&self, alloc: Global, rule: &StepRule) -> Result<StepRule, Memory> {
-        match rule {
-            StepRule::Var => Ok(StepRule::Var),
-            StepRule::Use(step) => Ok(StepRule::Use(*step)),
-            StepRule::Name(first) => Ok(StepRule::Name(self.at(*first))),
-            StepRule::Lit => Ok(StepRule::Lit),
-            StepRule::Fun(step) => Ok(StepRule::Fun(*step)),
-            StepRule::App(first, second) => Ok(StepRule::App(*first, *second)),
-            StepRule::Make(steps) => Ok(StepRule::Make(copied_steps(alloc, steps.as_slice())?)),
-            StepRule::Proj(step) => Ok(StepRule::Proj(*step)),
-            StepRule::If(asked, yes, no) => Ok(StepRule::If(*asked, *yes, *no)),
-            StepRule::Let(first, second) => Ok(StepRule::Let(*first, *second)),
-            StepRule::Rec(step) => Ok(StepRule::Rec(*step)),
-            StepRule::Sub(step) => Ok(StepRule::Sub(*step)),
-        }
-    }
-
-    fn step<'a>(
-        &self,
-        alloc: Global,
-        last: &mut LastEnv<'a>,
-        step: &'a StepLine,
-    ) -> Result<StepLine, Memory> {
-        Ok(StepLine {
-            node: step.node,
-            rule: self.rule(alloc, &step.rule)?,
-            env: self.env(alloc, last, step.env.as_slice())?,
-            root: self.at(step.root),
-        })
-    }
-
-    fn line<'a>(
-        &self,
-        alloc: Global,
-        last: &mut LastEnv<'a>,
-        line: &'a SectionLine,
-    ) -> Result<SectionLine, Memory> {
+    fn renumber_line(&self, alloc: Global, line: &mut SectionLine) {
         match line {
-            SectionLine::Let(k, step) => Ok(SectionLine::Let(*k, *step)),
-            SectionLine::Step(step) => Ok(SectionLine::Step(self.step(alloc, last, step)?)),
-            SectionLine::Put(variable, id) => Ok(SectionLine::Put(*variable, self.at(*id))),
-            SectionLine::Pair(mode, left, right) => {
-                Ok(SectionLine::Pair(*mode, self.at(*left), self.at(*right)))
+            SectionLine::Let(_, _) => {}
+            SectionLine::Step(step) => self.renumber_step(alloc, step),
+            SectionLine::Put(_, id) => *id = self.at(*id),
+            SectionLine::Pair(_, left, right) => {
+                *left = self.at(*left);
+                *right = self.at(*right);
             }
         }
     }
 
-    fn lines(&self, alloc: Global, lines: &[SectionLine]) -> Result<SectionLines, Memory> {
-        let mut copies = SectionLines::new(alloc);
-        copies.reserve(lines.len())?;
-        let mut last = LastEnv {
-            old: &[],
-            new: BinderNodes::new(alloc),
-        };
-        for line in lines {
-            copies.push(self.line(alloc, &mut last, line)?)?;
+    // The lines with the new numbers of their nodes, in the memory that they have.
+    fn renumbered(&self, alloc: Global, lines: SectionLines) -> SectionLines {
+        let mut items = lines.into_vec();
+        for line in items.iter_mut() {
+            self.renumber_line(alloc, line);
         }
-        Ok(copies)
+        List::of(items)
     }
 
     // The nodes that serve. One that may not stand behind those before it is left out: the check refuses such lines.
@@ -279,15 +218,6 @@ impl Numbers {
     }
 }
 
-fn copied_steps(alloc: Global, steps: &[usize]) -> Result<List<usize>, Memory> {
-    let mut copy = List::new(alloc);
-    copy.reserve(steps.len())?;
-    for step in steps {
-        copy.push(*step)?;
-    }
-    Ok(copy)
-}
-
 /// A section whose nodes are the first nodes of a book, so many, and those that the lines need.
 ///
 /// # Errors
@@ -296,14 +226,14 @@ fn copied_steps(alloc: Global, steps: &[usize]) -> Result<List<usize>, Memory> {
 pub(crate) fn pruned(
     alloc: Global,
     book: &Book,
-    lines: &[SectionLine],
+    lines: SectionLines,
     fixed: usize,
 ) -> Result<Written, Memory> {
-    let marks = marks_of(alloc, book, lines, fixed)?;
+    let marks = marks_of(alloc, book, lines.as_slice(), fixed)?;
     let serves = marks.serves.as_slice();
     let numbers = Numbers::of(alloc, serves)?;
     Ok(Written {
         book: numbers.book(alloc, book, serves)?,
-        lines: numbers.lines(alloc, lines)?,
+        lines: numbers.renumbered(alloc, lines),
     })
 }

@@ -753,7 +753,7 @@ pub(crate) fn write_section(
     } = draft;
     *schemes = known.globals;
     match way {
-        Way::Short => pruned(alloc, &book, steps.lines.as_slice(), fixed),
+        Way::Short => pruned(alloc, &book, steps.lines, fixed),
         Way::Plain => Ok(Written {
             book,
             lines: steps.lines,
