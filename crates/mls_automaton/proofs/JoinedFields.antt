@@ -2,7 +2,6 @@
 use Rattle.std.proofs.Common.{◌≡◌, ◌↔◌, ◌⊎◌, inl, inr, ℕ, zero, suc, ◌<◌, ◌≤◌, ◌+◌, Bool, true, false, Option, Some, None, List, [], ◌∷◌, ◌++◌, refl, sym, ap, ◌∙◌, subst, arith, length, get_or, Contains, cond}
 use Rattle.std.specs.Prelude.{find, option_map, bytes_eq}
 use Rattle.std.specs.Ordering.{nat_cmp}
-use Rattle.std.specs.declared.cmp.Ordering.{Ordering}
 use Rattle.std.specs.declared.cmp.Ordering.TheVariants.{Less, Equal, Greater}
 use Rattle.std.specs.Ordering.{is_eq, ordering_reverse}
 use Rattle.std.proofs.lemmas.Map.Text.{is_eq-slice_cmp}
@@ -244,17 +243,6 @@ merging-over p first second i j both is one other =
     subst (λ (xs : List FieldSet). IsJoined p xs second both) (take-all first i one) (subst (λ (xs : List FieldSet). IsJoined p (take i first) xs both) (take-all second j other) is.joined)
 
 -- what a comparison of two labels says
-pub order-at : (xs ys : List FieldSet) (i j : ℕ) (x y d e : FieldSet) (o : Ordering) → i < length xs → j < length ys → o ≡ slice_cmp nat_cmp (get_or xs i x).label (get_or ys j y).label → slice_cmp nat_cmp (get_or xs i d).label (get_or ys j e).label ≡ o
-order-at xs ys i j x y d e o low low' order =
-    let first : get_or xs i d ≡ get_or xs i x = get_or_default xs i d x low in
-    let second : get_or ys j e ≡ get_or ys j y = get_or_default ys j e y low' in
-    (λ k. slice_cmp nat_cmp (first k).label (second k).label) ∙ sym order
-
--- two fields that were read at their places, united
-pub united-at : (xs ys : List FieldSet) (i j : ℕ) (x y z : FieldSet) → j < length ys → x ≡ get_or xs i x → y ≡ get_or ys j y → IsUnited x y z → IsUnited (get_or xs i x) (get_or ys j x) z
-united-at xs ys i j x y z low is-x is-y it =
-    subst (λ (f : FieldSet). IsUnited (get_or xs i x) f z) (is-y ∙ get_or_default ys j y x low) (subst (λ (f : FieldSet). IsUnited f y z) is-x it)
-
 pub greater-less : (x y : List ℕ) → slice_cmp nat_cmp x y ≡ Greater → slice_cmp nat_cmp y x ≡ Less
 greater-less x y e = nat_list_cmp_total.antisymm y x ∙ ap ordering_reverse e
 

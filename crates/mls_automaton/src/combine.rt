@@ -1,33 +1,27 @@
 //! Combined heads.
-ghost use Rattle.std.specs.Prelude.{◌≡◌, ◌<◌, ◌+◌, ◌⊎◌, length, option_map, IfOk, OnOk, Some};
+ghost use Rattle.std.specs.Prelude.{◌≡◌, ◌<◌, ◌+◌, ◌⊎◌, List, length, option_map, IfOk, OnOk, Some};
 ghost use Rattle.mls_automaton.specs.Heads.{AreRising, combined_functions, combined_records, combined_two, parts_of};
 ghost use Rattle.mls_automaton.specs.Heads.{set_at, IsSameParts};
 ghost use Rattle.mls_automaton.specs.Models.{HasRisingLabels};
-ghost use Rattle.mls_automaton.specs.steps.Combining.{IsJoined, IsMerging, IsSameFunction, IsSameRecord, IsUnited};
-ghost use Rattle.mls_automaton.specs.steps.Combining.{with_one};
+ghost use Rattle.mls_automaton.specs.declared.automaton.FieldSet.{FieldSet as IsField};
+ghost use Rattle.mls_automaton.specs.steps.Combining.{IsJoined, IsLeft, IsNext, IsSameFunction, IsSameRecord, IsUnited};
+ghost use Rattle.mls_automaton.specs.steps.Combining.{TakesOne, TakesTwo};
 
 use crate::automaton::{Arms, FieldSet, FieldSets, Head, Polarity};
 use mls_base::memory::Memory;
-use mls_book::name::Name;
 use std::alloc::Global;
 use std::cmp::Ordering;
 
 // The function of the one, of the other, or of both with united sets.
-fn combine_functions(first: &Option<Arms>, second: &Option<Arms>) -> Result<Option<Arms>, Memory>
-    ensures { IfOk result (λ both. IsSameFunction both (combined_functions first.now second.now)) }
+fn combine_functions(first: Option<Arms>, second: Option<Arms>) -> Result<Option<Arms>, Memory>
+    ensures { IfOk result (λ both. IsSameFunction both (combined_functions first second)) }
 {
     match first {
-        None => {
-            let both = second.clone()?;
-            Ok(both)
-        }
+        None => Ok(second),
         Some(arms) => match second {
-            None => {
-                let arms = arms.clone()?;
-                Ok(Some(arms))
-            }
+            None => Ok(Some(arms)),
             Some(other) => {
-                let arms = unite_arms(arms, other)?;
+                let arms = unite_arms(&arms, &other)?;
                 Ok(Some(arms))
             }
         },
@@ -42,73 +36,88 @@ fn unite_arms(first: &Arms, second: &Arms) -> Result<Arms, Memory>
     Ok(Arms { domain, codomain })
 }
 
-fn copy_label(label: &Name) -> Result<Name, Memory>
-    ensures { IfOk result (λ copy. copy ≡ label.now) }
-{
-    let copy = label.clone()?;
-    Ok(copy)
-}
-
 // The field of two that have one label.
-fn unite_fields(first: &FieldSet, second: &FieldSet) -> Result<FieldSet, Memory>
-    ensures { IfOk result (IsUnited first.now second.now) }
+fn unite_fields(first: FieldSet, second: &FieldSet) -> Result<FieldSet, Memory>
+    ensures { IfOk result (IsUnited first second.now) }
 {
-    let label = copy_label(&first.label)?;
     let set = first.set.union(&second.set)?;
-    Ok(FieldSet { label, set })
+    Ok(FieldSet {
+        label: first.label,
+        set,
+    })
 }
 
-// Adds a field that one record alone has, where the polarity keeps it.
-fn add_one(both: &mut FieldSets, polarity: Polarity, field: &FieldSet) -> Result<(), Memory>
-    ensures { OnOk result (both.new ≡ with_one polarity both.old field.now) }
+// Which of the two next fields has the lower label, where the next field of a list is its last one. A list with none
+// counts as higher.
+fn next_of(first: &[FieldSet], second: &[FieldSet]) -> Ordering
+    requires left { (0 < length first.now) ⊎ (0 < length second.now) }
+    ensures { IsNext first.now second.now result }
 {
-    match polarity {
-        Polarity::Positive => Ok(()),
-        Polarity::Negative => {
-            let field = field.clone()?;
-            both.push(field)?;
-            Ok(())
-        }
+    if second.is_empty() {
+        return Ordering::Less;
     }
+    if first.is_empty() {
+        return Ordering::Greater;
+    }
+    first[first.len() - 1]
+        .label
+        .cmp(&second[second.len() - 1].label)
 }
 
-// Adds what has the least label of what is left of two records, and answers what is left then.
-fn merge_next(
+// Takes the next field of one record alone, and adds it where the polarity keeps it.
+fn take_one(
     both: &mut FieldSets,
     polarity: Polarity,
-    first: &[FieldSet],
-    second: &[FieldSet],
-    i: usize,
-    j: usize,
-) -> Result<(usize, usize), Memory>
-    requires first { AreRising first.now }
-    requires second { AreRising second.now }
-    requires merging { IsMerging polarity first.now second.now i j both.old }
-    requires left { (i < length first.now) ⊎ (j < length second.now) }
-    ensures merging { IfOk result (λ next. IsMerging polarity first.now second.now next.0 next.1 both.new) }
-    ensures more { IfOk result (λ next. i + j < next.0 + next.1) }
+    rest: &mut Vec<FieldSet>,
+) -> Result<(), Memory>
+    requires { 0 < length rest.old.items }
+    ensures { OnOk result (TakesOne polarity rest.old.items rest.new.items both.old both.new) }
 {
-    if j == second.len() {
-        add_one(both, polarity, &first[i])?;
-        return Ok((i + 1, j));
+    if let Some(field) = rest.pop() {
+        if polarity == Polarity::Negative {
+            both.push(field)?;
+        }
     }
-    if i == first.len() {
-        add_one(both, polarity, &second[j])?;
-        return Ok((i, j + 1));
+    Ok(())
+}
+
+// Takes the next fields of both records, which have one label.
+fn take_two(
+    both: &mut FieldSets,
+    first: &mut Vec<FieldSet>,
+    second: &mut Vec<FieldSet>,
+) -> Result<(), Memory>
+    requires first { 0 < length first.old.items }
+    requires second { 0 < length second.old.items }
+    ensures { OnOk result (TakesTwo first.old.items first.new.items second.old.items second.new.items both.old
+        both.new) }
+{
+    if let Some(field) = first.pop() {
+        if let Some(other) = second.pop() {
+            both.push(unite_fields(field, &other)?)?;
+        }
     }
-    match first[i].label.cmp(&second[j].label) {
-        Ordering::Less => {
-            add_one(both, polarity, &first[i])?;
-            Ok((i + 1, j))
-        }
-        Ordering::Greater => {
-            add_one(both, polarity, &second[j])?;
-            Ok((i, j + 1))
-        }
-        Ordering::Equal => {
-            both.push(unite_fields(&first[i], &second[j])?)?;
-            Ok((i + 1, j + 1))
-        }
+    Ok(())
+}
+
+// Takes what has the least label of what is left of two records.
+fn take_next(
+    both: &mut FieldSets,
+    polarity: Polarity,
+    first: &mut Vec<FieldSet>,
+    second: &mut Vec<FieldSet>,
+) -> Result<(), Memory>
+    requires left { (0 < length first.old.items) ⊎ (0 < length second.old.items) }
+    ensures merging { (one other : List IsField) → AreRising one → AreRising other
+        → IsLeft polarity one other first.old.items second.old.items both.old
+        → OnOk result (IsLeft polarity one other first.new.items second.new.items both.new) }
+    ensures fewer { OnOk result (length first.new.items + length second.new.items
+        < length first.old.items + length second.old.items) }
+{
+    match next_of(first.as_slice(), second.as_slice()) {
+        Ordering::Less => take_one(both, polarity, first),
+        Ordering::Greater => take_one(both, polarity, second),
+        Ordering::Equal => take_two(both, first, second),
     }
 }
 
@@ -116,18 +125,18 @@ fn merge_next(
 fn merge_fields(
     alloc: Global,
     polarity: Polarity,
-    first: &[FieldSet],
-    second: &[FieldSet],
+    first: FieldSets,
+    second: FieldSets,
 ) -> Result<FieldSets, Memory>
-    requires first { AreRising first.now }
-    requires second { AreRising second.now }
-    ensures { IfOk result (IsJoined polarity first.now second.now) }
+    requires first { AreRising first }
+    requires second { AreRising second }
+    ensures { IfOk result (IsJoined polarity first second) }
 {
+    let mut one = first.reversed();
+    let mut other = second.reversed();
     let mut both = FieldSets::new(alloc);
-    let mut i = 0;
-    let mut j = 0;
-    while i < first.len() || j < second.len() {
-        (i, j) = merge_next(&mut both, polarity, first, second, i, j)?;
+    while !one.is_empty() || !other.is_empty() {
+        take_next(&mut both, polarity, &mut one, &mut other)?;
     }
     Ok(both)
 }
@@ -136,35 +145,63 @@ fn merge_fields(
 fn combine_records(
     alloc: Global,
     polarity: Polarity,
-    first: &Option<FieldSets>,
-    second: &Option<FieldSets>,
+    first: Option<FieldSets>,
+    second: Option<FieldSets>,
 ) -> Result<Option<FieldSets>, Memory>
-    requires first { HasRisingLabels first.now }
-    requires second { HasRisingLabels second.now }
+    requires first { HasRisingLabels first }
+    requires second { HasRisingLabels second }
     ensures labels { IfOk result HasRisingLabels }
     ensures fields { IfOk result (λ both. IsSameRecord (option_map set_at both)
-        (combined_records polarity (option_map set_at first.now) (option_map set_at second.now))) }
+        (combined_records polarity (option_map set_at first) (option_map set_at second))) }
 {
     match first {
-        None => {
-            let both = second.clone()?;
-            Ok(both)
-        }
+        None => Ok(second),
         Some(fields) => match second {
-            None => {
-                let fields = fields.clone()?;
-                Ok(Some(fields))
-            }
+            None => Ok(Some(fields)),
             Some(others) => {
-                let both = merge_fields(alloc, polarity, fields.as_slice(), others.as_slice())?;
+                let both = merge_fields(alloc, polarity, fields, others)?;
                 Ok(Some(both))
             }
         },
     }
 }
 
-/// The combined head of two: what one of them has is there; where both have it, sets are united. Of two records, a
-/// positive head has the labels of both, and a negative head the labels of one of them.
+/// The combined head of two, made of their parts: what one of them has is there; where both have it, sets are united. Of
+/// two records, a positive head has the labels of both, and a negative head the labels of one of them.
+///
+/// # Errors
+///
+/// `Memory` where memory is wanting.
+pub fn unite_heads(
+    alloc: Global,
+    polarity: Polarity,
+    first: Head,
+    second: Head,
+) -> Result<Head, Memory>
+    requires first { HasRisingLabels first.fields }
+    requires second { HasRisingLabels second.fields }
+    ensures parts { IfOk result (λ head. IsSameParts (parts_of head)
+        (combined_two polarity (parts_of first) (parts_of second))) }
+    ensures labels { IfOk result (λ head. HasRisingLabels head.fields) }
+{
+    let function = combine_functions(first.function, second.function)?;
+    let fields = combine_records(alloc, polarity, first.fields, second.fields)?;
+    Ok(Head {
+        boolean: first.boolean || second.boolean,
+        integer: first.integer || second.integer,
+        function,
+        fields,
+    })
+}
+
+fn copied_head(head: &Head) -> Result<Head, Memory>
+    ensures { IfOk result (λ copy. copy ≡ head.now) }
+{
+    let copy = head.clone()?;
+    Ok(copy)
+}
+
+/// The same of heads that stay.
 ///
 /// # Errors
 ///
@@ -181,12 +218,7 @@ pub fn combine_heads(
         (combined_two polarity (parts_of first.now) (parts_of second.now))) }
     ensures labels { IfOk result (λ head. HasRisingLabels head.fields) }
 {
-    let function = combine_functions(&first.function, &second.function)?;
-    let fields = combine_records(alloc, polarity, &first.fields, &second.fields)?;
-    Ok(Head {
-        boolean: first.boolean || second.boolean,
-        integer: first.integer || second.integer,
-        function,
-        fields,
-    })
+    let one = copied_head(first)?;
+    let other = copied_head(second)?;
+    unite_heads(alloc, polarity, one, other)
 }

@@ -17,7 +17,7 @@ ghost use Rattle.mls_biunify.specs.steps.Tables.{HoldsThere, IsNumbered};
 use crate::relation::Relation;
 use crate::table::Table;
 use mls_automaton::automaton::{Head, Polarity};
-use mls_automaton::combine::combine_heads;
+use mls_automaton::combine::unite_heads;
 use mls_automaton::state_set::{StateId, StateSet};
 use mls_base::memory::Memory;
 use mls_solver::materialise::copied_head;
@@ -112,15 +112,10 @@ fn combined_head(
     if members.len() == 1 {
         return copied_head(table.head(StateId(members[0])));
     }
-    if members.len() == 2 {
-        let first = table.head(StateId(members[0]));
-        let second = table.head(StateId(members[1]));
-        return combine_heads(alloc, polarity, first, second);
-    }
     let half = members.len() / 2;
     let first = combined_head(alloc, table, polarity, &members[..half])?;
     let second = combined_head(alloc, table, polarity, &members[half..])?;
-    combine_heads(alloc, polarity, &first, &second)
+    unite_heads(alloc, polarity, first, second)
 }
 
 // The new head of a state.

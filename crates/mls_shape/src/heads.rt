@@ -9,7 +9,7 @@ ghost use Rattle.mls_shape.specs.steps.NumberedHeads.{NumbersRecord, NumbersHead
 
 use crate::register::Register;
 use mls_automaton::automaton::{Arms, Automaton, FieldSet, FieldSets, Head, Polarity};
-use mls_automaton::combine::combine_heads;
+use mls_automaton::combine::unite_heads;
 use mls_automaton::state_set::{StateId, StateSet};
 use mls_base::memory::Memory;
 use mls_book::name::Name;
@@ -42,7 +42,7 @@ pub fn combined_head(
     let half = members.len() / 2;
     let first = combined_head(alloc, a, polarity, &members[..half])?;
     let second = combined_head(alloc, a, polarity, &members[half..])?;
-    combine_heads(alloc, polarity, &first, &second)
+    unite_heads(alloc, polarity, first, second)
 }
 
 /// The same head once more.

@@ -1,7 +1,6 @@
 -- Combined heads are put together from the combined heads of parts of a list.
 --     combined-append     the combined head of two lists, one behind the other
 --     same_parts-halves   what is put together of the heads of a front and of the rest has the same as the head of all
---     both_ok             the combined head of two states has the same as that of their list
 use Rattle.std.proofs.Common.{◌≡◌, inl, inr, ℕ, ◌-◌, ◌||◌, arith, get_or, length, Bool, true, false, List, [], ◌∷◌, ◌++◌, map, take, drop, refl, sym, ap, ◌∙◌, subst, append_assoc, Some, None, Contains}
 use Rattle.std.specs.Prelude.{Option, Result, Ok, Err, IfOk}
 use Rattle.std.proofs.Math.Seq.{take-length}
@@ -212,14 +211,3 @@ two-none p h = λ i. record {
   function = functions-none h.function i;
   fields = records-none p h.fields i;
 }
-
--- two states
-pub both_ok : {E : Type 0} (p : Polarity) (parts : ℕ → Parts) (xs : List ℕ) (d e : ℕ) (result : Result Head E) → length xs ≡ 2
-    → IfOk result (λ head. IsSameParts (parts_of head) (combined_two p (parts (get_or xs 0 d)) (parts (get_or xs 1 e))))
-    → IfOk result (λ head. IsSameParts (parts_of head) (combined p (map parts xs)))
-both_ok p parts [] d e result two it = absurd (omega arith)
-both_ok p parts (x ∷ []) d e result two it = absurd (omega arith)
-both_ok p parts (x ∷ y ∷ []) d e (Ok head) two it =
-    subst (λ k. IsSameParts (parts_of head) (combined_two p (parts x) k)) (sym (two-none p (parts y))) it
-both_ok p parts (x ∷ y ∷ []) d e (Err error) two it = tt
-both_ok p parts (x ∷ y ∷ z ∷ rest) d e result two it = absurd (omega arith)

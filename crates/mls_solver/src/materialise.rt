@@ -18,7 +18,7 @@ use crate::cells::Cells;
 use crate::goal::is_state;
 use crate::room::Room;
 use mls_automaton::automaton::{Automaton, Head, Polarity};
-use mls_automaton::combine::combine_heads;
+use mls_automaton::combine::unite_heads;
 use mls_automaton::state_set::StateId;
 use mls_base::memory::Memory;
 use std::alloc::Global;
@@ -181,7 +181,7 @@ pub(crate) fn combined_head(
     let half = members.len() / 2;
     let first = combined_head(alloc, a, polarity, &members[..half])?;
     let second = combined_head(alloc, a, polarity, &members[half..])?;
-    combine_heads(alloc, polarity, &first, &second)
+    unite_heads(alloc, polarity, first, second)
 }
 
 /// A copy of a head.

@@ -6,5 +6,5 @@ use Rattle.mls_shape.proofs.heads.+combined_head.Goals as goal
 
 pub returns-clause-parts : goal.returns-clause-parts
 returns-clause-parts n c =
-    halves_ok c.args.polarity (λ j. parts_of (head_at c.args.a.now j)) (length c.args.members.now / 2) c.args.members.now (parts_of c.in_ok-first.first) (parts_of c.in_ok-second.second) c.combine_heads.result
-    c.in_ok-first.ensures.parts c.in_ok-second.ensures.parts c.combine_heads.ensures.parts
+    halves_ok c.args.polarity (λ j. parts_of (head_at c.args.a.now j)) (length c.args.members.now / 2) c.args.members.now (parts_of c.in_ok-first.first) (parts_of c.in_ok-second.second) c.unite_heads.result
+    c.in_ok-first.ensures.parts c.in_ok-second.ensures.parts c.unite_heads.ensures.parts
