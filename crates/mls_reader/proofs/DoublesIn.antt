@@ -1,19 +1,13 @@
 -- The faults of what is given depend on which names were given before, not on their order.
-use Rattle.std.proofs.Common.{◌≡◌, ℕ, Bool, true, false, if◌then◌else◌, List, [], ◌∷◌, ◌++◌, refl, sym, ap, ◌∙◌, subst}
-use Rattle.std.specs.Prelude.{◌||◌, cond, not, bytes_eq, Option, Some, None}
+use Rattle.std.proofs.Common.{◌≡◌, ℕ, Bool, true, false, if◌then◌else◌, List, [], ◌∷◌, ◌++◌, refl, sym, ap, ◌∙◌}
+use Rattle.std.specs.Prelude.{◌||◌, not, bytes_eq}
 use Rattle.std.specs.List.{list_any}
-use Rattle.std.proofs.lemmas.Cmp.{nat_list_eq_equiv}
-use Rattle.std.proofs.lemmas.Map.Text.{is_eq-slice_cmp}
-use Rattle.std.proofs.lemmas.Slice.Eq.{bytes_eq-Decides}
-use Rattle.std.specs.BTreeSet.{BTreeSet, Updates}
-use Rattle.std.specs.Ordering.{nat_cmp, is_eq}
-use Rattle.std.specs.Cmp.Lexicographic.{slice_cmp}
 use Rattle.mls_grammar.specs.declared.fault.Fault.{Fault}
 use Rattle.mls_grammar.specs.declared.fault.Fault.TheVariants.{DuplicateBinding, DuplicateLabel, DuplicateImport}
 use Rattle.mls_reader.specs.declared.piece.Event.{Event}
 use Rattle.mls_reader.specs.declared.piece.Event.TheVariants as event
 use Rattle.mls_grammar.specs.Doubles.{if_seen}
-use Rattle.mls_reader.specs.steps.GivenTwice.{doubles_in, fault_before, fault_unless, names_of, HasSameNames, AddsLabel}
+use Rattle.mls_reader.specs.steps.GivenTwice.{doubles_in, fault_before, fault_unless, HasSameNames, AddsLabel}
 
 abbrev pub AllSame : List (List (List ℕ)) → List (List (List ℕ)) → Type 0
 AllSame [] [] = Unit {0}
@@ -29,71 +23,6 @@ all_same (xs ∷ xss) = (same xs, all_same xss)
 
 same-more : (x : List ℕ) (xs ys : List (List ℕ)) → HasSameNames xs ys → HasSameNames (x ∷ xs) (x ∷ ys)
 same-more x xs ys h = λ y. ap (λ b. bytes_eq y x || b) (h y)
-
--- a set has a name that is equal to one of its names
-pub has : (x : List ℕ) (xs : List (List ℕ)) → list_any (λ y. is_eq (slice_cmp nat_cmp x y)) xs ≡ list_any (bytes_eq x) xs
-has x xs = ap (λ (test : List ℕ → Bool). list_any test xs) (λ i y. is_eq-slice_cmp x y i)
-
--- a name that is added, or is there already
-pub same-added : (x : List ℕ) (old new : BTreeSet (List ℕ)) → Updates (slice_cmp nat_cmp) old new x true → HasSameNames (x ∷ old.keys) new.keys
-same-added x old new updates y =
-    sym (sym (has y new.keys)
-    ∙ (updates.0 y
-    ∙ ((λ i. cond ((is_eq-slice_cmp x y ∙ nat_list_eq_equiv.symm x y) i) true (has y old.keys i))
-    ∙ choice (bytes_eq y x) (list_any (bytes_eq y) old.keys))))
-  where
-    choice : (b other : Bool) → cond b true other ≡ (b || other)
-    choice true other = refl
-    choice false other = refl
-
--- where the others have a name, all have it
-pub among_others : (x : List ℕ) (first : Option (List ℕ)) (others : List (List ℕ)) → list_any (bytes_eq x) others ≡ true → list_any (bytes_eq x) (names_of first others) ≡ true
-among_others x None others h = h
-among_others x (Some f) others h = either (bytes_eq x f) (list_any (bytes_eq x) others) h
-  where
-    either : (b c : Bool) → c ≡ true → (b || c) ≡ true
-    either true c h = refl
-    either false c h = h
-
--- a name that is there already adds nothing
-pub nothing-added : (x : List ℕ) (xs : List (List ℕ)) → list_any (bytes_eq x) xs ≡ true → HasSameNames (x ∷ xs) xs
-nothing-added x xs there y = by_equal (bytes_eq y x) refl
-  where
-    by_equal : (b : Bool) → bytes_eq y x ≡ b → (bytes_eq y x || list_any (bytes_eq y) xs) ≡ list_any (bytes_eq y) xs
-    by_equal true e =
-        let same : y ≡ x = (bytes_eq-Decides y x).0 e in
-        ap (λ b. b || list_any (bytes_eq y) xs) e ∙ sym (ap (λ z. list_any (bytes_eq z) xs) same ∙ there)
-    by_equal false e = ap (λ b. b || list_any (bytes_eq y) xs) e
-
--- a name that is added to the others
-added-behind : (x first : List ℕ) (others more : List (List ℕ)) → HasSameNames (x ∷ others) more → HasSameNames (x ∷ first ∷ others) (first ∷ more)
-added-behind x first others more h y = swap (bytes_eq y x) (bytes_eq y first) (list_any (bytes_eq y) others) ∙ ap (λ b. bytes_eq y first || b) (h y)
-  where
-    swap : (a b c : Bool) → (a || (b || c)) ≡ (b || (a || c))
-    swap true true c = refl
-    swap true false c = refl
-    swap false true c = refl
-    swap false false c = refl
-
-pub bytes_eq-symm : (x y : List ℕ) → bytes_eq x y ≡ bytes_eq y x
-bytes_eq-symm x y = nat_list_eq_equiv.symm x y
-
--- a name that is not among the others is new where there is no first one
-pub new-among : (x : List ℕ) (first : Option (List ℕ)) (others names : List (List ℕ)) → first ≡ None → names_of first others ≡ names → list_any (bytes_eq x) others ≡ false → true ≡ not (list_any (bytes_eq x) names)
-new-among x first others names e is none =
-    sym (ap (λ ns. not (list_any (bytes_eq x) ns)) (sym is ∙ ap (λ f. names_of f others) e) ∙ ap not none)
-
--- nor is it known where the first one is another
-pub new-behind : (x : List ℕ) (first : Option (List ℕ)) (f : List ℕ) (others names : List (List ℕ)) (new : Bool) → first ≡ Some f → names_of first others ≡ names → bytes_eq x f ≡ false → new ≡ not (list_any (bytes_eq x) others) → new ≡ not (list_any (bytes_eq x) names)
-new-behind x first f others names new e is other fresh =
-    fresh ∙ sym (ap (λ ns. not (list_any (bytes_eq x) ns)) (sym is ∙ ap (λ f. names_of f others) e) ∙ ap (λ b. not (b || list_any (bytes_eq x) others)) other)
-
--- and it is added behind that one
-pub same-behind : (x : List ℕ) (first : Option (List ℕ)) (f : List ℕ) (others names more : List (List ℕ)) → first ≡ Some f → names_of first others ≡ names → HasSameNames (x ∷ others) more → HasSameNames (x ∷ names) (names_of first more)
-same-behind x first f others names more e is h =
-    let old : f ∷ others ≡ names = ap (λ f. names_of f others) (sym e) ∙ is in
-    let new : f ∷ more ≡ names_of first more = ap (λ f. names_of f more) (sym e) in
-    subst (λ ns. HasSameNames (x ∷ ns) (names_of first more)) old (subst (HasSameNames (x ∷ f ∷ others)) new (added-behind x f others more h))
 
 if_seen-same : (x : List ℕ) (fault : Fault) (xs ys : List (List ℕ)) → HasSameNames xs ys → if_seen xs x fault ≡ if_seen ys x fault
 if_seen-same x fault xs ys h = ap (λ b. if b then fault ∷ [] else []) (h x)

@@ -13,5 +13,6 @@ pub mod ReaderEnds
 pub mod ReaderLoops
 pub mod ReaderParts
 pub mod ReaderSteps
+pub mod RisingNames
 pub mod Spelled
 pub mod Telling

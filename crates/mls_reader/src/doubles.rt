@@ -1,68 +1,14 @@
 //! Names and labels that a module gives twice.
-ghost use Rattle.std.specs.Prelude.{◌≡◌, List, [], ◌∷◌, not, reverse, IfOk, OnOk, bytes_eq};
-ghost use Rattle.std.specs.List.{list_any};
+ghost use Rattle.std.specs.Prelude.{◌≡◌, List, [], ◌∷◌, reverse, IfOk, OnOk};
 ghost use Rattle.mls_reader.specs.declared.piece.Event.{Event as Next};
 ghost use Rattle.mls_reader.specs.steps.GivenTwice.{doubles_in, first_of, fault_before, fault_unless, AddsLabel};
-ghost use Rattle.mls_reader.specs.steps.GivenTwice.{HasSameNames};
 
+use crate::names::Names;
 use crate::piece::Event;
 use crate::spelling::Spelling;
 use mls_base::memory::Memory;
 use mls_grammar::fault::Fault;
 use std::alloc::Global;
-use std::collections::BTreeSet;
-use std::marker::Model;
-
-// Names that were given, each once. Contracts see them in a list. The first one stands alone, since most records have
-// few labels, and a set takes memory for more than one.
-#[derive(Drop)]
-struct Names<'a> {
-    first: Option<Spelling<'a>>,
-    others: BTreeSet<Spelling<'a>>,
-}
-
-impl<'a> Model for Names<'a> {
-    ghost use Rattle.std.specs.Prelude.{List, ℕ};
-    ghost use Rattle.mls_reader.specs.steps.GivenTwice.{names_of};
-
-    ghost Value = { List (List ℕ) };
-
-    ghost view = { λ names. names_of names.first names.others.keys };
-}
-
-impl<'a> Names<'a> {
-    // No name.
-    fn new(alloc: Global) -> Names<'a>
-        ensures { result ≡ [] }
-    {
-        Names {
-            first: None,
-            others: BTreeSet::new(alloc),
-        }
-    }
-
-    // Adds a name, and says whether it is new.
-    fn add(&mut self, name: Spelling<'a>) -> Result<bool, Memory>
-        ensures new { IfOk result (λ new. new ≡ not (list_any (bytes_eq name.entry) self.old)) }
-        ensures names { OnOk result (HasSameNames (name.entry ∷ self.old) self.new) }
-    {
-        match &self.first {
-            None => {
-                if self.others.contains(&name) {
-                    return Ok(false);
-                }
-                self.first = Some(name);
-                Ok(true)
-            }
-            Some(first) => {
-                if *first == name {
-                    return Ok(false);
-                }
-                Ok(self.others.insert(name)?)
-            }
-        }
-    }
-}
 
 // What was given so far: the imported modules, the bound names, and the labels of the records that are open, the
 // innermost record last.

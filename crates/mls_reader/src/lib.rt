@@ -2,6 +2,7 @@
 #![tactic(auto)]
 
 mod doubles;
+mod names;
 mod nodes;
 pub mod parse;
 mod piece;

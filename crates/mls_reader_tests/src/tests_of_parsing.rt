@@ -401,6 +401,49 @@ fn answers_what_is_given_twice(rt: HostRuntime) -> Result<(), Fail> {
 }
 
 #[test]
+fn answers_what_is_given_twice_in_any_order(rt: HostRuntime) -> Result<(), Fail> {
+    let cases: [(&[u8], &str); 8] = [
+        (
+            b"let r = {c = 1, b = 2, a = 3}",
+            "r@4: 1@13 2@20 3@27 { c:0 b:1 a:2 }@8; ",
+        ),
+        (
+            b"let b = 1 let d = 2 let a = 3 let c = 4",
+            "b@4: 1@8; d@14: 2@18; a@24: 3@28; c@34: 4@38; ",
+        ),
+        (
+            b"let r = {c = 1, b = 2, a = 3, a = 4}",
+            "DuplicateLabel(30)",
+        ),
+        (
+            b"let r = {c = 1, b = 2, a = 3, c = 4}",
+            "DuplicateLabel(30)",
+        ),
+        (
+            b"let r = {b = 1, d = 2, a = 3, b = 4}",
+            "DuplicateLabel(30)",
+        ),
+        (
+            b"let r = {b = 1, d = 2, a = 3, e = 4, a = 5}",
+            "DuplicateLabel(37)",
+        ),
+        (
+            b"let b = 1 let d = 2 let a = 3 let a = 4",
+            "DuplicateBinding(34)",
+        ),
+        (
+            b"import b import d import a import b",
+            "DuplicateImport(34)",
+        ),
+    ];
+    for (text, want) in cases {
+        let line = shown(rt.alloc(), text)?;
+        assert_eq!(rt; line.as_str(), want);
+    }
+    Ok(())
+}
+
+#[test]
 fn reads_down_to_the_deepest_nesting(rt: HostRuntime) -> Result<(), Fail> {
     for (text, behind, want) in [
         ("(", "1", "TooDeep(208)"),

@@ -24,6 +24,7 @@ pub mod SortedFields
 pub mod NumberedNames
 pub mod VariableNumbers
 pub mod NamesKnown
+pub mod RisingLabels
 pub mod MeasuredItems
 pub mod ReadTokens
 pub mod ReadPieces

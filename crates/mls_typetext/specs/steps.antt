@@ -6,6 +6,7 @@ pub mod PieceMachine
 pub mod PieceReaders
 pub mod Items
 pub mod NameMachine
+pub mod LabelLists
 pub mod NameReaders
 pub mod Members
 pub mod Variables

@@ -7,6 +7,7 @@ mod bind;
 mod count;
 pub mod end;
 pub mod from_text;
+mod labels;
 pub mod laws;
 mod lay_out;
 mod measure;

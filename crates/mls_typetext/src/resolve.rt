@@ -7,12 +7,13 @@ ghost use Rattle.mls_typetext.specs.steps.NameMachine.{naming, without_labels, w
 ghost use Rattle.mls_typetext.specs.steps.NameMachine.{name_item, notes, opened};
 ghost use Rattle.mls_typetext.specs.steps.NameReaders.{tasks_of, known_of, GivesItems, GivesFault};
 
+use crate::labels::Labels;
 use crate::piece::{Item, Piece};
 use crate::scheme::TypeFault;
 use mls_base::memory::Memory;
 use mls_book::name::Name;
 use std::alloc::Global;
-use std::collections::{BTreeMap, BTreeSet};
+use std::collections::BTreeMap;
 
 // Where a part of a type stands: the sign of its place, how many functions and records are around it, and how many
 // `rec`s.
@@ -42,7 +43,7 @@ struct NameReader {
     // The `rec`s around the place that is reached, with the places of their bodies.
     recs: BTreeMap<Name, NamePlace>,
     // The labels of the record whose fields are read, or were read last.
-    labels: BTreeSet<Name>,
+    labels: Labels,
     // The fault that stands first in what was read, since it was noted last.
     fault: Option<TypeFault>,
     // The items, from the last to the first.
@@ -164,7 +165,7 @@ impl NameReader {
         Ok(NameReader {
             tasks,
             recs: BTreeMap::new(alloc),
-            labels: BTreeSet::new(alloc),
+            labels: Labels::new(alloc),
             fault: None,
             items: Vec::with_capacity(alloc, pieces)?,
         })
@@ -329,7 +330,7 @@ impl NameReader {
         ensures tasks { OnOk result (tasks_of self.new ≡ tasks_of self.old) }
         ensures known { OnOk result (known_of self.new ≡ with_label label (known_of self.old)) }
     {
-        let is_new = self.labels.insert(label)?;
+        let is_new = self.labels.add(label)?;
         Ok(!is_new)
     }
 

@@ -86,6 +86,37 @@ fn tells_a_recursive_name_or_a_label_given_twice(rt: HostRuntime) -> Result<(), 
     Ok(())
 }
 
+#[test]
+fn tells_a_label_given_twice_in_any_order(rt: HostRuntime) -> Result<(), Fail> {
+    let cases: [(&[u8], &str); 8] = [
+        (
+            b"{c: int, b: bool, a: int}",
+            "{ a:3 b:2 c:1 }, int, bool, int; root 0; 0 vars",
+        ),
+        (
+            b"{b: int, d: bool, a: {b: int}, c: {a: bool}}",
+            "{ a:3 b:1 c:5 d:2 }, int, bool, { b:4 }, int, { a:6 }, bool; root 0; 0 vars",
+        ),
+        (b"{c: int, b: int, a: int, a: int}", "DuplicateLabel(25)"),
+        (b"{c: int, b: int, a: int, b: int}", "DuplicateLabel(25)"),
+        (b"{c: int, b: int, a: int, c: int}", "DuplicateLabel(25)"),
+        (b"{b: int, d: int, a: int, b: int}", "DuplicateLabel(25)"),
+        (
+            b"{b: int, d: int, a: int, e: int, a: int}",
+            "DuplicateLabel(33)",
+        ),
+        (
+            b"{b: int, d: int, a: int, c: int, e: int, e: int}",
+            "DuplicateLabel(41)",
+        ),
+    ];
+    for (text, want) in cases {
+        let line = shown(rt.alloc(), text)?;
+        assert_eq!(rt; line.as_str(), want);
+    }
+    Ok(())
+}
+
 // Adds a part of a text so many times.
 fn repeat(text: &mut String, part: &str, count: usize) -> Result<(), Fail> {
     for _ in 0..count {

@@ -37,11 +37,6 @@ abbrev pub fault_unless : Bool → Fault → Option Fault
 fault_unless true fault = None
 fault_unless false fault = Some fault
 
--- the first of some names, where there is one, and the others
-abbrev pub names_of : Option (List ℕ) → List (List ℕ) → List (List ℕ)
-names_of None others = others
-names_of (Some first) others = first ∷ others
-
 -- the same names are in both lists
 abbrev pub HasSameNames : List (List ℕ) → List (List ℕ) → Type 0
 HasSameNames xs ys = (x : List ℕ) → list_any (bytes_eq x) xs ≡ list_any (bytes_eq x) ys

@@ -1,7 +1,6 @@
 -- What the reader of pieces holds, as the machine has it, and what it gives.
 use Rattle.std.specs.Prelude.{◌≡◌, true, List, [], ◌∷◌, reverse}
 use Rattle.std.specs.BTreeMap.{get}
-use Rattle.std.specs.BTreeSet.{contains}
 use Rattle.std.specs.Ordering.{nat_cmp}
 use Rattle.std.specs.Cmp.Lexicographic.{slice_cmp}
 use Rattle.mls_typetext.specs.declared.scheme.TypeFault.{TypeFault}
@@ -14,6 +13,7 @@ use Rattle.mls_typetext.specs.Faults.{faults}
 use Rattle.mls_typetext.specs.steps.Pieces.{postorder}
 use Rattle.mls_typetext.specs.steps.Items.{items}
 use Rattle.mls_typetext.specs.steps.NameMachine.{Known}
+use Rattle.mls_typetext.specs.steps.LabelLists.{is_among}
 
 abbrev pub tasks_of : NameReader → List NameTask
 tasks_of r = reverse r.tasks.items
@@ -21,7 +21,7 @@ tasks_of r = reverse r.tasks.items
 abbrev pub known_of : NameReader → Known
 known_of r = record {
   recs = get (slice_cmp nat_cmp) r.recs;
-  labels = contains (slice_cmp nat_cmp) r.labels;
+  labels = is_among r.labels;
   fault = r.fault;
   items = r.items.items;
 }
