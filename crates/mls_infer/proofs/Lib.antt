@@ -43,7 +43,9 @@ pub mod TableParts
 pub mod RegionSteps
 pub mod StandingParts
 pub mod TableSolutions
+pub mod MetEntries
 pub mod MetParts
+pub mod MetTogether
 pub mod Growths
 pub mod PartChanges
 pub mod SameParts

@@ -1,11 +1,11 @@
 -- The entries of one binder are a piece of the sorted ones, and give way to one entry.
---     piece, All-piece     the members of a piece of a list
+--     taken, piece         the members of a piece of a list
 --     one_of               a list of one
 --     merged_start, merged_next, merged_end     group after group
-use Rattle.std.proofs.Common.{◌≡◌, ◌≢◌, ◌⊎◌, inl, inr, ℕ, ◌<◌, ◌≤◌, ◌+◌, ◌-◌, ◌/◌, suc, List, [], ◌∷◌, ◌++◌, length, get_or, take, drop, refl, sym, ap, ◌∙◌, subst, arith, Contains, All}
+use Rattle.std.proofs.Common.{◌≡◌, ◌≢◌, ◌⊎◌, inl, inr, ℕ, ◌<◌, ◌≤◌, ◌+◌, ◌-◌, suc, List, [], ◌∷◌, ◌++◌, length, get_or, take, drop, refl, sym, ap, ◌∙◌, subst, arith, Contains, All}
 use Rattle.std.proofs.lemmas.List.{append-nil, append_assoc, drop-drop, drop_all, get_or-drop, get_or-take, get_or_append_left, get_or_default, length-append, length-drop, length-take-le, take-append-drop}
 use Rattle.std.proofs.Math.Seq.{get_or-append_seam}
-use Rattle.std.proofs.lemmas.List.Elements.{All-contains, Contains-get_or, Contains-append_left, Contains-append_right, Contains-append_cases}
+use Rattle.std.proofs.lemmas.List.Elements.{Contains-get_or, Contains-append_left, Contains-append_right, Contains-append_cases}
 use Rattle.mls_book.proofs.LongerBooks.{below_or_more}
 use Rattle.mls_automaton.specs.declared.automaton.Polarity.TheVariants.{Negative}
 use Rattle.mls_automaton.specs.declared.scheme.EnvEntry.{EnvEntry}
@@ -20,7 +20,7 @@ use Rattle.mls_infer.proofs.Merges.{swapped_in}
 use Rattle.mls_infer.proofs.PartChanges.{remade_none, remade_then}
 use Rattle.mls_infer.proofs.SameParts.{remade_members, same_members, waits_members, with_lists}
 
--- what holds of the members of a list holds of those of a piece
+-- the members of a piece of a list are members of it
 module _ {X : Type 0} (xs : List X) where
   pub taken : (n : ℕ) (x : X) → Contains (take n xs) x → Contains xs x
   taken n x it = subst (λ ys. Contains ys x) (take-append-drop n xs) (Contains-append_left (take n xs) (drop n xs) x it)
@@ -28,17 +28,8 @@ module _ {X : Type 0} (xs : List X) where
   pub dropped : (n : ℕ) (x : X) → Contains (drop n xs) x → Contains xs x
   dropped n x it = subst (λ ys. Contains ys x) (take-append-drop n xs) (Contains-append_right (take n xs) (drop n xs) x it)
 
-  pub All-taken : (P : X → Type 0) (n : ℕ) → All P xs → All P (take n xs)
-  All-taken P n all = All-contained P (take n xs) (λ x it. All-contains P xs x all (taken n x it))
-
-  pub All-dropped : (P : X → Type 0) (n : ℕ) → All P xs → All P (drop n xs)
-  All-dropped P n all = All-contained P (drop n xs) (λ x it. All-contains P xs x all (dropped n x it))
-
 pub piece : {X : Type 0} (xs : List X) (m n : ℕ) (x : X) → Contains (take m (drop n xs)) x → Contains xs x
 piece xs m n x it = dropped xs n x (taken (drop n xs) m x it)
-
-pub All-piece : {X : Type 0} (P : X → Type 0) (xs : List X) (m n : ℕ) → All P xs → All P (take m (drop n xs))
-All-piece P xs m n all = All-taken (drop n xs) P m (All-dropped xs P n all)
 
 -- a list of one
 pub one_of : {X : Type 0} (xs : List X) (d : X) → length xs ≡ 1 → xs ≡ get_or xs 0 d ∷ []
@@ -196,14 +187,3 @@ pub merged_end : (old live : Live) (part : TablePart) (entries : List EnvEntry) 
 merged_end old live part entries i states env is all =
     subst (λ (xs : List EnvEntry). IsRemade old part live (with_lists states xs part.root))
     (ap (λ (xs : List EnvEntry). env ++ xs) (drop_all i entries all) ∙ append-nil env) is.remade
-
--- both halves of more than one have some
-pub halves_some : {X : Type 0} (xs : List X) → 0 < length xs → length xs ≢ 1 → (0 < length (take (length xs / 2) xs)) × (0 < length (take (length xs - length xs / 2) (drop (length xs / 2) xs)))
-halves_some xs some more =
-    let low : 0 < length xs / 2 = omega arith in
-    let high : length xs / 2 < length xs = omega arith in
-    let rest : length (drop (length xs / 2) xs) ≡ length xs - length xs / 2 = length-drop (length xs / 2) xs in
-    let one : length (take (length xs / 2) xs) ≡ length xs / 2 = length-take-le (length xs / 2) xs (omega arith) in
-    let other : length (take (length xs - length xs / 2) (drop (length xs / 2) xs)) ≡ length xs - length xs / 2 =
-    length-take-le (length xs - length xs / 2) (drop (length xs / 2) xs) (omega arith) in
-    (omega arith, omega arith)

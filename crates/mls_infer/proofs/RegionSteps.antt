@@ -231,8 +231,8 @@ module _ (P : ℕ → Type 0) where
   all_named p h all = record { function = in_arms p h.function (λ j it. all j (inl it)); fields = in_fields p h.fields (λ j it. all j (inr it)) }
 
   -- a head that has the same as other heads combined names what they name
-  pub parts_named : (p : Polarity) (h : Head) (heads : ℕ → Head) (members : List ℕ) → HasRisingLabels h.fields → IsSameParts (parts_of h) (combined p (map (λ k. parts_of (heads k)) members))
-      → ((k j : ℕ) → Contains members k → HeadNames (heads k) j → P j) → (j : ℕ) → HeadNames h j → P j
+  pub parts_named : {X : Type 0} (p : Polarity) (h : Head) (heads : X → Head) (members : List X) → HasRisingLabels h.fields → IsSameParts (parts_of h) (combined p (map (λ k. parts_of (heads k)) members))
+      → ((k : X) (j : ℕ) → Contains members k → HeadNames (heads k) j → P j) → (j : ℕ) → HeadNames h j → P j
   parts_named p h heads members rising same all j it =
       let Q : Polarity → ℕ → Type 0 = λ q j. P j in
       named-in P p h

@@ -1,27 +1,30 @@
 //! One state for each binder of a part: the states of a binder give way to one with the combined head and the edges of
 //! all.
-ghost use Rattle.std.specs.Prelude.{◌≡◌, ◌↔◌, ◌⊎◌, ◌<◌, ◌∷◌, ◌++◌, [], ℕ, filter, length, All, Contains, IfOk, OnOk};
+ghost use Rattle.std.specs.Prelude.{◌≡◌, ◌↔◌, ◌⊎◌, ◌<◌, ℕ, filter, length, All, Contains, IfOk, OnOk};
 ghost use Rattle.std.specs.Ordering.{nat_cmp, eq_by_cmp};
 ghost use Rattle.mls_automaton.specs.declared.automaton.Polarity.TheVariants.{Negative, Positive};
 ghost use Rattle.mls_automaton.specs.declared.scheme.EnvEntry.{EnvEntry};
-ghost use Rattle.mls_automaton.specs.Automata.{HasFlow, polarity_at};
+ghost use Rattle.mls_automaton.specs.Automata.{HasFlow};
 ghost use Rattle.mls_automaton.specs.Environments.{BindersRise};
+ghost use Rattle.mls_automaton.specs.Heads.{IsSameParts, parts_of};
+ghost use Rattle.mls_automaton.specs.Models.{HasRisingLabels};
 ghost use Rattle.mls_infer.specs.Constraints.{HasOneState, without};
-ghost use Rattle.mls_infer.specs.Meets.{MeetsAt};
+ghost use Rattle.mls_infer.specs.Meets.{HasFlowOfOne, parts_together};
 ghost use Rattle.mls_infer.specs.Merges.{BindersAscend, HasSameMembers, IsGroup};
 ghost use Rattle.mls_infer.specs.Pending.{IsMeeting, IsRemade, Waits, part_in, states_in};
 ghost use Rattle.mls_infer.specs.Regions.{scheme_at};
-ghost use Rattle.mls_biunify.specs.Live.{IsLive, IsLiveState, IsThere};
+ghost use Rattle.mls_biunify.specs.Live.{IsLive, IsLiveState};
 
 use crate::pending::{Pending, without};
 use crate::region::Region;
-use mls_automaton::automaton::Polarity;
+use mls_automaton::automaton::{Head, Polarity};
 use mls_automaton::combine::combine_heads;
 use mls_automaton::scheme::{Env, EnvEntry};
 use mls_automaton::state_set::{StateId, StateSet};
 use mls_base::list::List;
 use mls_base::memory::Memory;
 use mls_biunify::live::Live;
+use mls_solver::materialise::copied_head;
 use std::alloc::Global;
 
 /// The part in which each binder has one state, in the order of binders.
@@ -85,8 +88,7 @@ fn group_end(entries: &[EnvEntry], start: usize) -> usize
     entries.len()
 }
 
-// One entry for some of one binder. It is put together by halves, so that each head is gone through as often as the
-// number of entries has binary digits; the calls are as deep.
+// One entry for some of one binder: its state has the combined head and all edges of their states.
 fn met(
     alloc: Global,
     live: &mut Live,
@@ -102,44 +104,44 @@ fn met(
     if entries.len() == 1 {
         return Ok(entries[0]);
     }
-    let half = entries.len() / 2;
-    let first = met(alloc, live, region, &entries[..half])?;
-    let second = met(alloc, live, region, &entries[half..])?;
-    let state = meet(alloc, live, region, first.state, second.state)?;
+    let (head, ends) = together(alloc, live, entries)?;
+    let state = region.add(live, Polarity::Negative, head)?;
+    link(live, state, &ends)?;
+    let _linked = live.ready();
     Ok(EnvEntry {
-        binder: first.binder,
+        binder: entries[0].binder,
         state,
     })
 }
 
-// Adds a negative state with the combined head and all edges of two.
-fn meet(
-    alloc: Global,
-    live: &mut Live,
-    region: &mut Region,
-    first: StateId,
-    second: StateId,
-) -> Result<StateId, Memory>
-    requires first { IsThere live.old first.0 }
-    requires second { IsThere live.old second.0 }
-    requires first_negative { polarity_at live.old.table first.0 ≡ Negative }
-    requires second_negative { polarity_at live.old.table second.0 ≡ Negative }
-    ensures meets { IfOk result (λ state. MeetsAt first.0 second.0 state.0 live.old live.new) }
-    ensures states { IfOk result (λ state. states_in region.new ≡ states_in region.old ++ state.0 ∷ []) }
-    ensures live_old { OnOk result (IsLive live.old) }
-    ensures live_new { OnOk result (IsLive live.new) }
+// The combined head of the states of some entries, and the ends of all their edges. Both are put together by halves, so
+// that each head is gone through as often as the number of entries has binary digits; the calls are as deep.
+fn together(alloc: Global, live: &Live, entries: &[EnvEntry]) -> Result<(Head, StateSet), Memory>
+    requires some { 0 < length entries.now }
+    requires states { All (λ (entry : EnvEntry). IsLiveState live.now Negative entry.state.0) entries.now }
+    ensures parts { IfOk result (λ all. IsSameParts (parts_of all.0) (parts_together live.now.table entries.now)) }
+    ensures labels { IfOk result (λ all. HasRisingLabels all.0.fields) }
+    ensures ends { IfOk result (λ all. (p : ℕ) → Contains all.1 p ↔ HasFlowOfOne live.now.table entries.now p) }
+    ensures live { OnOk result (IsLive live.now) }
 {
-    let head = combine_heads(
-        alloc,
-        Polarity::Negative,
-        live.head(first),
-        live.head(second),
-    )?;
-    let ends = live.after(first).union(live.after(second))?;
-    let state = region.add(live, Polarity::Negative, head)?;
-    link(live, state, &ends)?;
-    let _linked = live.ready();
-    Ok(state)
+    if entries.len() == 1 {
+        let head = copied_head(live.head(entries[0].state))?;
+        let ends = copied_set(live.after(entries[0].state))?;
+        return Ok((head, ends));
+    }
+    let half = entries.len() / 2;
+    let (first_head, first_ends) = together(alloc, live, &entries[..half])?;
+    let (second_head, second_ends) = together(alloc, live, &entries[half..])?;
+    let head = combine_heads(alloc, Polarity::Negative, &first_head, &second_head)?;
+    let ends = first_ends.union(&second_ends)?;
+    Ok((head, ends))
+}
+
+fn copied_set(set: &StateSet) -> Result<StateSet, Memory>
+    ensures { IfOk result (λ copy. copy ≡ set.now) }
+{
+    let copy = set.clone()?;
+    Ok(copy)
 }
 
 // Adds the edges from a negative state to these positive ones.
