@@ -24,6 +24,7 @@ use mls_base::memory::Memory;
 use mls_book::book::{Node, NodeId};
 use mls_deriv::derivation::{BinderNodes, StepRule};
 use mls_layout::layout::LaidOut;
+use mls_parts::numbers::NumberMap;
 use mls_parts::pose::{KnownTypes, Posing};
 use mls_term::term::{TermForm, TermNode};
 use std::alloc::Global;
@@ -46,7 +47,7 @@ pub struct PartView<'a> {
 pub struct Writer {
     pub laid: LaidOut,
     pub steps: Steps,
-    pub concluded: BTreeMap<usize, Concluded>,
+    pub concluded: NumberMap<Concluded>,
     pub top: Option<NodeId>,
     pub widths: BTreeMap<usize, usize>,
     pub chains: BTreeMap<usize, BinderNodes>,
@@ -84,7 +85,7 @@ impl Writer {
     // that is the function. A binder has its own node.
     fn domain_before(&self, view: &PartView, node: usize) -> Option<NodeId> {
         let before = node.checked_sub(1)?;
-        let root = match self.concluded.get(&before)? {
+        let root = match self.concluded.get(before)? {
             Concluded::Bound(x) => self.place(view.posing.binder(*x)),
             Concluded::Step(of) => of.root,
         };

@@ -4,6 +4,7 @@ pub mod FieldsPosed
 pub mod PosedByNode
 pub mod PosedKept
 pub mod GoodPosings
+pub mod NumberMaps
 pub mod NumberedNodes
 pub mod HeldTypes
 pub mod TypedModels

@@ -1,6 +1,7 @@
 pub mod Posings
 pub mod PosedCopies
 pub mod PosedGoals
+pub mod NumberMaps
 pub mod NumberedNodes
 pub mod NodeTypes
 pub mod PosedModels

@@ -3,6 +3,7 @@
 
 pub mod binders;
 pub mod first_type;
+pub mod numbers;
 pub mod posable;
 pub mod pose;
 mod shared;

@@ -23,6 +23,7 @@ ghost use Rattle.mls_parts.specs.Posings.{AddsCopy, IsCopiedEdge, IsKnownTo, cop
 ghost use Rattle.mls_parts.specs.steps.Results.{AddsEdges, Binds, CanBind, HasResult};
 ghost use Rattle.mls_parts.specs.steps.Sharing.{PosesNext, shared_added};
 
+use crate::numbers::NumberMap;
 use crate::shared::{Shared, number_of};
 use mls_automaton::automaton::{Arms, Automaton, FieldSet, FieldSets, Head, Polarity};
 use mls_automaton::combine::combine_heads;
@@ -56,18 +57,18 @@ pub type Needs = List<Need>;
 pub struct Posing {
     pub automaton: Automaton,
     pub goals: Goals,
-    pub roots: BTreeMap<usize, usize>,
-    pub binders: BTreeMap<usize, usize>,
+    pub roots: NumberMap<usize>,
+    pub binders: NumberMap<usize>,
     pub needs: Needs,
-    pub copies: BTreeMap<usize, usize>,
-    pub results: BTreeMap<usize, usize>,
+    pub copies: NumberMap<usize>,
+    pub results: NumberMap<usize>,
 }
 
 // The number at a key, and 0 where there is none.
-fn number_at(numbers: &BTreeMap<usize, usize>, key: usize) -> usize
+fn number_at(numbers: &NumberMap<usize>, key: usize) -> usize
     ensures { result ≡ number_at numbers.now key }
 {
-    match numbers.get(&key) {
+    match numbers.get(key) {
         Some(number) => *number,
         None => 0,
     }
@@ -180,11 +181,11 @@ impl Posing {
         let mut posing = Posing {
             automaton: Automaton::new(alloc),
             goals: Goals::new(alloc),
-            roots: BTreeMap::new(alloc),
-            binders: BTreeMap::new(alloc),
+            roots: NumberMap::new(alloc),
+            binders: NumberMap::new(alloc),
             needs: Needs::new(alloc),
-            copies: BTreeMap::new(alloc),
-            results: BTreeMap::new(alloc),
+            copies: NumberMap::new(alloc),
+            results: NumberMap::new(alloc),
         };
         for binder in binders {
             posing.push_binder_state(*binder)?;
@@ -644,7 +645,7 @@ pub(crate) fn copied_label(label: &Name) -> Result<Name, Memory>
 pub fn meet_needs(
     alloc: Global,
     automaton: &mut Automaton,
-    binders: &BTreeMap<usize, usize>,
+    binders: &NumberMap<usize>,
     needs: &[Need],
 ) -> Result<(), Memory>
     requires closed { IsClosed automaton.old }

@@ -6,6 +6,7 @@ ghost use Rattle.mls_parts.specs.Posings.{known_in};
 ghost use Rattle.mls_parts.specs.steps.Sharing.{AreSameUses, IsWithoutEdges, MayNote, MayNoteUse, first_use};
 ghost use Rattle.mls_term.specs.declared.term.TermForm.{TermForm};
 
+use crate::numbers::NumberMap;
 use crate::pose::KnownTypes;
 use mls_automaton::scheme::Scheme;
 use mls_base::memory::Memory;
@@ -23,7 +24,7 @@ const FEW: usize = 64;
 pub(crate) struct Shared {
     globals: BTreeMap<usize, usize>,
     lets: BTreeMap<usize, usize>,
-    left: BTreeMap<usize, usize>,
+    left: NumberMap<usize>,
 }
 
 impl Shared {
@@ -34,7 +35,7 @@ impl Shared {
         Shared {
             globals: BTreeMap::new(alloc),
             lets: BTreeMap::new(alloc),
-            left: BTreeMap::new(alloc),
+            left: NumberMap::new(alloc),
         }
     }
 
@@ -61,8 +62,8 @@ impl Shared {
         ensures { result ≡ first_use self.now form.now }
     {
         match form {
-            TermForm::Global(g) => number_of(&self.globals, *g),
-            TermForm::Inner(k) => number_of(&self.lets, *k),
+            TermForm::Global(g) => noted(&self.globals, *g),
+            TermForm::Inner(k) => noted(&self.lets, *k),
             _ => None,
         }
     }
@@ -107,11 +108,21 @@ impl Shared {
 }
 
 /// The number at a key.
-pub(crate) fn number_of(numbers: &BTreeMap<usize, usize>, key: usize) -> Option<usize>
+pub(crate) fn number_of(numbers: &NumberMap<usize>, key: usize) -> Option<usize>
     ensures { result ≡ get nat_cmp numbers.now key }
 {
-    match numbers.get(&key) {
+    match numbers.get(key) {
         Some(number) => Some(*number),
+        None => None,
+    }
+}
+
+// The node that is noted for a name.
+fn noted(uses: &BTreeMap<usize, usize>, name: usize) -> Option<usize>
+    ensures { result ≡ get nat_cmp uses.now name }
+{
+    match uses.get(&name) {
+        Some(node) => Some(*node),
         None => None,
     }
 }

@@ -53,8 +53,10 @@ fn line_of(
         Err(_) => line.push_str("no")?,
         Ok(posing) => {
             line = show_automaton(alloc, &posing.automaton)?;
-            for (node, first) in posing.copies.iter() {
-                write!(line, " {node}:{first}")?;
+            for node in 0..forms.as_slice().len() {
+                if let Some(first) = posing.copies.get(node) {
+                    write!(line, " {node}:{first}")?;
+                }
             }
         }
     }

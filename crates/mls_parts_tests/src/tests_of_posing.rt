@@ -9,11 +9,11 @@ use mls_automaton::state_set::StateId;
 use mls_base::memory::Memory;
 use mls_base::spelling::is_name;
 use mls_book::name::Name;
+use mls_parts::numbers::NumberMap;
 use mls_parts::pose::{Goals, KnownTypes, Needs, Posing, pose_part};
 use mls_solver::goal::is_state;
 use mls_term::term::TermForm;
 use std::alloc::Global;
-use std::collections::BTreeMap;
 use std::process::Abort;
 use std::test::Fail;
 
@@ -21,16 +21,16 @@ use std::test::Fail;
 fn one_binder(alloc: Global) -> Result<Posing, Memory> {
     let mut automaton = Automaton::new(alloc);
     let state = automaton.state(Polarity::Negative, Head::empty())?;
-    let mut binders = BTreeMap::new(alloc);
+    let mut binders = NumberMap::new(alloc);
     binders.insert(0, state.0)?;
     Ok(Posing {
         automaton,
         goals: Goals::new(alloc),
-        roots: BTreeMap::new(alloc),
+        roots: NumberMap::new(alloc),
         binders,
         needs: Needs::new(alloc),
-        copies: BTreeMap::new(alloc),
-        results: BTreeMap::new(alloc),
+        copies: NumberMap::new(alloc),
+        results: NumberMap::new(alloc),
     })
 }
 

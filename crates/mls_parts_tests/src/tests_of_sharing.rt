@@ -67,10 +67,10 @@ fn uses_share_a_copy(rt: HostRuntime) -> Result<(), Fail> {
     let part = order(alloc)?;
     let posing = constraint(&rt, alloc, nodes.as_slice(), part.as_slice())?;
     for (node, first) in [(7, 0), (8, 1), (9, 3), (75, 4), (76, 3)] {
-        assert_eq!(rt; posing.copies.get(&node), Some(&first));
+        assert_eq!(rt; posing.copies.get(node), Some(&first));
     }
     for node in 10..75 {
-        assert_eq!(rt; posing.copies.get(&node), Some(&0));
+        assert_eq!(rt; posing.copies.get(node), Some(&0));
     }
     let line = show_automaton(alloc, &posing.automaton)?;
     assert_eq!(rt; line.as_str(), "+i - + +i - + 1~2 4~5");

@@ -53,6 +53,7 @@ use mls_lines::steps::Steps;
 use mls_lines::writer::{PartView, Writer};
 use mls_parts::binders::binders_of;
 use mls_parts::first_type::first_type_of;
+use mls_parts::numbers::NumberMap;
 use mls_parts::pose::{KnownTypes, Posing, pose_part};
 use mls_parts::solve::{Solution, solution_of};
 use mls_parts::split::{Numbers, TermPart, TermParts, parts_of};
@@ -407,7 +408,7 @@ impl Draft {
         Writer {
             laid,
             steps: replace_steps(&mut self.steps, alloc),
-            concluded: BTreeMap::new(alloc),
+            concluded: NumberMap::new(alloc),
             top: None,
             widths: BTreeMap::new(alloc),
             chains: BTreeMap::new(alloc),

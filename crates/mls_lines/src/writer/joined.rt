@@ -85,7 +85,7 @@ impl Writer {
 
     /// Whether a node has this environment at this type without a step by pairs.
     pub fn has_env(&self, node: usize, root: NodeId, env: &[BinderNode]) -> bool {
-        match self.concluded.get(&node) {
+        match self.concluded.get(node) {
             Some(Concluded::Bound(x)) => match env {
                 [only] => only.binder == *x && only.node == root,
                 _ => false,

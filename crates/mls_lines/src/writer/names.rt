@@ -29,7 +29,10 @@ fn copy_at(posing: &Posing, node: usize) -> usize
     requires { IsSome (get nat_cmp posing.now.copies node) }
     ensures { get nat_cmp posing.now.copies node ≡ Some result }
 {
-    posing.copies[&node]
+    match posing.copies.get(node) {
+        Some(first) => *first,
+        None => unreachable!(),
+    }
 }
 
 // The type that is known of the first part of a let.

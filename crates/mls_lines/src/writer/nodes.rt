@@ -133,7 +133,7 @@ impl Writer {
     pub fn concluded_at(&self, node: usize) -> Result<&Concluded, Memory>
         ensures { IfOk result (λ own. get nat_cmp self.now.concluded node ≡ Some own.now) }
     {
-        match self.concluded.get(&node) {
+        match self.concluded.get(node) {
             None => Err(Memory),
             Some(own) => Ok(own),
         }
@@ -146,7 +146,7 @@ impl Writer {
         ensures laid { self.new.laid ≡ self.old.laid }
         ensures steps { self.new.steps ≡ self.old.steps }
     {
-        match self.concluded.remove(&node) {
+        match self.concluded.remove(node) {
             None => Err(Memory),
             Some(own) => Ok(own),
         }

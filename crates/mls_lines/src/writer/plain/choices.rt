@@ -22,7 +22,10 @@ fn result_of(posing: &Posing, node: usize) -> usize
     requires { IsSome (get nat_cmp posing.now.results node) }
     ensures { get nat_cmp posing.now.results node ≡ Some result }
 {
-    posing.results[&node]
+    match posing.results.get(node) {
+        Some(into) => *into,
+        None => unreachable!(),
+    }
 }
 
 impl Writer {
