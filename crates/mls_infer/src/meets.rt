@@ -18,7 +18,7 @@ ghost use Rattle.mls_biunify.specs.Live.{IsLive, IsLiveState};
 use crate::pending::{Pending, without};
 use crate::region::Region;
 use mls_automaton::automaton::{Head, Polarity};
-use mls_automaton::combine::combine_heads;
+use mls_automaton::combine::unite_heads;
 use mls_automaton::scheme::{Env, EnvEntry};
 use mls_automaton::state_set::{StateId, StateSet};
 use mls_base::list::List;
@@ -132,7 +132,7 @@ fn together(alloc: Global, live: &Live, entries: &[EnvEntry]) -> Result<(Head, S
     let half = entries.len() / 2;
     let (first_head, first_ends) = together(alloc, live, &entries[..half])?;
     let (second_head, second_ends) = together(alloc, live, &entries[half..])?;
-    let head = combine_heads(alloc, Polarity::Negative, &first_head, &second_head)?;
+    let head = unite_heads(alloc, Polarity::Negative, first_head, second_head)?;
     let ends = first_ends.union(&second_ends)?;
     Ok((head, ends))
 }
