@@ -194,10 +194,33 @@ pub fn unite_heads(
     })
 }
 
-fn copied_head(head: &Head) -> Result<Head, Memory>
-    ensures { IfOk result (λ copy. copy ≡ head.now) }
+// The same of functions that stay.
+fn copied_functions(first: &Option<Arms>, second: &Option<Arms>) -> Result<Option<Arms>, Memory>
+    ensures { IfOk result (λ both. IsSameFunction both (combined_functions first.now second.now)) }
 {
-    let copy = head.clone()?;
+    match first {
+        None => copied_function(second),
+        Some(arms) => match second {
+            None => copied_function(first),
+            Some(other) => {
+                let arms = unite_arms(arms, other)?;
+                Ok(Some(arms))
+            }
+        },
+    }
+}
+
+fn copied_function(function: &Option<Arms>) -> Result<Option<Arms>, Memory>
+    ensures { IfOk result (λ copy. copy ≡ function.now) }
+{
+    let copy = function.clone()?;
+    Ok(copy)
+}
+
+fn copied_record(fields: &Option<FieldSets>) -> Result<Option<FieldSets>, Memory>
+    ensures { IfOk result (λ copy. copy ≡ fields.now) }
+{
+    let copy = fields.clone()?;
     Ok(copy)
 }
 
@@ -218,7 +241,14 @@ pub fn combine_heads(
         (combined_two polarity (parts_of first.now) (parts_of second.now))) }
     ensures labels { IfOk result (λ head. HasRisingLabels head.fields) }
 {
-    let one = copied_head(first)?;
-    let other = copied_head(second)?;
-    unite_heads(alloc, polarity, one, other)
+    let function = copied_functions(&first.function, &second.function)?;
+    let one = copied_record(&first.fields)?;
+    let other = copied_record(&second.fields)?;
+    let fields = combine_records(alloc, polarity, one, other)?;
+    Ok(Head {
+        boolean: first.boolean || second.boolean,
+        integer: first.integer || second.integer,
+        function,
+        fields,
+    })
 }
