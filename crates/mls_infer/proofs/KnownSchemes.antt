@@ -3,12 +3,16 @@
 --     scheme_read                 a known name has its scheme
 --     answer_read, answer_copied  and is answered with its types
 --     reads_more             one more name that was read
+--     reads_stay             the same that were read
+--     reads_grow, names_grow an environment with one more name
 --     none_rise              an environment without binders
 --     names_are              what names mean are schemes that need nothing of any binder
-use Rattle.std.proofs.Common.{◌≡◌, ◌≢◌, ◌⊎◌, inl, inr, ℕ, zero, suc, ◌<◌, List, [], ◌∷◌, map, length, get_or, All, Contains, refl, sym, ap, ◌∙◌, subst, arith, Some, slice_get}
+use Rattle.std.proofs.Common.{◌≡◌, ◌≢◌, ◌⊎◌, inl, inr, ℕ, zero, suc, ◌<◌, List, [], ◌∷◌, ◌++◌, map, length, get_or, All, Contains, refl, sym, ap, ◌∙◌, subst, arith, Some, slice_get}
 use Rattle.std.specs.Prelude.{Option, None, option_map}
-use Rattle.std.specs.BTreeMap.{BTreeMap, get}
+use Rattle.std.specs.BTreeMap.{BTreeMap, IsUnchanged, get}
 use Rattle.std.proofs.lemmas.Bool.{cases_eq}
+use Rattle.std.proofs.lemmas.List.{map-append}
+use Rattle.std.proofs.lemmas.List.Elements.{All-push}
 use Rattle.std.specs.FinMap as finmap
 use Rattle.std.specs.FinMap.{get-empty}
 use Rattle.std.specs.Ordering.{nat_cmp}
@@ -33,10 +37,11 @@ use Rattle.mls_infer.specs.Merges.{HaveSameTypes}
 use Rattle.mls_infer.specs.Finished.{Finished, Has}
 use Rattle.mls_infer.specs.Fields.{AreReads, IsKnownType, Shared}
 use Rattle.mls_infer.specs.Finishing.{IsAnswer, IsRead, Scope, is_copied, is_named, is_read}
-use Rattle.mls_infer.specs.Inference.{AreNames}
+use Rattle.mls_infer.specs.Inference.{AreNames, schemes_in}
 use Rattle.mls_infer.specs.Steps.{IsReadAs}
 use Rattle.mls_infer.proofs.Models.{EachFound}
 use Rattle.mls_infer.proofs.Reading.{read_as}
+use Rattle.mls_infer.proofs.Told.{get_old}
 
 scheme_of_is : (read : ReadScheme) → IsReadScheme read → book.IsScheme (scheme_of read)
 scheme_of_is read is = record {
@@ -108,6 +113,30 @@ reads_more globals old new g r are here others is one k t e = go (cases_eq k g)
         let Q : Shared → Type 0 = λ t. IsKnownType t.value × IsRead globals g t.value.scheme in
         subst P (sym same) (subst Q at (is, one))
     go (inr apart) = are k t (sym (others k apart) ∙ e)
+
+-- the same that were read
+pub reads_stay : (globals : List book.Scheme) (old new : BTreeMap ℕ Shared) → IsUnchanged old new → AreReads globals old → AreReads globals new
+reads_stay globals old new same are g r e =
+    let at : get nat_cmp new g ≡ get nat_cmp old g = cc in
+    are g r (sym at ∙ e)
+
+-- what was read is read with one more name in the environment
+pub reads_grow : (globals : List book.Scheme) (u : book.Scheme) (reads : BTreeMap ℕ Shared) → AreReads globals reads → AreReads (globals ++ u ∷ []) reads
+reads_grow globals u reads are g r e =
+    let it = are g r e in
+    (it.0, record { book = it.1.book; there = get_old globals u it.1.book g it.1.there; read = it.1.read; states = it.1.states })
+
+-- an environment, and what was read of it, with one more name
+pub names_grow : (names : Names) (more : List ReadScheme) (read : ReadScheme) (reads : BTreeMap ℕ Shared) → more ≡ names.schemes ++ read ∷ []
+    → IsReadScheme read → IsPolarisedRead read → AreNames names × AreReads (schemes_in names) reads
+    → AreNames (record { schemes = more }) × AreReads (schemes_in (record { schemes = more })) reads
+names_grow names more read reads added is polarised known =
+    let P : List ReadScheme → Type 0 = λ schemes. AreNames (record { schemes = schemes }) × AreReads (schemes_in (record { schemes = schemes })) reads in
+    let both : map scheme_of (names.schemes ++ read ∷ []) ≡ map scheme_of names.schemes ++ scheme_of read ∷ [] = map-append scheme_of names.schemes (read ∷ []) in
+    subst P (sym added) (
+      All-push (λ r. IsReadScheme r × IsPolarisedRead r) names.schemes read known.0 (is, polarised),
+      subst (λ (globals : List book.Scheme). AreReads globals reads) (sym both) (reads_grow (map scheme_of names.schemes) (scheme_of read) reads known.1),
+    )
 
 -- a type that needs nothing of any binder has rising binders
 pub none_rise : (env : List EnvEntry) → env ≡ [] → BindersRise env

@@ -150,7 +150,7 @@ pub get_end : {X : Type 0} (xs : List X) (x : X) → slice_get (xs ++ x ∷ []) 
 get_end [] x = refl
 get_end (y ∷ xs) x = get_end xs x
 
-get_old : {X : Type 0} (xs : List X) (x y : X) (k : ℕ) → slice_get xs k ≡ Some y → slice_get (xs ++ x ∷ []) k ≡ Some y
+pub get_old : {X : Type 0} (xs : List X) (x y : X) (k : ℕ) → slice_get xs k ≡ Some y → slice_get (xs ++ x ∷ []) k ≡ Some y
 get_old [] x y k at = absurd (cc)
 get_old (z ∷ xs) x y zero at = at
 get_old (z ∷ xs) x y (suc k) at = get_old xs x y k at

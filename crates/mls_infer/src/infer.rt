@@ -30,7 +30,7 @@ use crate::forms::{
 };
 use crate::named::Named;
 use crate::pending::Pending;
-use crate::reads::{Reads, reads_of};
+use crate::reads::{Reads, Uses};
 use crate::solve::NoSolution;
 use mls_automaton::scheme::Scheme;
 use mls_base::memory::Memory;
@@ -42,6 +42,14 @@ pub use mls_typetext::scheme::Names;
 use std::alloc::Global;
 use std::collections::{BTreeMap, BTreeSet};
 use std::rc::Rc;
+
+// Where the part of a node goes: up to the node above it, apart as the first part of a let, or out as the whole.
+#[derive(Clone, Copy, PartialEq, Eq)]
+enum Way {
+    Up,
+    Apart,
+    Out,
+}
 
 /// The most general scheme of an expression, over an environment of schemes that names mean.
 ///
@@ -60,14 +68,47 @@ pub fn infer(alloc: Global, names: &Names, term: &Term) -> Result<Scheme, InferF
     ensures first { IfErr result (IsFirstWithout names.now term.now) }
     ensures kind { IfErr result (TellsKindOf names.now term.now) }
 {
-    let whole = infer_whole(alloc, names, term)?;
+    let mut uses = Uses::new(alloc);
+    infer_noting(alloc, names, &mut uses, term)
+}
+
+/// The same, where the uses of names before are known. Those of the expression are added.
+///
+/// # Errors
+///
+/// Those of `infer`.
+pub(crate) fn infer_noting(
+    alloc: Global,
+    names: &Names,
+    uses: &mut Uses,
+    term: &Term,
+) -> Result<Scheme, InferFault>
+    requires names { AreNames names.now }
+    requires uses { AreReads (schemes_in names.now) uses.old.reads }
+    requires term { IsTerm (length names.now.schemes) term.now.nodes term.now.binders term.now.lets }
+    ensures uses { AreReads (schemes_in names.now) uses.new.reads }
+    ensures scheme { IfOk result IsScheme }
+    ensures env { IfOk result (λ (s : Scheme). s.env ≡ []) }
+    ensures simplified { IfOk result IsSimplified }
+    ensures best { IfOk result (IsBestFor names.now term.now) }
+    ensures first { IfErr result (IsFirstWithout names.now term.now) }
+    ensures kind { IfErr result (TellsKindOf names.now term.now) }
+{
+    uses.note_all(alloc, names, term.nodes.as_slice())?;
+    let whole = infer_whole(alloc, names, &uses.reads, term)?;
     let simple = simplify(alloc, &whole)?;
     Ok(simple)
 }
 
 // The same, not simplified.
-fn infer_whole(alloc: Global, names: &Names, term: &Term) -> Result<Scheme, InferFault>
+fn infer_whole(
+    alloc: Global,
+    names: &Names,
+    reads: &Reads,
+    term: &Term,
+) -> Result<Scheme, InferFault>
     requires names { AreNames names.now }
+    requires reads { AreReads (schemes_in names.now) reads.now }
     requires term { IsTerm (length names.now.schemes) term.now.nodes term.now.binders term.now.lets }
     ensures scheme { IfOk result IsScheme }
     ensures env { IfOk result (λ (s : Scheme). s.env ≡ []) }
@@ -77,8 +118,7 @@ fn infer_whole(alloc: Global, names: &Names, term: &Term) -> Result<Scheme, Infe
 {
     let nodes = term.nodes.as_slice();
     let firsts = firsts_of(alloc, nodes)?;
-    let reads = reads_of(alloc, names, nodes)?;
-    let mut done = infer_nodes(alloc, names, &reads, &firsts, nodes)?;
+    let mut done = infer_nodes(alloc, names, reads, &firsts, nodes)?;
     let whole = done.whole(alloc, nodes.len() - 1)?;
     Ok(whole)
 }
@@ -105,8 +145,8 @@ fn infer_nodes(
     let named = named_parts(alloc, nodes)?;
     for i in 0..nodes.len() {
         let node = &nodes[i].form;
-        let is_named = named.contains(&i);
-        match add_node(alloc, names, reads, firsts, &mut done, node, is_named) {
+        let way = way_of(&named, i, nodes.len());
+        match add_node(alloc, names, reads, firsts, &mut done, node, way) {
             Ok(()) => {}
             Err(NoSolution::Clash(kind)) => {
                 return Err(InferFault::NoScheme(Site { node: i, kind }));
@@ -115,6 +155,17 @@ fn infer_nodes(
         }
     }
     Ok(done)
+}
+
+// The way of the part of a node among so many, where these are the roots of the first parts of lets.
+fn way_of(named: &BTreeSet<usize>, i: usize, count: usize) -> Way {
+    if i.saturating_add(1) == count {
+        Way::Out
+    } else if named.contains(&i) {
+        Way::Apart
+    } else {
+        Way::Up
+    }
 }
 
 // Adds the next node: a known name, which nothing is copied of yet, or what is built of the parts below it, which stands
@@ -126,7 +177,7 @@ fn add_node(
     firsts: &BTreeMap<usize, usize>,
     done: &mut Done,
     node: &TermForm,
-    is_named: bool,
+    way: Way,
 ) -> Result<(), NoSolution>
     requires names { AreNames names.now }
     requires reads { AreReads (schemes_in names.now) reads.now }
@@ -147,8 +198,8 @@ fn add_node(
             Ok(())
         }
         _ => {
-            let part = part_of(alloc, done, node)?;
-            push(alloc, done, part, is_named)?;
+            let part = part_of(alloc, done, node, way)?;
+            push(alloc, done, part, way)?;
             Ok(())
         }
     }
@@ -200,7 +251,7 @@ fn of_global(alloc: Global, names: &Names, reads: &Reads, g: usize) -> Result<Rc
 }
 
 // Adds the part of the next node, which stands apart where it is the first part of a let.
-fn push(alloc: Global, done: &mut Done, part: Pending, is_named: bool) -> Result<(), Memory>
+fn push(alloc: Global, done: &mut Done, part: Pending, way: Way) -> Result<(), Memory>
     requires done { IsDone done.old }
     requires beside { IsBeside done.old (part_in part ∷ []) }
     ensures done { OnOk result (IsDone done.new) }
@@ -208,6 +259,7 @@ fn push(alloc: Global, done: &mut Done, part: Pending, is_named: bool) -> Result
         (finished_in done.old ++ Some (scheme_at done.old.live.table (part_in part)) ∷ []) (finished_in done.new)) }
 {
     let i = done.count();
+    let is_named = way == Way::Apart;
     done.push(part)?;
     if is_named {
         done.name(alloc, i)?;
@@ -215,16 +267,20 @@ fn push(alloc: Global, done: &mut Done, part: Pending, is_named: bool) -> Result
     Ok(())
 }
 
-// What is built of the parts of a node, without the states that are not reached where these are many.
-fn part_of(alloc: Global, done: &mut Done, node: &TermForm) -> Result<Pending, NoSolution>
+// What is built of the parts of a node. If it goes up, it goes without the states that are not reached where these are
+// many; else it is copied out of the table at once, and they stay behind.
+fn part_of(alloc: Global, done: &mut Done, node: &TermForm, way: Way) -> Result<Pending, NoSolution>
     requires done { IsDone done.old }
     requires parts { HasParts node.now (finished_in done.old) }
     ensures part { IfOk result (λ part. IsBuiltOf node.now done.old done.new (part_in part)) }
     ensures stops { IfErr result (StopsAt node.now (finished_in done.old)) }
 {
     let part = built(alloc, done, node)?;
-    let fitting = fit(alloc, done, part)?;
-    Ok(fitting)
+    if way == Way::Up {
+        let fitting = fit(alloc, done, part)?;
+        return Ok(fitting);
+    }
+    Ok(part)
 }
 
 // The part, without the states that are not reached where these are many.

@@ -4,6 +4,7 @@
 mod clash;
 pub mod constraints;
 mod done;
+pub mod environment;
 pub mod fault;
 mod firsts;
 mod forms;

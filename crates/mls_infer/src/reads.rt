@@ -1,5 +1,6 @@
-//! Schemes of the environment that an expression uses more than once.
-ghost use Rattle.std.specs.Prelude.{IfOk, OnOk};
+//! Schemes of an environment that are used more than once.
+ghost use Rattle.mls_book.specs.Schemes as book;
+ghost use Rattle.std.specs.Prelude.{List};
 ghost use Rattle.mls_infer.specs.Fields.{AreReads};
 ghost use Rattle.mls_infer.specs.Inference.{AreNames, schemes_in};
 
@@ -15,46 +16,68 @@ use std::rc::Rc;
 /// Types by the numbers of their names.
 pub(crate) type Reads = BTreeMap<usize, Rc<Named>>;
 
-/// The types of the names that are used twice or more, each read once.
-pub(crate) fn reads_of(alloc: Global, names: &Names, nodes: &[TermNode]) -> Result<Reads, Memory>
-    requires { AreNames names.now }
-    ensures { IfOk result (AreReads (schemes_in names.now)) }
-{
-    let mut reads = BTreeMap::new(alloc);
-    let mut used = BTreeSet::new(alloc);
-    for node in nodes {
-        note(alloc, names, &mut reads, &mut used, &node.form)?;
-    }
-    Ok(reads)
+/// What is known of the names of an environment: which of them were used, and the types of those that were used twice or
+/// more, each read once.
+#[derive(Drop)]
+pub(crate) struct Uses {
+    used: BTreeSet<usize>,
+    pub(crate) reads: Reads,
 }
 
-// Reads the scheme of a name that was used before.
-fn note(
-    alloc: Global,
-    names: &Names,
-    reads: &mut Reads,
-    used: &mut BTreeSet<usize>,
-    form: &TermForm,
-) -> Result<(), Memory>
-    requires names { AreNames names.now }
-    requires reads { AreReads (schemes_in names.now) reads.old }
-    ensures { OnOk result (AreReads (schemes_in names.now) reads.new) }
-{
-    if let TermForm::Global(g) = form {
-        if used.contains(g) {
-            read(alloc, names, reads, *g)?;
-            return Ok(());
+impl Uses {
+    /// No name was used. It allocates nothing.
+    pub(crate) fn new(alloc: Global) -> Uses
+        ensures { (globals : List book.Scheme) → AreReads globals result.reads }
+    {
+        Uses {
+            used: BTreeSet::new(alloc),
+            reads: BTreeMap::new(alloc),
         }
-        used.insert(*g)?;
     }
-    Ok(())
+
+    /// Notes the names that an expression uses.
+    ///
+    /// # Errors
+    ///
+    /// `Memory` where memory is wanting.
+    pub(crate) fn note_all(
+        &mut self,
+        alloc: Global,
+        names: &Names,
+        nodes: &[TermNode],
+    ) -> Result<(), Memory>
+        requires names { AreNames names.now }
+        requires reads { AreReads (schemes_in names.now) self.old.reads }
+        ensures { AreReads (schemes_in names.now) self.new.reads }
+    {
+        for node in nodes {
+            self.note(alloc, names, &node.form)?;
+        }
+        Ok(())
+    }
+
+    // Reads the scheme of a name that was used before.
+    fn note(&mut self, alloc: Global, names: &Names, form: &TermForm) -> Result<(), Memory>
+        requires names { AreNames names.now }
+        requires reads { AreReads (schemes_in names.now) self.old.reads }
+        ensures { AreReads (schemes_in names.now) self.new.reads }
+    {
+        if let TermForm::Global(g) = form {
+            if self.used.contains(g) {
+                read(alloc, names, &mut self.reads, *g)?;
+                return Ok(());
+            }
+            self.used.insert(*g)?;
+        }
+        Ok(())
+    }
 }
 
 // Reads the scheme of a name, if that was not done.
 fn read(alloc: Global, names: &Names, reads: &mut Reads, g: usize) -> Result<(), Memory>
     requires names { AreNames names.now }
     requires reads { AreReads (schemes_in names.now) reads.old }
-    ensures { OnOk result (AreReads (schemes_in names.now) reads.new) }
+    ensures { AreReads (schemes_in names.now) reads.new }
 {
     let schemes = names.schemes.as_slice();
     if g >= schemes.len() || reads.contains_key(&g) {

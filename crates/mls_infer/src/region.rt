@@ -58,7 +58,7 @@ impl Size {
     /// Whether there is more than twice as much as when it was last gone through. So all walks together cost what was
     /// added.
     pub(crate) fn is_due(self) -> bool {
-        self.total / 2 > self.kept.saturating_add(8)
+        self.total / 2 > self.kept.saturating_add(16)
     }
 }
 

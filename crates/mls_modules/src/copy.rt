@@ -3,7 +3,6 @@ ghost use Rattle.std.specs.Prelude.{◌≡◌, ◌<◌, length, IfOk};
 ghost use Rattle.mls_base.specs.Spelling.{IsName};
 ghost use Rattle.mls_book.specs.Books.{node_at};
 
-use mls_base::list::List;
 use mls_base::memory::Memory;
 use mls_book::book::{Book, Node, NodeId};
 use mls_book::name::Name;
@@ -16,17 +15,6 @@ pub fn copy_name(alloc: Global, name: &Name) -> Result<Name, Memory>
     ensures name { IsName name.now }
 {
     let copy = Name::new(alloc, name.bytes())?;
-    Ok(copy)
-}
-
-/// A copy of bytes.
-pub fn copy_bytes(alloc: Global, bytes: &[u8]) -> Result<List<u8>, Memory>
-    ensures { IfOk result (λ copy. copy ≡ bytes.now) }
-{
-    let mut copy = List::new(alloc);
-    for byte in bytes {
-        copy.push(*byte)?;
-    }
     Ok(copy)
 }
 

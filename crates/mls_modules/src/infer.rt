@@ -1,31 +1,30 @@
 //! The signature of a module.
-ghost use Rattle.std.specs.Prelude.{◌≡◌, ◌≢◌, ℕ, ◌+◌, length, All, IfOk, IfErr};
+ghost use Rattle.std.specs.Prelude.{◌≡◌, ◌≢◌, ℕ, ◌+◌, length, All, IfOk, IfErr, OnOk};
 ghost use Rattle.mls_grammar.specs.Modules.{IsModule};
 ghost use Rattle.mls_term.specs.WellFormed.{IsTerm};
 ghost use Rattle.mls_names.specs.Resolution.{declared_count};
 ghost use Rattle.mls_names.specs.ResolutionLaws.{AreTerms};
-ghost use Rattle.mls_infer.specs.Inference.{AreNames, IsFirstWithout};
+ghost use Rattle.mls_infer.specs.Inference.{IsFirstWithout};
 ghost use Rattle.mls_modules.specs.Environments.{AreInterfacesOf, IsValidInterface, MeanAfter, declared_names};
 ghost use Rattle.mls_modules.specs.Entries.{AreAllEntriesOf, IsEntryOf, IsSignatureOf};
 ghost use Rattle.mls_modules.specs.ModuleFaults.{HasModuleFault};
-ghost use Rattle.mls_modules.specs.steps.Inferring.{at_binding, of_names, EndsAt};
+ghost use Rattle.mls_modules.specs.steps.Inferring.{at_binding, of_names, AreTypes, EndsAt};
 
-use crate::copy::{copy_bytes, copy_name, copy_scheme};
+use crate::copy::{copy_name, copy_scheme};
 use crate::environment::{declared_names, names_of};
 use crate::fault::ModuleFault;
-use crate::types::type_of;
+use crate::short::ShortTypes;
 use mls_base::list::List;
 use mls_base::memory::Memory;
 use mls_grammar::fault::Fault;
 use mls_grammar::module::Module;
 use mls_iface::interface::Interface;
 use mls_iface::signature::{SigEntry, Signature};
+use mls_infer::environment::Environment;
 use mls_infer::fault::InferFault;
-use mls_infer::infer::infer;
 use mls_names::resolve::resolve;
 use mls_print::print::print_scheme;
 use mls_term::term::ResolvedBinding;
-use mls_typetext::scheme::Names;
 use std::alloc::Global;
 
 /// The signature of a module, where these are the interfaces of its imports, in order: for each binding its most
@@ -79,11 +78,13 @@ fn signature_of(
     let mut signature = Signature {
         entries: List::new(alloc),
     };
-    let mut names = names_of(alloc, imports, &signature)?;
+    let names = names_of(alloc, imports, &signature)?;
+    let mut environment = Environment::new(alloc, names);
+    let mut types = ShortTypes::new(alloc);
     for (number, binding) in bindings.iter().enumerate() {
-        match entry_of(alloc, &names, binding) {
+        match entry_of(alloc, &mut environment, &mut types, binding) {
             Ok(entry) => {
-                names.schemes.push(copy_scheme(alloc, &entry.scheme)?)?;
+                environment.add(copy_scheme(alloc, &entry.scheme)?)?;
                 signature.entries.push(entry)?;
             }
             Err(fault) => return Err(at_binding(number, fault)),
@@ -102,21 +103,28 @@ fn at_binding(number: usize, fault: InferFault) -> ModuleFault
     }
 }
 
-// The entry of a binding, whatever entries the names come from.
-fn entry_of(alloc: Global, names: &Names, binding: &ResolvedBinding) -> Result<SigEntry, InferFault>
-    requires names { AreNames names.now }
-    requires term { IsTerm (length names.now.schemes) binding.now.term.nodes binding.now.term.binders
+// The entry of a binding, whatever entries the environment comes from.
+fn entry_of(
+    alloc: Global,
+    environment: &mut Environment,
+    types: &mut ShortTypes,
+    binding: &ResolvedBinding,
+) -> Result<SigEntry, InferFault>
+    requires term { IsTerm (length environment.old.schemes) binding.now.term.nodes binding.now.term.binders
         binding.now.term.lets }
-    ensures entry { IfOk result (λ e. (imports : _) (earlier : _) → MeanAfter imports earlier names.now
+    requires types { AreTypes types.old }
+    ensures types { OnOk result (AreTypes types.new) }
+    ensures environment { environment.new ≡ environment.old }
+    ensures entry { IfOk result (λ e. (imports : _) (earlier : _) → MeanAfter imports earlier environment.old
         → IsEntryOf imports earlier binding.now e) }
-    ensures fault { IfErr result (IsFirstWithout names.now binding.now.term) }
+    ensures fault { IfErr result (IsFirstWithout environment.old binding.now.term) }
 {
-    let scheme = infer(alloc, names, &binding.term)?;
+    let scheme = environment.infer(alloc, &binding.term)?;
     let printed = print_scheme(alloc, &scheme)?;
-    let read = type_of(alloc, printed.as_slice())?;
+    let read = types.type_of(alloc, printed.as_slice())?;
     Ok(SigEntry {
         name: copy_name(alloc, &binding.name)?,
-        text: copy_bytes(alloc, printed.as_slice())?,
+        text: List::of(printed),
         scheme: read,
     })
 }

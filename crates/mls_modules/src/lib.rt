@@ -8,4 +8,5 @@ pub mod fault;
 pub mod first;
 pub mod infer;
 pub mod laws;
+mod short;
 mod types;

@@ -1,5 +1,5 @@
 -- What is inferred of some bindings of a module.
-use Rattle.std.specs.Prelude.{◌≡◌, ℕ, List, length}
+use Rattle.std.specs.Prelude.{◌≡◌, ℕ, List, length, All}
 use Rattle.mls_grammar.specs.declared.fault.Fault.{Fault}
 use Rattle.mls_grammar.specs.declared.fault.Fault.TheVariants as names
 use Rattle.mls_term.specs.declared.term.ResolvedBinding.{ResolvedBinding}
@@ -13,12 +13,17 @@ use Rattle.mls_iface.specs.declared.interface.Interface.{Interface}
 use Rattle.mls_iface.specs.declared.signature.SigEntry.{SigEntry}
 use Rattle.mls_modules.specs.declared.fault.ModuleFault.{ModuleFault}
 use Rattle.mls_modules.specs.declared.fault.ModuleFault.TheVariants.{UnknownName, NoScheme, Memory}
+use Rattle.mls_modules.specs.declared.short.ShortTypes.{ShortTypes}
 use Rattle.mls_modules.specs.Environments.{MeanAfter}
 use Rattle.mls_modules.specs.Entries.{AreEntriesOf, HasNoEntry}
 
 -- the text is a type
 abbrev pub IsType : List ℕ → Type 0
 IsType text = (read : ReadScheme) × IsTypeText text read
+
+-- each text that is kept is a type, and is read as what is kept with it
+abbrev pub AreTypes : ShortTypes → Type 0
+AreTypes types = All (λ known. IsTypeText known.text.items known.read) types.types.items
 
 -- a fault of names as one of a module
 abbrev pub of_names : Fault → ModuleFault

@@ -19,7 +19,7 @@ pub add_node-requires-clause-can : goal.add_node-requires-clause-can
 add_node-requires-clause-can c =
     let scope : Scope = scope_of c.args.names.now c.args.firsts.now in
     let nodes : List TermNode = c.args.nodes.now in
-    let i : ℕ = c.loop-i.i-counter in
+    let i : ℕ = c.loop-i.i in
     let node : TermNode = c.index-nodes-i.result in
     let low : i < length nodes = search rules in
     let is : get_or nodes i node ≡ node = search rules in
@@ -29,7 +29,7 @@ pub returns-in-Err-Clash-clause-err : goal.returns-in-Err-Clash-clause-err
 returns-in-Err-Clash-clause-err c =
     let scope : Scope = scope_of c.args.names.now c.args.firsts.now in
     let nodes : List TermNode = c.args.nodes.now in
-    let i : ℕ = c.loop-i.i-counter in
+    let i : ℕ = c.loop-i.i in
     let node : TermNode = c.index-nodes-i.result in
     let low : i < length nodes = search rules in
     let is : get_or nodes i node ≡ node = search rules in
@@ -40,7 +40,7 @@ pub returns-in-Err-Clash-clause-kind : goal.returns-in-Err-Clash-clause-kind
 returns-in-Err-Clash-clause-kind c =
     let scope : Scope = scope_of c.args.names.now c.args.firsts.now in
     let nodes : List TermNode = c.args.nodes.now in
-    let i : ℕ = c.loop-i.i-counter in
+    let i : ℕ = c.loop-i.i in
     let node : TermNode = c.index-nodes-i.result in
     let low : i < length nodes = search rules in
     let is : get_or nodes i node ≡ node = search rules in
@@ -53,7 +53,7 @@ pub loop-i-preserved : goal.loop-i-preserved
 loop-i-preserved c =
     let scope : Scope = scope_of c.args.names.now c.args.firsts.now in
     let nodes : List TermNode = c.args.nodes.now in
-    let i : ℕ = c.loop-i.i-counter in
+    let i : ℕ = c.loop-i.i in
     let node : TermNode = c.index-nodes-i.result in
     let low : i < length nodes = search rules in
     let is : get_or nodes i node ≡ node = search rules in
@@ -67,9 +67,9 @@ returns-clause-done c =
 pub returns-clause-ok : goal.returns-clause-ok
 returns-clause-ok c =
     let nodes : List TermNode = c.args.nodes.now in
-    let past : length nodes ≤ c.loop-i.i-counter = search rules in
+    let past : length nodes ≤ c.loop-i.i = search rules in
     λ t are. (
       c.loop-i.invariant.told,
       c.loop-i.invariant.keeps,
-      infers_whole (scope_of c.args.names.now c.args.firsts.now) nodes c.loop-i.i-counter c.loop-i.invariant.told c.loop-i.invariant.goes past t are,
+      infers_whole (scope_of c.args.names.now c.args.firsts.now) nodes c.loop-i.i c.loop-i.invariant.told c.loop-i.invariant.goes past t are,
     )
