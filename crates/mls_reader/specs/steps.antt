@@ -5,5 +5,7 @@ pub mod Linking
 pub mod PieceMachine
 pub mod PieceReaders
 pub mod Pieces
+pub mod SpellingOrder
+pub mod Spellings
 pub mod Todos
 pub mod Told

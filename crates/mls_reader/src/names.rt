@@ -2,10 +2,9 @@
 ghost use Rattle.std.specs.Prelude.{◌≡◌, [], ◌∷◌, not, All, IsTrue, IfOk, OnOk, bytes_eq};
 ghost use Rattle.std.specs.List.{list_any};
 ghost use Rattle.std.specs.List.Sorted.{IsSorted};
-ghost use Rattle.std.specs.Cmp.Lexicographic.{slice_cmp};
-ghost use Rattle.std.specs.Ordering.{nat_cmp};
 ghost use Rattle.std.specs.declared.cmp.Ordering.TheVariants.{Less};
 ghost use Rattle.mls_reader.specs.steps.GivenTwice.{HasSameNames};
+ghost use Rattle.mls_reader.specs.steps.Spellings.{spelling_cmp};
 
 use crate::spelling::Spelling;
 use mls_base::memory::Memory;
@@ -13,8 +12,8 @@ use std::alloc::Global;
 use std::collections::BTreeSet;
 use std::marker::Model;
 
-/// Names that were given, each once. Contracts see them in a list. Labels mostly rise, and a name that is above those
-/// before it is new after one comparison.
+/// Names that were given, each once. Contracts see them in a list. Names mostly rise, and one that is above those before
+/// it is new after one comparison.
 #[derive(Drop)]
 pub struct Names<'a> {
     // Those that were above all that stood here before them.
@@ -25,14 +24,13 @@ pub struct Names<'a> {
 impl<'a> Model for Names<'a> {
     ghost use Rattle.std.specs.Prelude.{List, ℕ, ◌++◌};
     ghost use Rattle.std.specs.List.Sorted.{IsSorted};
-    ghost use Rattle.std.specs.Cmp.Lexicographic.{slice_cmp};
-    ghost use Rattle.std.specs.Ordering.{nat_cmp};
+    ghost use Rattle.mls_reader.specs.steps.Spellings.{spelling_cmp};
 
     ghost Value = { List (List ℕ) };
 
     ghost view = { λ names. names.rising.items ++ names.others.keys };
 
-    ghost invariant = { λ names. IsSorted (slice_cmp nat_cmp) names.rising.items };
+    ghost invariant = { λ names. IsSorted spelling_cmp names.rising.items };
 }
 
 impl<'a> Names<'a> {
@@ -67,8 +65,8 @@ impl<'a> Names<'a> {
 
 // Whether a name is above all of these, which rise.
 fn is_above(names: &[Spelling], name: &Spelling) -> bool
-    requires { IsSorted (slice_cmp nat_cmp) names.now }
-    ensures { IsTrue result → All (λ other. slice_cmp nat_cmp other name.now ≡ Less) names.now }
+    requires { IsSorted spelling_cmp names.now }
+    ensures { IsTrue result → All (λ other. spelling_cmp other name.now ≡ Less) names.now }
 {
     match names.last() {
         Some(last) => *last < *name,

@@ -1,12 +1,13 @@
 //! Names where they stand in a text.
 ghost use Rattle.std.specs.Prelude.{◌≡◌, IfOk, bytes_eq};
-ghost use Rattle.std.proofs.Common.{rules};
+ghost use Rattle.std.proofs.Common.{rules, sym};
 ghost use Rattle.std.specs.Cmp.{partial_equiv_from_equiv};
-ghost use Rattle.std.specs.Cmp.Lexicographic.{slice_cmp};
 ghost use Rattle.std.specs.Cmp.Rules.{comparing};
-ghost use Rattle.std.specs.Ordering.{nat_cmp, as_partial_cmp};
-ghost use Rattle.std.proofs.lemmas.Cmp.{nat_list_cmp_total, nat_list_eq_equiv};
+ghost use Rattle.std.specs.Ordering.{as_partial_cmp};
+ghost use Rattle.std.proofs.lemmas.Cmp.{nat_list_eq_equiv};
 ghost use Rattle.mls_base.specs.Spelling.{IsName};
+ghost use Rattle.mls_reader.specs.steps.Spellings.{spelling_cmp};
+ghost use Rattle.mls_reader.specs.steps.SpellingOrder.{spelling_ties, spelling_total};
 
 use mls_base::memory::Memory;
 use mls_book::name::Name;
@@ -72,23 +73,27 @@ impl<'a> Eq for Spelling<'a> {
     ghost laws = { nat_list_eq_equiv };
 }
 
-/// They are ordered by their bytes, as in a dictionary.
+/// Shorter ones come first, and those of one length are ordered as in a dictionary. So names that are numbered rise.
 impl<'a> Ord for Spelling<'a> {
-    ghost cmp = { slice_cmp nat_cmp };
+    ghost cmp = { spelling_cmp };
 
-    ghost total = { nat_list_cmp_total };
+    ghost total = { spelling_total };
 
     ghost matches_partial_cmp = { Prim.search (comparing, rules) };
 
-    ghost matches_eq = { Prim.search (comparing, rules) };
+    ghost matches_eq = { λ x y. sym (spelling_ties x y) };
 
     fn cmp(&self, other: &Spelling<'a>) -> Ordering {
+        let longer = self.letters.len().cmp(&other.letters.len());
+        if longer.is_ne() {
+            return longer;
+        }
         self.letters.cmp(&other.letters)
     }
 }
 
 impl<'a> PartialOrd for Spelling<'a> {
-    ghost partial_cmp = { as_partial_cmp (slice_cmp nat_cmp) };
+    ghost partial_cmp = { as_partial_cmp spelling_cmp };
 
     ghost laws = { Prim.search (comparing, rules) };
 
