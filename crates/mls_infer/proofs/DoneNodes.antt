@@ -15,13 +15,14 @@ use Rattle.mls_automaton.specs.declared.scheme.Scheme.{Scheme}
 use Rattle.mls_biunify.specs.Live.{IsLive, Live}
 use Rattle.mls_infer.specs.declared.done.Known.{Known}
 use Rattle.mls_infer.specs.declared.done.Known.TheVariants as known
-use Rattle.mls_infer.specs.Constraints.{HasStates, no_goals}
+use Rattle.mls_infer.specs.Constraints.{HasStates, bound_scheme, no_goals}
 use Rattle.mls_infer.specs.Doing.{AreBeside, AreDone, Stands, scheme_known, schemes_known, states_known}
 use Rattle.mls_infer.specs.Finished.{Finished, Has, HasEach}
 use Rattle.mls_infer.specs.Finishing.{KeepsBut}
 use Rattle.mls_infer.specs.Merges.{AreAlike, HaveSameTypes}
 use Rattle.mls_infer.specs.Pending.{AreWaiting, Changes, Waits, all_states, part_in}
 use Rattle.mls_infer.specs.Regions.{AreApart, TablePart, scheme_at, schemes_at}
+use Rattle.mls_infer.proofs.ClosedConstraints.{bound_closed}
 use Rattle.mls_infer.proofs.ConstraintRows.{nothing_in}
 use Rattle.mls_infer.proofs.FinishedParts.{other_item}
 use Rattle.mls_infer.proofs.Merges.{types_trans}
@@ -73,6 +74,7 @@ known_states live is (known.Waiting part) s stands at =
     let w : Waits live p = stands in
     subst HasStates same (part_states live is p.states w.there p.env p.root w.part)
 known_states live is (known.Named r) s stands at = let same : r.value.scheme ≡ s = cc in subst HasStates same (scheme_states r.value.scheme stands.scheme stands.rise)
+known_states live is (known.Bound x) s stands at = let same : bound_scheme x ≡ s = cc in subst HasStates same (bound_closed x).states
 known_states live is known.Taken s stands at = absurd (cc)
 
 -- The table changes.
@@ -80,6 +82,7 @@ module _ (taken : List ℕ) (old new : Live) (made : List ℕ) (changes : Change
   stands_on : (k : Known) → Stands old k → AreApart taken (states_known k) → Stands new k × AreApart made (states_known k)
   stands_on (known.Waiting part) stands apart = let it = waits_on taken old new made changes (part_in part) stands apart in (it.0, it.2)
   stands_on (known.Named r) stands apart = (stands, λ s it none. absurd (nothing_in s none))
+  stands_on (known.Bound x) stands apart = (tt, λ s it none. absurd (nothing_in s none))
   stands_on known.Taken stands apart = (tt, λ s it none. absurd (nothing_in s none))
 
   scheme_on : (k : Known) (s : Scheme) → Stands old k → AreApart taken (states_known k) → scheme_known old k ≡ Some s → (t : Scheme) × (scheme_known new k ≡ Some t) × HaveSameTypes (no_goals s) (no_goals t)
@@ -89,6 +92,7 @@ module _ (taken : List ℕ) (old new : Live) (made : List ℕ) (changes : Change
       let P : Scheme → Type 0 = λ s. HaveSameTypes (no_goals s) (no_goals t) in
       (t, refl, subst P same (types_on taken old new made changes is_old is_new (part_in part) stands apart))
   scheme_on (known.Named r) s stands apart is = (s, is, own_types s)
+  scheme_on (known.Bound x) s stands apart is = (s, is, own_types s)
   scheme_on known.Taken s stands apart is = absurd (cc)
 
   module _ (nodes : List Known) (done : AreDone old nodes) (apart : (i : ℕ) (k : Known) → slice_get nodes i ≡ Some k → AreApart taken (states_known k)) where

@@ -1,13 +1,15 @@
 -- The steps on what is known of nodes.
---     take_waiting, take_named      a part is taken
+--     take_waiting, take_copied     a part is taken, or a copy
 --     named_done, named_keeps       a part is set apart
---     pushed_done, shared_done      a part is added, or a known type
+--     bound_out                     or a binder
+--     pushed_done, shared_done, bind_done      a part is added, a known type, or a binder
 --     pushed_schemes                what is known then
 --     made_in                       parts give way to that of a node
 --     stops_in                      or do not, since the constraint has no types
 --     built_added                   what is built is added
 --     trimmed_in                    a part is trimmed
 --     field_built                   a copy of a field comes in place of a known type
+--     bound_projected, bound_called      a binder is taken and projected, or applied
 use Rattle.std.proofs.Common.{◌≡◌, ◌≢◌, ◌⊎◌, inl, inr, ℕ, zero, suc, List, [], ◌∷◌, ◌++◌, length, refl, sym, ap, ◌∙◌, subst, arith, Some, slice_get, slice_set, Contains}
 use Rattle.std.specs.List.{AllPairs}
 use Rattle.std.proofs.lemmas.Bool.{cases_eq}
@@ -23,18 +25,20 @@ use Rattle.mls_infer.specs.declared.done.Known.TheVariants as known
 use Rattle.mls_infer.specs.declared.pending.Pending.{Pending}
 use Rattle.mls_infer.specs.declared.solve.NoSolution.{NoSolution}
 use Rattle.mls_infer.specs.declared.solve.NoSolution.TheVariants as no_solution
-use Rattle.mls_infer.specs.Constraints.{Constraint, HasStates, no_goals, project_constraint}
+use Rattle.mls_infer.specs.Constraints.{Constraint, HasStates, apply_constraint, bound_scheme, no_goals, project_constraint}
 use Rattle.mls_infer.specs.Doing.{AreBeside, AreDone, AreTaken, IsAddedIn, IsBuiltIn, IsTakenOut, Stands, scheme_known, schemes_known, states_known}
 use Rattle.mls_infer.specs.Fields.{IsFieldOf, IsKnownType, Shared}
 use Rattle.mls_infer.specs.Finished.{Finished, Has, HasEach}
 use Rattle.mls_infer.specs.Finishing.{HasConstraint, HasParts, KeepsBut, Scope, StopsAt, is_solved}
 use Rattle.mls_infer.specs.Forms.{IsBuilt, IsPosed, children}
 use Rattle.mls_infer.specs.Merges.{AreAlike, HaveSameTypes}
-use Rattle.mls_infer.specs.Pending.{IsCopied, IsMade, IsPosedOver, IsRemade, StopsOver, Waits, all_states, part_in}
+use Rattle.mls_infer.specs.Pending.{Changes, IsCopied, IsMade, IsMadeWith, IsPosedOver, IsRemade, StopsOver, Waits, all_states, part_in}
 use Rattle.mls_infer.specs.Regions.{AreApart, TablePart, scheme_at, schemes_at}
+use Rattle.mls_infer.proofs.ClosedConstraints.{bound_closed}
 use Rattle.mls_infer.proofs.ConstraintRows.{nothing_in}
 use Rattle.mls_infer.proofs.DoneNodes.{alike_snoc, alike_then, beside_on, done_on, each_split, hand_on, has_known, held_too, keeps_after, keeps_on, known_states, one_held, own_types, set_apart, set_cases, set_done, set_has, set_here, set_size, then_types}
 use Rattle.mls_infer.proofs.FinishedParts.{one_scheme}
+use Rattle.mls_infer.proofs.PartChanges.{changes_then}
 use Rattle.mls_infer.proofs.SolvedConstraints.{solution_after}
 use Rattle.mls_infer.proofs.TableSolutions.{part_states}
 
@@ -53,10 +57,10 @@ module _ (live : Live) (nodes : List Known) (done : AreDone live nodes) (i : ℕ
   left_apart states apart = set_apart live nodes i known.Taken states apart (λ s it none. nothing_in s none)
 
   -- the part is apart from what is left
-  pub own_apart : (p : Pending) → slice_get nodes i ≡ Some (known.Waiting p) → (j : ℕ) (k : Known) → slice_get left j ≡ Some k → AreApart (part_in p).states (states_known k)
-  own_apart p at j k at' = elim (set_cases nodes i j known.Taken k at') [
-    | inl here ↦ let P : Known → Type 0 = λ k. AreApart (part_in p).states (states_known k) in subst P (sym here.1) (λ s it none. nothing_in s none)
-    | inr other ↦ done.apart i j (known.Waiting p) k (λ same. other.0 (sym same)) at other.1
+  pub own_apart : (l : Known) → slice_get nodes i ≡ Some l → (j : ℕ) (k : Known) → slice_get left j ≡ Some k → AreApart (states_known l) (states_known k)
+  own_apart l at j k at' = elim (set_cases nodes i j known.Taken k at') [
+    | inl here ↦ let P : Known → Type 0 = λ k. AreApart (states_known l) (states_known k) in subst P (sym here.1) (λ s it none. nothing_in s none)
+    | inr other ↦ done.apart i j l k (λ same. other.0 (sym same)) at other.1
   ]
 
   -- the scheme that was known
@@ -107,15 +111,15 @@ module _ (first : Finished) (gone : List ℕ) (live : Live) (nodes : List Known)
         done = rest_done;
         beside =
             held_too live rest parts part (record { waiting = taken.beside.waiting; beside = left_apart live nodes taken.done i (all_states parts) taken.beside.beside }) waits
-            (taken.beside.beside i (known.Waiting p) at) (own_apart live nodes taken.done i p at);
+            (taken.beside.beside i (known.Waiting p) at) (own_apart live nodes taken.done i (known.Waiting p) at);
         alike =
             alike_more live part taken.alike (known_states live taken.done.is_live (known.Waiting p) (scheme_at live.table part) waits refl)
             (λ t has. as_known (known.Waiting p) (scheme_at live.table part) t at refl has);
         keeps = rest_keeps;
       }
 
-  pub take_named : (r : Shared) → slice_get nodes i ≡ Some (known.Named r) → (new : Live) → IsLive new → (part : TablePart) → IsCopied r.value.scheme live new part → AreTaken first (gone ++ i ∷ []) new rest (parts ++ part ∷ [])
-  take_named r at new is_new part copy =
+  pub take_copied : (k : Known) (s : Scheme) → slice_get nodes i ≡ Some k → scheme_known live k ≡ Some s → (new : Live) → IsLive new → (part : TablePart) → IsCopied s live new part → AreTaken first (gone ++ i ∷ []) new rest (parts ++ part ∷ [])
+  take_copied k s at is new is_new part copy =
       let is_live : IsLive live = taken.done.is_live in
       let none : (j : ℕ) (k : Known) → slice_get rest j ≡ Some k → AreApart [] (states_known k) = λ j k at. nothing_known (states_known k) in
       let hand = hand_on [] live new part.states copy.changes is_live is_new parts taken.beside.waiting (nothing_known (all_states parts)) in
@@ -127,12 +131,13 @@ module _ (first : Finished) (gone : List ℕ) (live : Live) (nodes : List Known)
         alike =
             alike_more new part (λ ss each. alike_then ss (schemes_at live.table parts) (schemes_at new.table parts) (taken.alike ss each) hand.2)
             (part_states new is_new part.states copy.waits.there part.env part.root copy.waits.part)
-            (λ t has. then_types t r.value.scheme (scheme_at new.table part) (as_known (known.Named r) r.value.scheme t at refl has) copy.alike);
+            (λ t has. then_types t s (scheme_at new.table part) (as_known k s t at is has) copy.alike);
         keeps = keeps_after (gone ++ i ∷ []) first (schemes_known live rest) (schemes_known new rest) rest_keeps (keeps_on [] live new part.states copy.changes is_live is_new rest rest_done none);
       }
 
 -- A part is set apart.
-module _ (live : Live) (nodes : List Known) (done : AreDone live nodes) (i : ℕ) (p : Pending) (at : slice_get nodes i ≡ Some (known.Waiting p)) (new : Live) (r : Shared) (is_known : IsKnownType r.value) (out : IsTakenOut live (part_in p) new r.value.scheme) where
+module _ (live : Live) (nodes : List Known) (done : AreDone live nodes) (i : ℕ) (k : Known) (s : Scheme) (at : slice_get nodes i ≡ Some k) (is : scheme_known live k ≡ Some s) (new : Live) (is_new : IsLive new)
+    (changes : Changes (states_known k) live new []) (r : Shared) (is_known : IsKnownType r.value) (alike : HaveSameTypes (no_goals s) (no_goals r.value.scheme)) where
   abbrev others : List Known
   others = left live nodes done i
 
@@ -140,18 +145,18 @@ module _ (live : Live) (nodes : List Known) (done : AreDone live nodes) (i : ℕ
   named = slice_set others i (known.Named r)
 
   pub named_here : slice_get named i ≡ Some (known.Named r)
-  named_here = set_here others i (known.Named r) known.Taken (set_here nodes i known.Taken (known.Waiting p) at)
+  named_here = set_here others i (known.Named r) known.Taken (set_here nodes i known.Taken k at)
 
   pub named_done : AreDone new named
   named_done =
       set_done new others i (known.Named r)
-      (done_on (part_in p).states live new [] out.changes done.is_live out.is_live others (left_done live nodes done i) (own_apart live nodes done i p at))
-      is_known (λ j k other at. nothing_known (states_known k))
+      (done_on (states_known k) live new [] changes done.is_live is_new others (left_done live nodes done i) (own_apart live nodes done i k at))
+      is_known (λ j l other at. nothing_known (states_known l))
 
   pub named_keeps : KeepsBut [] (schemes_known live nodes) (schemes_known new named)
   named_keeps =
       let on : KeepsBut [] (schemes_known live others) (schemes_known new others) =
-      keeps_on (part_in p).states live new [] out.changes done.is_live out.is_live others (left_done live nodes done i) (own_apart live nodes done i p at) in
+      keeps_on (states_known k) live new [] changes done.is_live is_new others (left_done live nodes done i) (own_apart live nodes done i k at) in
       record {
         size = set_size new others i (known.Named r) ∙ (on.size ∙ set_size live nodes i known.Taken);
         kept = λ j t none has. go on j t none has (cases_eq j i);
@@ -162,11 +167,24 @@ module _ (live : Live) (nodes : List Known) (done : AreDone live nodes) (i : ℕ
           let H : ℕ → Type 0 = λ j. Has (schemes_known live nodes) j t in
           let N : ℕ → Type 0 = λ j. Has (schemes_known new named) j r.value.scheme in
           let S : Scheme → Type 0 = λ t. HaveSameTypes (no_goals t) (no_goals r.value.scheme) in
-          let is : t ≡ scheme_at live.table (part_in p) = the_scheme live nodes done i (known.Waiting p) (scheme_at live.table (part_in p)) t at refl (subst H same has) in
-          (r.value.scheme, subst N (sym same) (has_known new named i (known.Named r) r.value.scheme named_here refl), subst S (sym is) out.alike)
+          let one : t ≡ s = the_scheme live nodes done i k s t at is (subst H same has) in
+          (r.value.scheme, subst N (sym same) (has_known new named i (known.Named r) r.value.scheme named_here refl), subst S (sym one) alike)
       go on j t none has (inr other) =
           let it = on.kept j t none (set_has live nodes i known.Taken j t other has) in
           (it.0, set_has new others i (known.Named r) j it.0 other it.1, it.2)
+
+-- A binder came and was taken out: it has the types of a binder.
+pub record IsBoundOut (live : Live) (x : ℕ) (new : Live) (s : Scheme) : Type 0 where
+  pub is_live : IsLive new
+  pub changes : Changes [] live new []
+  pub alike : HaveSameTypes (no_goals (bound_scheme x)) (no_goals s)
+
+pub bound_out : (live : Live) (x : ℕ) (mid : Live) (part : TablePart) → IsCopied (bound_scheme x) live mid part → (new : Live) (s : Scheme) → IsTakenOut mid part new s → IsBoundOut live x new s
+bound_out live x mid part copy new s out = record {
+  is_live = out.is_live;
+  changes = changes_then [] live mid new part.states [] copy.changes out.changes;
+  alike = then_types (bound_scheme x) (scheme_at mid.table part) s copy.alike out.alike;
+}
 
 -- what was there is put back
 pub set_back : (nodes : List Known) (i : ℕ) (x y : Known) → slice_get nodes i ≡ Some x → slice_set (slice_set nodes i y) i x ≡ nodes
@@ -211,6 +229,9 @@ module _ (live : Live) (nodes : List Known) where
   pushed_done p done beside =
       more_done done (known.Waiting p) beside.waiting.0
       (λ j l at s it here. beside.beside j l at s (Contains-append_left (part_in p).states [] s it) here)
+
+  pub bind_done : (x : ℕ) → AreDone live nodes → AreDone live (nodes ++ known.Bound x ∷ [])
+  bind_done x done = more_done done (known.Bound x) tt (λ j l at. nothing_known (states_known l))
 
   pub shared_done : (r : Shared) → AreDone live nodes → IsKnownType r.value → AreDone live (nodes ++ known.Named r ∷ [])
   shared_done r done is = more_done done (known.Named r) is (λ j l at. nothing_known (states_known l))
@@ -304,6 +325,16 @@ trimmed_in node first live new nodes part other is_new remade it =
       keeps = keeps_after (children node) first (schemes_known live nodes) (schemes_known new nodes) it.keeps (keeps_on part.states live new other.states remade.changes it.done.is_live is_new nodes it.done apart);
     }
 
+-- schemes that were taken one time and another
+keeps_both : (gs hs : List ℕ) (a b c : Finished) → KeepsBut gs a b → KeepsBut hs b c → KeepsBut (gs ++ hs) a c
+keeps_both gs hs a b c first second = record {
+  size = second.size ∙ first.size;
+  kept = λ j s out has.
+      let one = first.kept j s (λ here. out (Contains-append_left gs hs j here)) has in
+      let two = second.kept j one.0 (λ here. out (Contains-append_right gs hs j here)) one.1 in
+      (two.0, two.1, then_types s one.0 two.0 one.2 two.2);
+}
+
 -- A copy of a field comes in place of a known type.
 module _ (live new : Live) (nodes : List Known) (done : AreDone live nodes) (i : ℕ) (label : List ℕ) (parts : HasParts (form.Project i label) (schemes_known live nodes)) (is_new : IsLive new) (t : Scheme) (part : TablePart) (copy : IsCopied t live new part) where
   abbrev at_first : Finished
@@ -336,6 +367,81 @@ module _ (live new : Live) (nodes : List Known) (done : AreDone live nodes) (i :
             (rest_keeps at_first [] live nodes [] (none_taken live nodes done) i (λ none. nothing_in i none))
             (keeps_on [] live new part.states copy.changes done.is_live is_new remaining (left_done live nodes done i) none_there);
       }
+
+-- A binder is taken, and a part is made with what the node asks of it.
+module _ (live : Live) (nodes : List Known) (done : AreDone live nodes) (i x : ℕ) (at : slice_get nodes i ≡ Some (known.Bound x)) where
+  abbrev remains : List Known
+  remains = left live nodes done i
+
+  -- the scheme of the node is that of the binder
+  bound_alike : (s : Scheme) → Has (schemes_known live nodes) i s → HasStates (bound_scheme x) × HaveSameTypes (no_goals s) (no_goals (bound_scheme x))
+  bound_alike s has =
+      let P : Scheme → Type 0 = λ s. HaveSameTypes (no_goals s) (no_goals (bound_scheme x)) in
+      ((bound_closed x).states, subst P (sym (the_scheme live nodes done i (known.Bound x) (bound_scheme x) s at refl has)) (own_types (bound_scheme x)))
+
+  pub bound_left : AreDone live remains
+  bound_left = left_done live nodes done i
+
+  pub bound_keeps : KeepsBut (i ∷ []) (schemes_known live nodes) (schemes_known live remains)
+  bound_keeps = rest_keeps (schemes_known live nodes) [] live nodes [] (none_taken live nodes done) i (λ none. nothing_in i none)
+
+  -- What is made of the parts that were taken after the binder.
+  module _ (node : TermForm) (gone : List ℕ) (own : children node ≡ i ∷ gone) (mid : Live) (later : List Known) (parts : List TablePart) (taken : AreTaken (schemes_known live remains) gone mid later parts)
+      (new : Live) (is_new : IsLive new) (part : TablePart) (c : Constraint) (posed : HasConstraint node (schemes_known live nodes) c) (made : IsMadeWith c mid parts new part) where
+    pub bound_built : IsBuiltIn node (schemes_known live nodes) new later part
+    bound_built = record {
+      done = done_on (all_states parts) mid new part.states made.changes taken.done.is_live is_new later taken.done taken.beside.beside;
+      beside = one_held new later part made.waits (beside_on (all_states parts) mid new part.states made.changes taken.done.is_live is_new later taken.done taken.beside.beside);
+      constraint = c;
+      posed = posed;
+      solution = made.solution;
+      keeps =
+          let G : List ℕ → Type 0 = λ gone. KeepsBut gone (schemes_known live nodes) (schemes_known new later) in
+          subst G (sym own)
+          (keeps_both (i ∷ []) gone (schemes_known live nodes) (schemes_known live remains) (schemes_known new later) bound_keeps
+          (keeps_after gone (schemes_known live remains) (schemes_known mid later) (schemes_known new later) taken.keeps
+          (keeps_on (all_states parts) mid new part.states made.changes taken.done.is_live is_new later taken.done taken.beside.beside)));
+    }
+
+  -- a projection from the binder
+  pub bound_projected : (label : List ℕ) → HasParts (form.Project i label) (schemes_known live nodes) → (new : Live) → IsLive new → (part : TablePart) → IsMadeWith (project_constraint label (bound_scheme x)) live [] new part
+      → IsBuiltIn (form.Project i label) (schemes_known live nodes) new remains part
+  bound_projected label has new is_new part made =
+      bound_built (form.Project i label) [] refl live remains [] (none_taken live remains bound_left) new is_new part (project_constraint label (bound_scheme x))
+      (record { schemes = has.schemes; each = has.each; taken = bound_scheme x ∷ []; alike = go has.schemes has.each; is = refl }) made
+    where
+      go : (ss : List Scheme) → HasEach (schemes_known live nodes) (i ∷ []) ss → AreAlike ss (bound_scheme x ∷ [])
+      go [] each = absurd each
+      go (s ∷ []) each = (bound_alike s each.0, tt)
+      go (s ∷ u ∷ ss) each = absurd each.1
+
+  -- an application of the binder
+  module _ (a : ℕ) (has : HasParts (form.Apply i a) (schemes_known live nodes)) where
+    other_place : a ≢ i
+    other_place same =
+        let distinct : AllPairs (λ i j. i ≢ j) (i ∷ a ∷ []) = has.distinct in
+        distinct 0 1 i (omega arith) (omega arith) (sym same)
+
+    -- the argument is there when the binder is gone
+    pub argument_there : (s : Scheme) × Has (schemes_known live remains) a s
+    argument_there = go has.schemes has.each
+      where
+        go : (ss : List Scheme) → HasEach (schemes_known live nodes) (i ∷ a ∷ []) ss → (s : Scheme) × Has (schemes_known live remains) a s
+        go [] each = absurd each
+        go (s ∷ []) each = absurd each.1
+        go (s ∷ t ∷ ss) each = (t, set_has live nodes i known.Taken a t other_place each.1.0)
+
+    pub bound_called : (mid : Live) (later : List Known) (argument : TablePart) → AreTaken (schemes_known live remains) (a ∷ []) mid later (argument ∷ []) → (new : Live) → IsLive new → (part : TablePart)
+        → IsMadeWith (apply_constraint (bound_scheme x) (scheme_at mid.table argument)) mid (argument ∷ []) new part → IsBuiltIn (form.Apply i a) (schemes_known live nodes) new later part
+    bound_called mid later argument taken new is_new part made =
+        bound_built (form.Apply i a) (a ∷ []) refl mid later (argument ∷ []) taken new is_new part (apply_constraint (bound_scheme x) (scheme_at mid.table argument))
+        (record { schemes = has.schemes; each = has.each; taken = bound_scheme x ∷ scheme_at mid.table argument ∷ []; alike = go has.schemes has.each; is = inl refl }) made
+      where
+        go : (ss : List Scheme) → HasEach (schemes_known live nodes) (i ∷ a ∷ []) ss → AreAlike ss (bound_scheme x ∷ scheme_at mid.table argument ∷ [])
+        go [] each = absurd each
+        go (s ∷ []) each = absurd each.1
+        go (s ∷ t ∷ u ∷ ss) each = absurd each.1.1
+        go (s ∷ t ∷ []) each = (bound_alike s each.0, taken.alike (t ∷ []) (set_has live nodes i known.Taken a t other_place each.1.0, tt))
 
 -- One part is taken, and then others.
 pub take_one : (live : Live) (nodes : List Known) → AreDone live nodes → (i : ℕ) (mid : Live) (later : List Known) (part : TablePart)

@@ -168,7 +168,7 @@ refused_live new goals after it p s live = record {
 }
 
 -- a passage, and a negative state with a head
-passage_then : (old mid new : Live) (n p d : ℕ) (h k : Head) → h ≡ k → Grows old mid ((n, negative empty_head) ∷ (p, positive empty_head) ∷ []) ((n, p) ∷ []) → Grows mid new ((d, negative h) ∷ []) []
+pub passage_then : (old mid new : Live) (n p d : ℕ) (h k : Head) → h ≡ k → Grows old mid ((n, negative empty_head) ∷ (p, positive empty_head) ∷ []) ((n, p) ∷ []) → Grows mid new ((d, negative h) ∷ []) []
     → Grows old new ((n, negative empty_head) ∷ (p, positive empty_head) ∷ (d, negative k) ∷ []) ((n, p) ∷ [])
 passage_then old mid new n p d h k same first second =
     grows_then old mid new ((n, negative empty_head) ∷ (p, positive empty_head) ∷ []) ((d, negative k) ∷ []) ((n, p) ∷ []) [] first

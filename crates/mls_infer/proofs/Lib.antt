@@ -1,4 +1,5 @@
 pub mod Beside
+pub mod BoundParts
 pub mod BuiltConstraints
 pub mod ClosedConstraints
 pub mod ConstraintRows

@@ -1,17 +1,19 @@
 -- The constraint of each form over schemes with the types of the parts has the types of the form over the table.
 --     apply_same, project_same, choice_same, fix_same, fun_same, let_same, bound_same, number_same, truth_same
+--     bound_field_same, bound_call_same
 use Rattle.std.proofs.Common.{ℕ, List, [], ◌∷◌}
 use Rattle.mls_automaton.specs.declared.scheme.EnvEntry.{EnvEntry}
 use Rattle.mls_automaton.specs.declared.scheme.Scheme.{Scheme}
 use Rattle.mls_automaton.specs.Automata.{Automaton}
-use Rattle.mls_typing.specs.Typed.{OfApply, OfChoice, OfFix, OfFun, OfLet, OfProject}
-use Rattle.mls_infer.specs.Constraints.{AreStatesOf, HasStates, HasTypes, apply_constraint, bool_head, bound_constraint, choice_constraint, fix_constraint, fun_constraint, id, int_head, let_constraint, literal_constraint, no_goals, project_constraint}
+use Rattle.mls_typing.specs.Typed.{OfApply, OfBound, OfChoice, OfFix, OfFun, OfLet, OfProject}
+use Rattle.mls_infer.specs.Constraints.{AreStatesOf, HasStates, HasTypes, apply_constraint, bool_head, bound_constraint, bound_scheme, choice_constraint, fix_constraint, fun_constraint, id, int_head, let_constraint, literal_constraint, no_goals, project_constraint}
 use Rattle.mls_infer.specs.Merges.{HaveSameTypes, over}
 use Rattle.mls_infer.specs.Regions.{TablePart, part_over, part_types, scheme_at}
-use Rattle.mls_infer.specs.TableRows.{IsApplicationAt, IsBoundAt, IsChoiceAt, IsFunctionAt, IsLetAt, IsLiteralAt, IsProjectionAt, IsRecursionAt}
+use Rattle.mls_infer.specs.TableRows.{IsApplicationAt, IsBoundAt, IsBoundCallAt, IsBoundFieldAt, IsChoiceAt, IsFunctionAt, IsLetAt, IsLiteralAt, IsProjectionAt, IsRecursionAt}
+use Rattle.mls_infer.proofs.ClosedConstraints.{bound_closed}
 use Rattle.mls_infer.proofs.ConstraintRows.{bound_row, fix_row, fun_row, number_row, project_row, truth_row}
 use Rattle.mls_infer.proofs.JoinedRows.{apply_row, choice_row, let_row}
-use Rattle.mls_infer.proofs.TableRows.{apply_in, bound_in, choice_in, fix_in, fun_in, let_in, number_in, project_in, truth_in}
+use Rattle.mls_infer.proofs.TableRows.{apply_in, bound_call_in, bound_field_in, bound_in, choice_in, fix_in, fun_in, let_in, number_in, project_in, truth_in}
 
 -- the scheme has the types of the part in the table
 pub record IsLike (a : Automaton) (part : TablePart) (s : Scheme) : Type 0 where
@@ -124,6 +126,46 @@ bound_same a x n p env is types f = (
   λ h. (bound_in a x n p env is types f).1 ((bound_row x types f).0 h),
   λ h. (bound_row x types f).1 ((bound_in a x n p env is types f).0 h),
 )
+
+module _ (a : Automaton) (x : ℕ) (label : List ℕ) (n p d : ℕ) (env : List EnvEntry) (is : IsBoundFieldAt a x label n p d env) where
+  pub bound_field_same : HaveSameTypes (project_constraint label (bound_scheme x)) (no_goals (part_over a env (id p)))
+  bound_field_same types f = (
+    λ h.
+        let it : OfProject label (HasTypes (bound_constraint x)) types f = (project_row label (bound_scheme x) (bound_closed x).states types f).0 h in
+        (bound_field_in a x label n p d env is types f).1 (record { field = it.field; field_is = it.field_is; body = (bound_row x types _).0 it.body; below = it.below }),
+    λ h.
+        let it : OfProject label (OfBound x) types f = (bound_field_in a x label n p d env is types f).0 h in
+        (project_row label (bound_scheme x) (bound_closed x).states types f).1 (record { field = it.field; field_is = it.field_is; body = (bound_row x types _).1 it.body; below = it.below }),
+  )
+
+module _ (a : Automaton) (argument : TablePart) (x n p d : ℕ) (env : List EnvEntry) (is : IsBoundCallAt a argument x n p d env) (t : Scheme) (second : IsLike a argument t) where
+  pub bound_call_same : HaveSameTypes (apply_constraint (bound_scheme x) t) (no_goals (part_over a env (id p)))
+  bound_call_same types f = (
+    λ h.
+        let it : OfApply (HasTypes (bound_constraint x)) (HasTypes (no_goals t)) types f = (apply_row (bound_scheme x) t (bound_closed x).states second.states types f).0 h in
+        (bound_call_in a argument x n p d env is types f).1
+        (record {
+          domain = it.domain;
+          codomain = it.codomain;
+          domain_is = it.domain_is;
+          codomain_is = it.codomain_is;
+          function = (bound_row x types _).0 it.function;
+          argument = (second.types types _).0 it.argument;
+          below = it.below;
+        }),
+    λ h.
+        let it : OfApply (OfBound x) (part_types a argument) types f = (bound_call_in a argument x n p d env is types f).0 h in
+        (apply_row (bound_scheme x) t (bound_closed x).states second.states types f).1
+        (record {
+          domain = it.domain;
+          codomain = it.codomain;
+          domain_is = it.domain_is;
+          codomain_is = it.codomain_is;
+          function = (bound_row x types _).1 it.function;
+          argument = (second.types types _).1 it.argument;
+          below = it.below;
+        }),
+  )
 
 pub number_same : (a : Automaton) (r : ℕ) (env : List EnvEntry) → IsLiteralAt a r int_head env → HaveSameTypes (literal_constraint int_head) (no_goals (part_over a env (id r)))
 number_same a r env is types f = (

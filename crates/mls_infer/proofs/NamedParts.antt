@@ -1,5 +1,6 @@
 -- Known names, and the part of a let under any number.
 --     inner_added, global_added    a known name is added
+--     binder_added                 a binder
 --     parts_there                  each other node has its parts
 --     let_numbered                 a let
 use Rattle.std.proofs.Common.{◌≡◌, ◌≢◌, ◌++◌, ◌∷◌, ℕ, List, [], refl, subst, sym, Some}
@@ -8,14 +9,15 @@ use Rattle.mls_biunify.specs.Live.{Live}
 use Rattle.mls_term.specs.declared.term.TermForm.{TermForm}
 use Rattle.mls_term.specs.declared.term.TermForm.TheVariants as form
 use Rattle.mls_infer.specs.declared.done.Known.{Known}
-use Rattle.mls_infer.specs.Constraints.{no_goals}
+use Rattle.mls_infer.specs.Constraints.{bound_constraint, bound_scheme, no_goals}
 use Rattle.mls_infer.specs.Doing.{AreDone, IsAddedIn, IsBuiltIn, schemes_known}
 use Rattle.mls_infer.specs.Fields.{IsKnownType, Shared}
 use Rattle.mls_infer.specs.Finished.{Finished, Has}
-use Rattle.mls_infer.specs.Finishing.{CanStep, HasParts, IsAnswer, IsRead, KeepsBut, Scope}
+use Rattle.mls_infer.specs.Finishing.{CanStep, HasParts, IsAnswer, IsRead, KeepsBut, Scope, is_solved}
 use Rattle.mls_infer.specs.Forms.{children}
 use Rattle.mls_infer.specs.Merges.{HaveSameTypes}
 use Rattle.mls_infer.specs.Regions.{TablePart}
+use Rattle.mls_infer.proofs.ClosedConstraints.{bound_closed}
 use Rattle.mls_infer.proofs.DoneNodes.{keeps_self, own_types}
 use Rattle.mls_infer.proofs.KnownSchemes.{answer_copied, answer_read}
 use Rattle.mls_infer.proofs.OneState.{scheme_states}
@@ -38,6 +40,22 @@ module _ (scope : Scope) (first rest : Finished) (new : Live) (more : List Known
 
   pub global_added : (g : ℕ) → IsRead scope.globals g r.value.scheme → IsAddedIn scope (form.Global g) first new more
   global_added g read = named_added (form.Global g) refl (answer_read scope first g r.value.scheme r.value.scheme read (own_types r.value.scheme))
+
+-- a binder is added
+pub binder_added : (scope : Scope) (first : Finished) (new : Live) (more : List Known) (x : ℕ) → AreDone new more → schemes_known new more ≡ first ++ Some (bound_scheme x) ∷ [] → IsAddedIn scope (form.Bound x) first new more
+binder_added scope first new more x done adds = record {
+  done = done;
+  scheme = bound_scheme x;
+  answer = record {
+    answer =
+        is_solved (bound_constraint x) (record { schemes = []; each = tt; taken = []; alike = tt; is = refl })
+        (record { states = (bound_closed x).states; just = λ types f. (λ h. h, λ h. h) });
+    states = (bound_closed x).states;
+  };
+  rest = first;
+  keeps = keeps_self first;
+  adds = subst (KeepsBut [] (first ++ Some (bound_scheme x) ∷ [])) (sym adds) (keeps_self (first ++ Some (bound_scheme x) ∷ []));
+}
 
 -- a node that is no known name has its parts
 pub parts_there : (scope : Scope) (first : Finished) (node : TermForm) → CanStep scope node first → ((k : ℕ) → node ≢ form.Inner k) → ((g : ℕ) → node ≢ form.Global g) → HasParts node first

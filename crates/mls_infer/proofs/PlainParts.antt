@@ -15,10 +15,10 @@ use Rattle.mls_automaton.proofs.Lists.{All-contained, All-one, Contains-cases, C
 use Rattle.mls_biunify.specs.Live.{IsLive, IsLiveState, Live}
 use Rattle.mls_term.specs.declared.term.TermForm.{TermForm}
 use Rattle.mls_term.specs.declared.term.TermForm.TheVariants as form
-use Rattle.mls_infer.specs.Constraints.{Constraint, bool_head, bound_constraint, fun_constraint, function_head, int_head, let_constraint, literal_constraint, negative, no_goals, positive, states_of, without}
+use Rattle.mls_infer.specs.Constraints.{Constraint, bool_head, bound_scheme, fun_constraint, function_head, int_head, let_constraint, literal_constraint, negative, no_goals, positive, states_of, without}
 use Rattle.mls_infer.specs.Forms.{IsPosed}
 use Rattle.mls_infer.specs.Merges.{HasSameMembers, HaveSameTypes}
-use Rattle.mls_infer.specs.Pending.{AreWaiting, Grows, IsMade, Waits}
+use Rattle.mls_infer.specs.Pending.{AreWaiting, Grows, IsCopied, IsMade, Waits}
 use Rattle.mls_infer.specs.Regions.{IsPart, TablePart, scheme_at}
 use Rattle.mls_infer.specs.TableRows.{AreEntries, IsBoundAt, IsFunctionAt, IsLetAt, IsLiteralAt}
 use Rattle.mls_infer.proofs.ConstraintRows.{nothing_in}
@@ -91,13 +91,12 @@ module _ (old new : Live) (x : ℕ) (low root : StateId) (grows : Grows old new 
   bound_is : IsPart new.table states env root
   bound_is = bound_part new.table x low.0 root.0 env bound_at (edges_within old new bound_came bound_edges grows bound_ends) states (alone_states (low.0 ∷ root.0 ∷ []) states are)
 
-  pub bound_made : IsMade (form.Bound x) old [] new bound_made_part
-  bound_made =
-      made_grown (form.Bound x) old [] new bound_made_part
-      (grown_waits old new bound_came bound_edges grows bound_ends [] tt bound_made_part (alone_states (low.0 ∷ root.0 ∷ []) states are) bound_is)
-      (grown_changes old new bound_came bound_edges grows bound_ends [] tt bound_made_part (alone_states (low.0 ∷ root.0 ∷ []) states are) bound_is)
-      (bound_constraint x) (are_posed old grows.live_old [] tt (form.Bound x) (bound_constraint x) refl) grows.live_new
-      (bound_same new.table x low.0 root.0 env bound_at)
+  pub bound_made : IsCopied (bound_scheme x) old new bound_made_part
+  bound_made = record {
+    waits = grown_waits old new bound_came bound_edges grows bound_ends [] tt bound_made_part (alone_states (low.0 ∷ root.0 ∷ []) states are) bound_is;
+    changes = grown_changes old new bound_came bound_edges grows bound_ends [] tt bound_made_part (alone_states (low.0 ∷ root.0 ∷ []) states are) bound_is;
+    alike = bound_same new.table x low.0 root.0 env bound_at;
+  }
 
 -- A number or a truth value.
 module _ (old new : Live) (h : Head) (root : StateId) (grows : Grows old new ((root.0, positive h) ∷ []) []) (no_names : (t : ℕ) → HeadNames h t → ⊥) (states : List ℕ) (are : states ≡ root.0 ∷ []) (env : List EnvEntry) (is : env ≡ []) where

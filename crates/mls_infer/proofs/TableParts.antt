@@ -1,5 +1,5 @@
 -- The parts of a form and its new states together are a part again.
---     literal_part, bound_part, fun_part, fix_part
+--     literal_part, bound_part, bound_field_part, bound_call_part, fun_part, fix_part
 --     apply_part, project_part, choice_part, let_part, make_part
 use Rattle.std.proofs.Common.{◌≡◌, ◌⊎◌, ◌↔◌, inl, inr, ℕ, List, [], ◌∷◌, refl, sym, ap, subst, Contains}
 use Rattle.std.specs.Prelude.{filter, not}
@@ -17,7 +17,7 @@ use Rattle.mls_automaton.proofs.Lists.{Contains-cases, Contains-filtered, Contai
 use Rattle.mls_term.specs.Terms.{TermFields}
 use Rattle.mls_infer.specs.Constraints.{bool_head, function_head, id, negative, positive, record_head, states_of, without}
 use Rattle.mls_infer.specs.Regions.{AreParts, InEnvs, InParts, IsPart, TablePart, part_roots}
-use Rattle.mls_infer.specs.TableRows.{IsApplicationAt, IsBoundAt, IsChoiceAt, IsFunctionAt, IsLetAt, IsLiteralAt, IsProjectionAt, IsRecordAt, IsRecursionAt}
+use Rattle.mls_infer.specs.TableRows.{IsApplicationAt, IsBoundAt, IsBoundCallAt, IsBoundFieldAt, IsChoiceAt, IsFunctionAt, IsLetAt, IsLiteralAt, IsProjectionAt, IsRecordAt, IsRecursionAt}
 use Rattle.mls_infer.proofs.ConstraintRows.{nothing_in}
 use Rattle.mls_infer.proofs.Grown.{Contains-mapped}
 use Rattle.mls_infer.proofs.Regions.{empty_names, function_names, parts_env, record_names, region_grown}
@@ -63,6 +63,9 @@ states_in a part is x m inside =
 others_in : (x : ℕ) (env : List EnvEntry) (entry : EnvEntry) → Contains (without x env) entry → Contains env entry
 others_in x env entry inside = Contains-filtered (λ (entry : EnvEntry). not (eq_by_cmp nat_cmp entry.binder x)) env entry inside
 
+third_in : (n p d : ℕ) → Contains (n ∷ p ∷ d ∷ []) d
+third_in n p d = Contains-later n (p ∷ d ∷ []) d (Contains-later p (d ∷ []) d (Contains-here d []))
+
 -- the parts with the new states are a part, with some of the entries and this root
 part_grown : (a : Automaton) (parts : List TablePart) (new : List ℕ) → AreParts a parts → (states : List ℕ) → AreStatesWith parts new states → AreEdgesWithin a new → ((s : ℕ) → Contains new s → NamesWithin a parts new s)
     → (env : List EnvEntry) → ((entry : EnvEntry) → Contains env entry → InEnvs parts entry) → (root : StateId) → InParts parts root.0 ⊎ Contains new root.0 → polarity_at a root.0 ≡ Positive → IsPart a states env root
@@ -91,6 +94,60 @@ bound_part a x n p env is edges states each = record {
   env_in = λ entry inside. subst (λ (e : EnvEntry). Contains states e.state.0) (sym ((is.entries entry).0 inside)) ((each n).1 (inr (Contains-here n (p ∷ []))));
   env_negative = λ entry inside. subst (λ (e : EnvEntry). polarity_at a e.state.0 ≡ Negative) (sym ((is.entries entry).0 inside)) (ap (λ (x : State). x.polarity) is.passage.from);
 }
+
+pub bound_field_part : (a : Automaton) (x : ℕ) (label : List ℕ) (n p d : ℕ) (env : List EnvEntry) → IsBoundFieldAt a x label n p d env → AreEdgesWithin a (n ∷ p ∷ d ∷ [])
+    → (states : List ℕ) → AreStatesWith [] (n ∷ p ∷ d ∷ []) states → IsPart a states env (id p)
+bound_field_part a x label n p d env is edges states each =
+    let new : List ℕ = n ∷ p ∷ d ∷ [] in
+    let fields : List FieldSet = record { label = label; set = n ∷ [] } ∷ [] in
+    record {
+      region =
+          region_grown a [] new tt states each
+          (λ s t here. three_in (NamesWithin a [] new) n p d
+          (names_none a [] new n (negative empty_head) is.passage.from refl)
+          (names_none a [] new p (positive empty_head) is.passage.to refl)
+          (λ t it.
+          let found = record_names fields t (names_are a d (negative (record_head fields)) is.demand t it) in
+          elim (Contains-cases (record { label = label; set = n ∷ [] }) [] found.0 found.1) [
+            | inl same ↦ inr (one_in (Contains new) n (Contains-here n (p ∷ d ∷ [])) t (subst (λ (field : FieldSet). Contains field.set t) (sym same) found.2))
+            | inr none ↦ absurd (nothing_in found.0 none)
+          ])
+          s here t)
+          edges;
+      root_in = (each p).1 (inr (Contains-later n (p ∷ d ∷ []) p (Contains-here p (d ∷ []))));
+      root_positive = ap (λ (x : State). x.polarity) is.passage.to;
+      env_in = λ entry inside. subst (λ (e : EnvEntry). Contains states e.state.0) (sym ((is.entries entry).0 inside)) ((each d).1 (inr (third_in n p d)));
+      env_negative = λ entry inside. subst (λ (e : EnvEntry). polarity_at a e.state.0 ≡ Negative) (sym ((is.entries entry).0 inside)) (ap (λ (x : State). x.polarity) is.demand);
+    }
+
+pub bound_call_part : (a : Automaton) (argument : TablePart) (x n p d : ℕ) (env : List EnvEntry) → IsBoundCallAt a argument x n p d env → AreEdgesWithin a (n ∷ p ∷ d ∷ [])
+    → (states : List ℕ) → AreStatesWith (argument ∷ []) (n ∷ p ∷ d ∷ []) states → IsPart a states env (id p)
+bound_call_part a argument x n p d env is edges states each =
+    let parts : List TablePart = argument ∷ [] in
+    let new : List ℕ = n ∷ p ∷ d ∷ [] in
+    record {
+      region =
+          region_grown a parts new is.beside.are states each
+          (λ s t here. three_in (NamesWithin a parts new) n p d
+          (names_none a parts new n (negative empty_head) is.passage.from refl)
+          (names_none a parts new p (positive empty_head) is.passage.to refl)
+          (λ t it. elim (function_names (argument.root.0 ∷ []) (n ∷ []) t (names_are a d (negative (function_head (argument.root.0 ∷ []) (n ∷ []))) is.demand t it)) [
+            | inl inside ↦ inl (inl (one_in (Contains argument.states) argument.root.0 is.beside.are.0.root_in t inside))
+            | inr inside ↦ inr (one_in (Contains new) n (Contains-here n (p ∷ d ∷ [])) t inside)
+          ])
+          s here t)
+          edges;
+      root_in = (each p).1 (inr (Contains-later n (p ∷ d ∷ []) p (Contains-here p (d ∷ []))));
+      root_positive = ap (λ (x : State). x.polarity) is.passage.to;
+      env_in = λ entry inside. elim ((is.entries entry).0 inside) [
+        | inl same ↦ subst (λ (e : EnvEntry). Contains states e.state.0) (sym same) ((each d).1 (inr (third_in n p d)))
+        | inr own ↦ (each entry.state.0).1 (inl (parts_env a parts is.beside.are entry own))
+      ];
+      env_negative = λ entry inside. elim ((is.entries entry).0 inside) [
+        | inl same ↦ subst (λ (e : EnvEntry). polarity_at a e.state.0 ≡ Negative) (sym same) (ap (λ (x : State). x.polarity) is.demand)
+        | inr own ↦ entries_negative a parts is.beside.are entry own
+      ];
+    }
 
 pub fun_part : (a : Automaton) (body : TablePart) (x r : ℕ) (domain : List ℕ) (env : List EnvEntry) → IsFunctionAt a body x r domain env → AreEdgesWithin a (r ∷ []) → (states : List ℕ) → AreStatesWith (body ∷ []) (r ∷ []) states → IsPart a states env (id r)
 fun_part a body x r domain env is edges states each =

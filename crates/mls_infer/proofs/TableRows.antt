@@ -1,5 +1,5 @@
 -- Over one automaton each form of a term gives what the rule of the form makes of its parts.
---     literal_in, number_in, truth_in, bound_in, fun_in, fix_in
+--     literal_in, number_in, truth_in, bound_in, bound_field_in, bound_call_in, fun_in, fix_in
 --     apply_in, project_in, choice_in, let_in, make_in
 use Rattle.std.proofs.Common.{◌≡◌, ◌⊎◌, ◌↔◌, inl, inr, ℕ, suc, ◌<◌, ◌==◌, Bool, true, false, List, [], ◌∷◌, map, length, refl, sym, ap, ◌∙◌, subst, arith, Contains}
 use Rattle.std.specs.Prelude.{None, cond}
@@ -38,7 +38,7 @@ use Rattle.mls_typing.proofs.TypedUses.{one_field-value}
 use Rattle.mls_infer.specs.Constraints.{AllHaveTypes, HasTypes, bool_head, function_head, id, int_head, negative, no_goals, positive, record_head}
 use Rattle.mls_infer.specs.Merges.{over}
 use Rattle.mls_infer.specs.Regions.{AreSideBySide, InEnvs, TablePart, part_over, part_roots, part_types, schemes_at}
-use Rattle.mls_infer.specs.TableRows.{IsApplicationAt, IsBoundAt, IsChoiceAt, IsFunctionAt, IsLetAt, IsLiteralAt, IsPassage, IsProjectionAt, IsRecordAt, IsRecursionAt}
+use Rattle.mls_infer.specs.TableRows.{IsApplicationAt, IsBoundAt, IsBoundCallAt, IsBoundFieldAt, IsChoiceAt, IsFunctionAt, IsLetAt, IsLiteralAt, IsPassage, IsProjectionAt, IsRecordAt, IsRecursionAt}
 use Rattle.mls_infer.proofs.ConstraintRows.{above_others, above_states, empty_negative, empty_positive, entry_above, meets_held, no_goal, nothing_in, one_goal, one_set}
 use Rattle.mls_infer.proofs.HeadValues.{bool_value, function_head-value, int_value, record_head-value, set_one}
 use Rattle.mls_infer.proofs.MakeRow.{made, made-below, made_record, made_record-held, made_types, made_types-held, roots_themselves}
@@ -573,6 +573,126 @@ module _ (a : Automaton) (x n p : ℕ) (env : List EnvEntry) (is : IsBoundAt a x
                 subst (λ (e : EnvEntry). Implies (types e.binder) (V e.state.0)) (sym ((is.entries entry).0 inside))
                 (Implies-trans (types x) it.between (V n) it.above (Implies-same_back (V n) it.between V_n));
           }
+
+-- a projection from a binder
+module _ (a : Automaton) (x : ℕ) (label : List ℕ) (n p d : ℕ) (env : List EnvEntry) (is : IsBoundFieldAt a x label n p d env) (types : ℕ → Predicate) (f : Predicate) where
+  abbrev asked : EnvEntry
+  asked = record { binder = x; state = id d }
+
+  abbrev asked_head : Head
+  asked_head = record_head (record { label = label; set = n ∷ [] } ∷ [])
+
+  asked_value : (V : ℕ → Predicate) → head_value Negative V asked_head ≡ rcd (one_field label (V n))
+  asked_value V = record_head-value Negative V (record { label = label; set = n ∷ [] } ∷ []) ∙ one_set Negative V label n
+
+  pub bound_field_in : HasTypes (no_goals (part_over a env (id p))) types f ↔ OfProject label (OfBound x) types f
+  bound_field_in = (forth, back)
+    where
+      forth : HasTypes (no_goals (part_over a env (id p))) types f → OfProject label (OfBound x) types f
+      forth h =
+          let T : ℕ → Predicate = h.value in
+          record {
+            field = T n;
+            field_is = (h.nodes, h.closed, h.held n);
+            body = record {
+              between = T d;
+              is = (h.nodes, h.closed, h.held d);
+              above = h.env asked ((is.entries asked).1 refl);
+              below = subst (Implies (T d)) (asked_value T) ((stands_is a T d (negative asked_head) is.demand).0 (h.model.heads d));
+            };
+            below = Implies-trans (T n) (T p) f (h.model.flows (flow n p) ((is.passage.edges n).1 refl)) h.root;
+          }
+
+      back : OfProject label (OfBound x) types f → HasTypes (no_goals (part_over a env (id p))) types f
+      back it =
+          let B : Predicate = it.body.between in
+          let R : Predicate = rcd (one_field label it.field) in
+          let one = with_type it.field_is.0 it.field_is.1 B it.body.is in
+          let all : Demanded a [] n p d asked_head is.beside is.passage is.demand some types [] it.field B =
+          demanded_all a [] n p d asked_head is.beside is.passage is.demand some types [] it.field B tt one.0 one.1.closed
+          (IsIn-longer it.field_is.0 one.0 it.field it.field_is.1 one.1 it.field_is.2) one.2
+          (λ V V_n roots.
+          Implies-trans B R (head_value Negative V asked_head) it.body.below
+          (Implies-same_back (head_value Negative V asked_head) R (asked_value V ∙ ap (λ g. rcd (one_field label g)) V_n))) in
+          let V : ℕ → Predicate = all.value in
+          record {
+            nodes = all.nodes;
+            closed = all.closed;
+            value = V;
+            held = all.held;
+            model = all.model;
+            goals = no_goal V;
+            root = Implies-trans (V p) it.field f (Implies-same (V p) it.field all.to) it.below;
+            env = λ entry inside.
+                subst (λ (e : EnvEntry). Implies (types e.binder) (V e.state.0)) (sym ((is.entries entry).0 inside))
+                (subst (Implies (types x)) (sym all.demanded) it.body.above);
+          }
+        where
+          some : empty_head ≡ asked_head → ⊥
+          some same = let none : None ≡ asked_head.fields = ap (λ (h : Head). h.fields) same in absurd (cc)
+
+-- an application of a binder
+module _ (a : Automaton) (argument : TablePart) (x n p d : ℕ) (env : List EnvEntry) (is : IsBoundCallAt a argument x n p d env) (types : ℕ → Predicate) (f : Predicate) where
+  abbrev taker : EnvEntry
+  taker = record { binder = x; state = id d }
+
+  abbrev called_head : Head
+  called_head = function_head (argument.root.0 ∷ []) (n ∷ [])
+
+  called_value : (V : ℕ → Predicate) → head_value Negative V called_head ≡ arrow (V argument.root.0) (V n)
+  called_value V = function_head-value Negative V (argument.root.0 ∷ []) (n ∷ []) ∙ (λ k. arrow (set_one Positive V argument.root.0 k) (set_one Negative V n k))
+
+  pub bound_call_in : HasTypes (no_goals (part_over a env (id p))) types f ↔ OfApply (OfBound x) (part_types a argument) types f
+  bound_call_in = (forth, back)
+    where
+      forth : HasTypes (no_goals (part_over a env (id p))) types f → OfApply (OfBound x) (part_types a argument) types f
+      forth h =
+          let T : ℕ → Predicate = h.value in
+          let each : AllHaveTypes types (schemes_at a (argument ∷ [])) (T argument.root.0 ∷ []) =
+          each_has a env (id p) [] types f h (argument ∷ []) (λ entry inside. (is.entries entry).1 (inr inside)) (T argument.root.0 ∷ []) (Implies-refl (T argument.root.0), tt) in
+          record {
+            domain = T argument.root.0;
+            codomain = T n;
+            domain_is = (h.nodes, h.closed, h.held argument.root.0);
+            codomain_is = (h.nodes, h.closed, h.held n);
+            function = record {
+              between = T d;
+              is = (h.nodes, h.closed, h.held d);
+              above = h.env taker ((is.entries taker).1 (inl refl));
+              below = subst (Implies (T d)) (called_value T) ((stands_is a T d (negative called_head) is.demand).0 (h.model.heads d));
+            };
+            argument = each.0;
+            below = Implies-trans (T n) (T p) f (h.model.flows (flow n p) ((is.passage.edges n).1 refl)) h.root;
+          }
+
+      back : OfApply (OfBound x) (part_types a argument) types f → HasTypes (no_goals (part_over a env (id p))) types f
+      back it =
+          let B : Predicate = it.function.between in
+          let one = with_type it.codomain_is.0 it.codomain_is.1 B it.function.is in
+          let all : Demanded a (argument ∷ []) n p d called_head is.beside is.passage is.demand some types (it.domain ∷ []) it.codomain B =
+          demanded_all a (argument ∷ []) n p d called_head is.beside is.passage is.demand some types (it.domain ∷ []) it.codomain B (it.argument, tt) one.0 one.1.closed
+          (IsIn-longer it.codomain_is.0 one.0 it.codomain it.codomain_is.1 one.1 it.codomain_is.2) one.2
+          (λ V V_n roots.
+          subst (Implies B) (sym (called_value V))
+          (Implies-trans B (arrow it.domain it.codomain) (arrow (V argument.root.0) (V n)) it.function.below
+          (arrow-implies it.domain it.codomain (V argument.root.0) (V n) roots.0 (Implies-same_back (V n) it.codomain V_n)))) in
+          let V : ℕ → Predicate = all.value in
+          record {
+            nodes = all.nodes;
+            closed = all.closed;
+            value = V;
+            held = all.held;
+            model = all.model;
+            goals = no_goal V;
+            root = Implies-trans (V p) it.codomain f (Implies-same (V p) it.codomain all.to) it.below;
+            env = λ entry inside. elim ((is.entries entry).0 inside) [
+              | inl same ↦ subst (λ (e : EnvEntry). Implies (types e.binder) (V e.state.0)) (sym same) (subst (Implies (types x)) (sym all.demanded) it.function.above)
+              | inr own ↦ all.env entry own
+            ];
+          }
+        where
+          some : empty_head ≡ called_head → ⊥
+          some same = let none : None ≡ called_head.function = ap (λ (h : Head). h.function) same in absurd (cc)
 
 -- a record
 module _ (a : Automaton) (fields_of : TermFields) (parts : List TablePart) (r : ℕ) (fields : List FieldSet) (env : List EnvEntry) (is : IsRecordAt a fields_of parts r fields env) (types : ℕ → Predicate) (f : Predicate) where

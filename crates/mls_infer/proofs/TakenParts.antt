@@ -2,6 +2,7 @@
 --     first_there, first_taken          the first part
 --     second_there, both_taken, third_there, all_taken
 --     built_as, stops_at                what the form makes of them, or why it stops
+--     projected_bound, called_bound     what is made where the first part is a binder
 use Rattle.std.proofs.Common.{◌≡◌, ◌≢◌, ℕ, List, [], ◌∷◌, Contains, Result, sym, subst, IfErr}
 use Rattle.std.specs.List.{AllPairs}
 use Rattle.std.specs.Result.{IsErrAnd}
@@ -9,16 +10,18 @@ use Rattle.mls_automaton.specs.declared.scheme.Scheme.{Scheme}
 use Rattle.mls_automaton.proofs.Lists.{Contains-here, Contains-later}
 use Rattle.mls_biunify.specs.Live.{IsLive, Live}
 use Rattle.mls_term.specs.declared.term.TermForm.{TermForm}
+use Rattle.mls_term.specs.declared.term.TermForm.TheVariants as form
 use Rattle.mls_infer.specs.declared.done.Done.{Done}
+use Rattle.mls_infer.specs.declared.done.Known.{Known}
 use Rattle.mls_infer.specs.declared.solve.NoSolution.{NoSolution}
-use Rattle.mls_infer.specs.Constraints.{Constraint}
-use Rattle.mls_infer.specs.Doing.{HasTaken, IsBuiltIn, IsDone, TakesMore, finished_in}
+use Rattle.mls_infer.specs.Constraints.{Constraint, apply_constraint, bound_scheme, project_constraint}
+use Rattle.mls_infer.specs.Doing.{AreDone, AreTaken, HasTaken, IsBuiltIn, IsDone, TakesBound, TakesMore, finished_in, schemes_known}
 use Rattle.mls_infer.specs.Finished.{Has}
 use Rattle.mls_infer.specs.Finishing.{HasParts, StopsAt}
 use Rattle.mls_infer.specs.Forms.{IsPosed, children}
-use Rattle.mls_infer.specs.Pending.{IsMade, StopsOver}
-use Rattle.mls_infer.specs.Regions.{TablePart}
-use Rattle.mls_infer.proofs.DoneSteps.{fresh_second, fresh_third, made_as, made_in, still_there, stops_as, stops_in, take_one}
+use Rattle.mls_infer.specs.Pending.{IsMade, IsMadeWith, StopsOver}
+use Rattle.mls_infer.specs.Regions.{TablePart, scheme_at}
+use Rattle.mls_infer.proofs.DoneSteps.{argument_there, bound_called, bound_left, bound_projected, fresh_second, fresh_third, made_as, made_in, still_there, stops_as, stops_in, take_one}
 use Rattle.mls_infer.proofs.FinishedParts.{some_there}
 use Rattle.mls_infer.proofs.PassedOn.{passed}
 
@@ -68,3 +71,36 @@ module _ (old : Done) (done : IsDone old) (node : TermForm) (parts : HasParts no
     stops_at result e is stop =
         passed result e (StopsAt node (finished_in old)) is
         (stops_in node (finished_in old) last.live last.live last.nodes.items taken has parts e (stops_as other node last.live taken same e stop))
+
+-- A binder is taken first.
+module _ (old : Done) (done : IsDone old) (i x : ℕ) (mid : Done) (takes : TakesBound old i x mid) where
+  pub bound_done : IsDone mid
+  bound_done =
+      subst (λ (live : Live). AreDone live mid.nodes.items) (sym takes.live)
+      (subst (λ (nodes : List Known). AreDone old.live nodes) (sym takes.left) (bound_left old.live old.nodes.items done i x takes.is))
+
+  pub projected_bound : (label : List ℕ) → HasParts (form.Project i label) (finished_in old) → (new : Live) → IsLive new → (part : TablePart) → IsMadeWith (project_constraint label (bound_scheme x)) mid.live [] new part
+      → IsBuiltIn (form.Project i label) (finished_in old) new mid.nodes.items part
+  projected_bound label has new is_new part made =
+      subst (λ (nodes : List Known). IsBuiltIn (form.Project i label) (finished_in old) new nodes part) (sym takes.left)
+      (bound_projected old.live old.nodes.items done i x takes.is label has new is_new part
+      (subst (λ (live : Live). IsMadeWith (project_constraint label (bound_scheme x)) live [] new part) takes.live made))
+
+  module _ (a : ℕ) (has : HasParts (form.Apply i a) (finished_in old)) where
+    pub argument_in : (s : Scheme) × Has (finished_in mid) a s
+    argument_in =
+        subst (λ (live : Live). (s : Scheme) × Has (schemes_known live mid.nodes.items) a s) (sym takes.live)
+        (subst (λ (nodes : List Known). (s : Scheme) × Has (schemes_known old.live nodes) a s) (sym takes.left)
+        (argument_there old.live old.nodes.items done i x takes.is a has))
+
+    module _ (later : Done) (argument : TablePart) (takes_more : TakesMore mid a later argument) where
+      pub argument_taken : HasTaken mid (a ∷ []) later (argument ∷ [])
+      argument_taken = take_one mid.live mid.nodes.items bound_done a later.live later.nodes.items argument takes_more
+
+      pub called_bound : (new : Live) → IsLive new → (part : TablePart) → IsMadeWith (apply_constraint (bound_scheme x) (scheme_at later.live.table argument)) later.live (argument ∷ []) new part
+          → IsBuiltIn (form.Apply i a) (finished_in old) new later.nodes.items part
+      called_bound new is_new part made =
+          bound_called old.live old.nodes.items done i x takes.is a has later.live later.nodes.items argument
+          (subst (λ (nodes : List Known). AreTaken (schemes_known old.live nodes) (a ∷ []) later.live later.nodes.items (argument ∷ [])) takes.left
+          (subst (λ (live : Live). AreTaken (schemes_known live mid.nodes.items) (a ∷ []) later.live later.nodes.items (argument ∷ [])) takes.live argument_taken))
+          new is_new part made

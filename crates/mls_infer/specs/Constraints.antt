@@ -126,12 +126,15 @@ HasOneState x s = length (states_of x s.env) ≤ 1
 -- The rows.
 
 -- a binder: what flows in, flows out
-abbrev pub bound_constraint : ℕ → Constraint
-bound_constraint x = no_goals (record {
+abbrev pub bound_scheme : ℕ → Scheme
+bound_scheme x = record {
   automaton = record { states = negative empty_head ∷ positive empty_head ∷ []; flows = flow 0 1 ∷ [] };
   env = record { binder = x; state = id 0 } ∷ [];
   root = id 1;
-})
+}
+
+abbrev pub bound_constraint : ℕ → Constraint
+bound_constraint x = no_goals (bound_scheme x)
 
 abbrev pub literal_constraint : Head → Constraint
 literal_constraint h = no_goals

@@ -1,5 +1,6 @@
--- What the loop over the nodes keeps: the parts of finished nodes, which wait in the table or stand apart as known types.
-use Rattle.std.specs.Prelude.{◌≡◌, ◌≢◌, ℕ, List, [], ◌∷◌, ◌++◌, map, slice_get, Contains, Option, Some, None}
+-- What the loop over the nodes keeps: the parts of finished nodes, which wait in the table or stand apart as known types,
+-- and binders, of which nothing is in the table yet.
+use Rattle.std.specs.Prelude.{◌≡◌, ◌≢◌, ℕ, List, [], ◌∷◌, ◌++◌, map, slice_get, slice_set, Contains, Option, Some, None}
 use Rattle.mls_automaton.specs.declared.scheme.Scheme.{Scheme}
 use Rattle.mls_automaton.specs.Environments.{BindersRise}
 use Rattle.mls_automaton.specs.Schemes.{IsScheme}
@@ -8,7 +9,7 @@ use Rattle.mls_term.specs.declared.term.TermForm.{TermForm}
 use Rattle.mls_infer.specs.declared.done.Done.{Done}
 use Rattle.mls_infer.specs.declared.done.Known.{Known}
 use Rattle.mls_infer.specs.declared.done.Known.TheVariants as known
-use Rattle.mls_infer.specs.Constraints.{Constraint, no_goals}
+use Rattle.mls_infer.specs.Constraints.{Constraint, bound_scheme, no_goals}
 use Rattle.mls_infer.specs.Fields.{IsKnownType}
 use Rattle.mls_infer.specs.Finished.{Finished, HasEach}
 use Rattle.mls_infer.specs.Finishing.{HasConstraint, IsAnswerBy, KeepsBut, Scope}
@@ -28,17 +29,20 @@ pub record IsTakenOut (old : Live) (part : TablePart) (new : Live) (s : Scheme) 
 
 -- the states that a node has in the table
 abbrev pub states_known : Known → List ℕ
+states_known (known.Bound x) = []
 states_known (known.Waiting part) = (part_in part).states
 states_known (known.Named r) = []
 states_known known.Taken = []
 
 -- its scheme
 abbrev pub scheme_known : Live → Known → Option Scheme
+scheme_known live (known.Bound x) = Some (bound_scheme x)
 scheme_known live (known.Waiting part) = Some (scheme_at live.table (part_in part))
 scheme_known live (known.Named r) = Some r.value.scheme
 scheme_known live known.Taken = None
 
 abbrev pub Stands : Live → Known → Type 0
+Stands live (known.Bound x) = Unit {0}
 Stands live (known.Waiting part) = Waits live (part_in part)
 Stands live (known.Named r) = IsKnownType r.value
 Stands live known.Taken = Unit {0}
@@ -106,6 +110,12 @@ TakesMore old i new part =
     (first : Finished) (gone : List ℕ) (parts : List TablePart)
     → AreTaken first gone old.live old.nodes.items parts → (Contains gone i → ⊥)
     → AreTaken first (gone ++ i ∷ []) new.live new.nodes.items (parts ++ part ∷ [])
+
+-- the node is a binder, and it is taken
+pub record TakesBound (old : Done) (i x : ℕ) (new : Done) : Type 0 where
+  pub is : slice_get old.nodes.items i ≡ Some (known.Bound x)
+  pub live : new.live ≡ old.live
+  pub left : new.nodes.items ≡ slice_set old.nodes.items i known.Taken
 
 abbrev pub IsBuiltOf : TermForm → Done → Done → TablePart → Type 0
 IsBuiltOf node old new part = IsBuiltIn node (finished_in old) new.live new.nodes.items part

@@ -108,6 +108,12 @@ pub record IsMade (node : TermForm) (old : Live) (parts : List TablePart) (new :
   pub posed : IsPosedOver node (schemes_at old.table parts) constraint
   pub solution : IsSolution constraint (scheme_at new.table part)
 
+-- the parts gave way to one with just the types of this constraint
+pub record IsMadeWith (c : Constraint) (old : Live) (parts : List TablePart) (new : Live) (part : TablePart) : Type 0 where
+  pub waits : Waits new part
+  pub changes : Changes (all_states parts) old new part.states
+  pub solution : IsSolution c (scheme_at new.table part)
+
 -- the constraint of a node has no types, and this is the kind of its first clash
 pub record HasClash (node : TermForm) (live : Live) (parts : List TablePart) (m : SiteKind) : Type 0 where
   pub constraint : Constraint

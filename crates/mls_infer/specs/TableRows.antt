@@ -1,5 +1,5 @@
 -- The forms of a term over one automaton, with the new states of the form and before its goals are solved.
-use Rattle.std.specs.Prelude.{◌≡◌, ◌↔◌, ℕ, List, [], ◌∷◌, Contains}
+use Rattle.std.specs.Prelude.{◌≡◌, ◌↔◌, ◌⊎◌, ℕ, List, [], ◌∷◌, Contains}
 use Rattle.mls_automaton.specs.declared.automaton.FieldSet.{FieldSet}
 use Rattle.mls_automaton.specs.declared.automaton.Head.{Head}
 use Rattle.mls_automaton.specs.declared.scheme.EnvEntry.{EnvEntry}
@@ -28,6 +28,20 @@ pub record IsBoundAt (a : Automaton) (x n p : ℕ) (env : List EnvEntry) : Type 
   pub flows : HasTrueFlows a
   pub passage : IsPassage a n p
   pub entries : (entry : EnvEntry) → Contains env entry ↔ (entry ≡ record { binder = x; state = id n })
+
+-- a projection from a binder, whose state is below the records with this field in the new state `n`
+pub record IsBoundFieldAt (a : Automaton) (x : ℕ) (label : List ℕ) (n p d : ℕ) (env : List EnvEntry) : Type 0 where
+  pub beside : AreSideBySide a [] (n ∷ p ∷ d ∷ [])
+  pub passage : IsPassage a n p
+  pub demand : state_at a d ≡ negative (record_head (record { label = label; set = n ∷ [] } ∷ []))
+  pub entries : (entry : EnvEntry) → Contains env entry ↔ (entry ≡ record { binder = x; state = id d })
+
+-- an application of a binder, whose state is below the functions from the argument to the new state `n`
+pub record IsBoundCallAt (a : Automaton) (argument : TablePart) (x n p d : ℕ) (env : List EnvEntry) : Type 0 where
+  pub beside : AreSideBySide a (argument ∷ []) (n ∷ p ∷ d ∷ [])
+  pub passage : IsPassage a n p
+  pub demand : state_at a d ≡ negative (function_head (argument.root.0 ∷ []) (n ∷ []))
+  pub entries : (entry : EnvEntry) → Contains env entry ↔ (entry ≡ record { binder = x; state = id d }) ⊎ InEnvs (argument ∷ []) entry
 
 -- a function, whose domain has just the states of its binder
 pub record IsFunctionAt (a : Automaton) (body : TablePart) (x r : ℕ) (domain : List ℕ) (env : List EnvEntry) : Type 0 where

@@ -6,8 +6,8 @@ ghost use Rattle.mls_automaton.specs.Schemes.{IsScheme};
 ghost use Rattle.mls_biunify.specs.Live.{IsLive};
 ghost use Rattle.mls_term.specs.declared.term.TermForm.TheVariants as form;
 ghost use Rattle.mls_infer.specs.declared.done.Known.TheVariants as known;
-ghost use Rattle.mls_infer.specs.Constraints.{no_goals};
-ghost use Rattle.mls_infer.specs.Doing.{IsBeside, IsBuiltOf, IsDone, IsTakenOut, TakesMore, finished_in};
+ghost use Rattle.mls_infer.specs.Constraints.{bound_scheme, no_goals};
+ghost use Rattle.mls_infer.specs.Doing.{IsBeside, IsBuiltOf, IsDone, IsTakenOut, TakesBound, TakesMore, finished_in};
 ghost use Rattle.mls_infer.specs.Fields.{IsFieldOf, IsKnownType};
 ghost use Rattle.mls_infer.specs.Finished.{Has};
 ghost use Rattle.mls_infer.specs.Finishing.{HasParts, KeepsBut, without_env};
@@ -15,7 +15,7 @@ ghost use Rattle.mls_infer.specs.Merges.{HaveSameTypes};
 ghost use Rattle.mls_infer.specs.Pending.{IsRemade, Waits, part_in};
 ghost use Rattle.mls_infer.specs.Regions.{scheme_at};
 
-use crate::forms::let_in;
+use crate::forms::{bound, let_in};
 use crate::meets::merged;
 use crate::named::Named;
 use crate::pending::{Pending, copied, weight};
@@ -32,10 +32,12 @@ use std::rc::Rc;
 // The table begins with room for no more states.
 const SMALL: usize = 32;
 
-/// What is known of a node: its part waits in the table for the node above, or its type stands apart, as that of the
-/// first part of a let and of each known name, until the node above copies it; or it was taken.
+/// What is known of a node: it is a binder, of which nothing is in the table yet; or its part waits in the table for the
+/// node above, or its type stands apart, as that of the first part of a let and of each known name, until the node above
+/// copies it; or it was taken.
 #[derive(Drop)]
 enum Known {
+    Bound(usize),
     Waiting(Pending),
     Named(Rc<Named>),
     Taken,
@@ -96,6 +98,38 @@ impl Done {
         Ok(())
     }
 
+    /// Adds a binder as the next node. Nothing is in the table for it until a node takes it.
+    ///
+    /// # Errors
+    ///
+    /// `Memory` where memory is wanting.
+    pub(crate) fn bind(&mut self, binder: usize) -> Result<(), Memory>
+        requires done { IsDone self.old }
+        ensures done { OnOk result (IsDone self.new) }
+        ensures added { OnOk result (finished_in self.new
+            ≡ finished_in self.old ++ Some (bound_scheme binder) ∷ []) }
+    {
+        self.nodes.push(Known::Bound(binder))?;
+        Ok(())
+    }
+
+    /// Takes a node if it is a binder, and says which. Else nothing changes.
+    pub(crate) fn take_bound(&mut self, i: usize) -> Option<usize>
+        requires done { IsDone self.old }
+        requires there { (s : Scheme) × Has (finished_in self.old) i s }
+        ensures some { IfSome result (λ binder. TakesBound self.old i binder self.new) }
+        ensures none { result ≡ None → self.new ≡ self.old }
+    {
+        match &self.nodes[i] {
+            Known::Bound(x) => {
+                let binder = *x;
+                self.nodes[i] = Known::Taken;
+                Some(binder)
+            }
+            _ => None,
+        }
+    }
+
     /// Sets the part of a node apart, simplified, if it waits.
     ///
     /// # Errors
@@ -119,11 +153,19 @@ impl Done {
                 self.nodes[i] = Known::Named(named);
                 Ok(())
             }
+            Known::Bound(x) => {
+                let part = bound(alloc, &mut self.live, x)?;
+                let _made = self.live.ready();
+                let scheme = taken_out(alloc, &mut self.live, part)?;
+                let named = Named::new(alloc, scheme)?;
+                self.nodes[i] = Known::Named(named);
+                Ok(())
+            }
             Known::Taken => unreachable!(),
         }
     }
 
-    /// Takes the part of a node: a copy of it, where it stands apart.
+    /// Takes the part of a node: a copy of it, where it stands apart, and new states, where it is a binder.
     ///
     /// # Errors
     ///
@@ -138,6 +180,11 @@ impl Done {
             Known::Named(named) => {
                 let part = copied(alloc, &mut self.live, &named.scheme)?;
                 let _copied = self.live.ready();
+                Ok(part)
+            }
+            Known::Bound(x) => {
+                let part = bound(alloc, &mut self.live, x)?;
+                let _made = self.live.ready();
                 Ok(part)
             }
             Known::Taken => unreachable!(),

@@ -5,11 +5,11 @@ ghost use Rattle.std.specs.List.{AllPairs};
 ghost use Rattle.mls_biunify.specs.Live.{IsLive, IsLiveGoal, Live};
 ghost use Rattle.mls_term.specs.declared.term.Part.{Part};
 ghost use Rattle.mls_term.specs.declared.term.TermForm.TheVariants as form;
-ghost use Rattle.mls_infer.specs.Constraints.{positive, states_of};
+ghost use Rattle.mls_infer.specs.Constraints.{apply_constraint, bound_scheme, positive, project_constraint, states_of};
 ghost use Rattle.mls_infer.specs.Joining.{part_labels};
-ghost use Rattle.mls_infer.specs.Pending.{AreRowsOf, AreWaiting, Grows, IsMade, Solves, StopsOver, Waits, part_in};
-ghost use Rattle.mls_infer.specs.Pending.{states_in};
-ghost use Rattle.mls_infer.specs.Regions.{TablePart};
+ghost use Rattle.mls_infer.specs.Pending.{AreRowsOf, AreWaiting, Grows, IsCopied, IsMade, IsMadeWith, Solves, StopsOver};
+ghost use Rattle.mls_infer.specs.Pending.{Waits, part_in, states_in};
+ghost use Rattle.mls_infer.specs.Regions.{TablePart, scheme_at};
 
 use crate::clash::{
     clash_of_application, clash_of_choice, clash_of_projection, clash_of_recursion,
@@ -32,9 +32,12 @@ use std::alloc::Global;
 use std::collections::BTreeMap;
 
 /// Of a binder: what goes in comes out.
+///
+/// # Errors
+///
+/// `Memory` where memory is wanting.
 pub(crate) fn bound(alloc: Global, live: &mut Live, binder: usize) -> Result<Pending, Memory>
-    ensures made { IfOk result (λ part. IsMade (form.Bound binder) live.old []
-        live.new (part_in part)) }
+    ensures { IfOk result (λ part. IsCopied (bound_scheme binder) live.old live.new (part_in part)) }
 {
     let mut region = Region::new(alloc);
     let (negative, positive) = region.add_passage(live)?;
@@ -48,6 +51,55 @@ pub(crate) fn bound(alloc: Global, live: &mut Live, binder: usize) -> Result<Pen
         env,
         root: positive,
     })
+}
+
+/// Of a projection from a binder: its state takes the field. Nothing is to be solved.
+///
+/// # Errors
+///
+/// `Memory` where memory is wanting.
+pub(crate) fn bound_field(
+    alloc: Global,
+    live: &mut Live,
+    label: &Name,
+    binder: usize,
+) -> Result<Pending, Memory>
+    ensures { IfOk result (λ part. IsMadeWith (project_constraint label.now (bound_scheme binder)) live.old [] live.new
+        (part_in part)) }
+{
+    let mut region = Region::new(alloc);
+    let (field, root) = region.add_passage(live)?;
+    let head = field_head(alloc, label, field)?;
+    let state = region.add(live, Polarity::Negative, head)?;
+    region.size = region.size.with(1);
+    let mut env = List::new(alloc);
+    env.push(EnvEntry { binder, state })?;
+    Ok(Pending { region, env, root })
+}
+
+/// Of an application of a binder: its state takes the function from the root of the argument. Nothing is to be solved.
+///
+/// # Errors
+///
+/// `Memory` where memory is wanting.
+pub(crate) fn bound_call(
+    alloc: Global,
+    live: &mut Live,
+    binder: usize,
+    argument: Pending,
+) -> Result<Pending, Memory>
+    requires { AreWaiting live.old (part_in argument ∷ []) }
+    ensures { IfOk result (λ part. IsMadeWith (apply_constraint (bound_scheme binder)
+        (scheme_at live.old.table (part_in argument))) live.old (part_in argument ∷ []) live.new (part_in part)) }
+{
+    let mut region = argument.region;
+    let (codomain, root) = region.add_passage(live)?;
+    let domain = StateSet::one(alloc, argument.root)?;
+    let head = function_head(alloc, domain, codomain)?;
+    let state = region.add(live, Polarity::Negative, head)?;
+    let mut env = argument.env;
+    env.push(EnvEntry { binder, state })?;
+    Ok(Pending { region, env, root })
 }
 
 /// Of a number.

@@ -1,5 +1,5 @@
 //! Inference of a whole expression.
-ghost use Rattle.std.specs.Prelude.{◌≡◌, ◌<◌, ◌++◌, ◌∷◌, [], List, length, map, IfErr, IfOk, OnOk, Some};
+ghost use Rattle.std.specs.Prelude.{◌≡◌, ◌≢◌, ℕ, ◌<◌, ◌++◌, ◌∷◌, [], List, length, map, IfErr, IfOk, OnOk, Some};
 ghost use Rattle.std.specs.BTreeMap.{get};
 ghost use Rattle.std.specs.Ordering.{nat_cmp};
 ghost use Rattle.mls_automaton.specs.declared.scheme.Scheme.{Scheme};
@@ -26,7 +26,8 @@ use crate::done::{Done, trimmed};
 use crate::fault::{InferFault, Site};
 use crate::firsts::firsts_of;
 use crate::forms::{
-    Rows, application, bound, conditional, function, number, projection, record, recursion, truth,
+    Rows, application, bound_call, bound_field, conditional, function, number, projection, record,
+    recursion, truth,
 };
 use crate::named::Named;
 use crate::pending::Pending;
@@ -168,8 +169,8 @@ fn way_of(named: &BTreeSet<usize>, i: usize, count: usize) -> Way {
     }
 }
 
-// Adds the next node: a known name, which nothing is copied of yet, or what is built of the parts below it, which stands
-// apart where it is the first part of a let.
+// Adds the next node: a known name, which nothing is copied of yet, a binder, or what is built of the parts below it, which
+// stands apart where it is the first part of a let.
 fn add_node(
     alloc: Global,
     names: &Names,
@@ -195,6 +196,10 @@ fn add_node(
         TermForm::Global(g) => {
             let named = of_global(alloc, names, reads, *g)?;
             done.share(named)?;
+            Ok(())
+        }
+        TermForm::Bound(x) => {
+            done.bind(*x)?;
             Ok(())
         }
         _ => {
@@ -272,6 +277,7 @@ fn push(alloc: Global, done: &mut Done, part: Pending, way: Way) -> Result<(), M
 fn part_of(alloc: Global, done: &mut Done, node: &TermForm, way: Way) -> Result<Pending, NoSolution>
     requires done { IsDone done.old }
     requires parts { HasParts node.now (finished_in done.old) }
+    requires other { (x : ℕ) → node.now ≢ form.Bound x }
     ensures part { IfOk result (λ part. IsBuiltOf node.now done.old done.new (part_in part)) }
     ensures stops { IfErr result (StopsAt node.now (finished_in done.old)) }
 {
@@ -298,16 +304,16 @@ fn fit(alloc: Global, done: &mut Done, part: Pending) -> Result<Pending, Memory>
     Ok(part)
 }
 
-// What is built of the parts of a node, which is no known name.
+// What is built of the parts of a node, which is no known name and no binder.
 fn built(alloc: Global, done: &mut Done, node: &TermForm) -> Result<Pending, NoSolution>
     requires done { IsDone done.old }
     requires parts { HasParts node.now (finished_in done.old) }
+    requires other { (x : ℕ) → node.now ≢ form.Bound x }
     ensures part { IfOk result (λ part. IsBuiltOf node.now done.old done.new (part_in part)) }
     ensures stops { IfErr result (StopsAt node.now (finished_in done.old)) }
 {
     match node {
-        TermForm::Inner(_) | TermForm::Global(_) => unreachable!(),
-        TermForm::Bound(x) => Ok(of_bound(alloc, done, *x)?),
+        TermForm::Inner(_) | TermForm::Global(_) | TermForm::Bound(_) => unreachable!(),
         TermForm::Number(value) => Ok(of_number(alloc, done, *value)?),
         TermForm::Truth(value) => Ok(of_truth(alloc, done, *value)?),
         TermForm::Fun(x, e) => Ok(of_function(alloc, done, *x, *e)?),
@@ -318,16 +324,6 @@ fn built(alloc: Global, done: &mut Done, node: &TermForm) -> Result<Pending, NoS
         TermForm::Make(parts) => Ok(of_record(alloc, done, parts.as_slice())?),
         TermForm::Let(_, e, f) => Ok(done.end_let(alloc, *e, *f)?),
     }
-}
-
-// Of a binder: what goes in comes out.
-fn of_bound(alloc: Global, done: &mut Done, x: usize) -> Result<Pending, Memory>
-    requires { IsDone done.old }
-    ensures { IfOk result (λ part. IsBuiltOf (form.Bound x) done.old done.new (part_in part)) }
-{
-    let part = bound(alloc, &mut done.live, x)?;
-    let _made = done.live.ready();
-    Ok(part)
 }
 
 // Of a number, whatever it is.
@@ -375,8 +371,30 @@ fn of_recursion(alloc: Global, done: &mut Done, x: usize, e: usize) -> Result<Pe
     Ok(part)
 }
 
-// Of a projection: the field of a known record, where that can be told without solving.
+// Of a projection, from a binder or from another expression.
 fn of_projection(
+    alloc: Global,
+    done: &mut Done,
+    e: usize,
+    label: &Name,
+) -> Result<Pending, NoSolution>
+    requires done { IsDone done.old }
+    requires parts { HasParts (form.Project e label.now) (finished_in done.old) }
+    ensures part { IfOk result (λ part. IsBuiltOf (form.Project e label.now) done.old done.new (part_in part)) }
+    ensures stops { IfErr result (StopsAt (form.Project e label.now) (finished_in done.old)) }
+{
+    match done.take_bound(e) {
+        Some(x) => {
+            let part = bound_field(alloc, &mut done.live, label, x)?;
+            let _made = done.live.ready();
+            Ok(part)
+        }
+        None => known_projection(alloc, done, e, label),
+    }
+}
+
+// Of a projection: the field of a known record, where that can be told without solving.
+fn known_projection(
     alloc: Global,
     done: &mut Done,
     e: usize,
@@ -412,8 +430,31 @@ fn solved_projection(
     Ok(part)
 }
 
-// Of an application: the root of the function is below the functions from the root of the argument.
+// Of an application, of a binder or of another expression.
 fn of_application(alloc: Global, done: &mut Done, f: usize, a: usize) -> Result<Pending, NoSolution>
+    requires done { IsDone done.old }
+    requires parts { HasParts (form.Apply f a) (finished_in done.old) }
+    ensures part { IfOk result (λ part. IsBuiltOf (form.Apply f a) done.old done.new (part_in part)) }
+    ensures stops { IfErr result (StopsAt (form.Apply f a) (finished_in done.old)) }
+{
+    match done.take_bound(f) {
+        Some(x) => {
+            let argument = done.take(alloc, a)?;
+            let part = bound_call(alloc, &mut done.live, x, argument)?;
+            let _made = done.live.ready();
+            Ok(part)
+        }
+        None => solved_application(alloc, done, f, a),
+    }
+}
+
+// Of an application: the root of the function is below the functions from the root of the argument.
+fn solved_application(
+    alloc: Global,
+    done: &mut Done,
+    f: usize,
+    a: usize,
+) -> Result<Pending, NoSolution>
     requires done { IsDone done.old }
     requires parts { HasParts (form.Apply f a) (finished_in done.old) }
     ensures part { IfOk result (λ part. IsBuiltOf (form.Apply f a) done.old done.new (part_in part)) }

@@ -7,7 +7,7 @@ use Rattle.mls_infer.specs.Finishing.{CanStep, Scope, scope_of}
 use Rattle.mls_infer.specs.Pending.{part_in}
 use Rattle.mls_infer.proofs.DoneNodes.{keeps_self}
 use Rattle.mls_infer.proofs.DoneSteps.{built_added}
-use Rattle.mls_infer.proofs.NamedParts.{global_added, inner_added}
+use Rattle.mls_infer.proofs.NamedParts.{binder_added, global_added, inner_added}
 use Rattle.mls_infer.proofs.infer.add_node.Goals as goal
 
 pub returns-in_ok-share-in-Inner-clause-added : goal.returns-in_ok-share-in-Inner-clause-added
@@ -28,6 +28,12 @@ returns-in_ok-share-in-Global-clause-added c =
     (global_added scope first first c.share-in-Global.new.self.live c.share-in-Global.new.self.nodes.items c.in_ok-named-in-Global.named c.in_ok-named-in-Global.ensures.known
     (keeps_self first) c.in_ok-share-in-Global.ensures.done c.in_ok-share-in-Global.ensures.added
     c.in-Global.g c.in_ok-named-in-Global.ensures.read)
+
+pub returns-in_ok-bind-in-Bound-clause-added : goal.returns-in_ok-bind-in-Bound-clause-added
+returns-in_ok-bind-in-Bound-clause-added c =
+    let first : Finished = finished_in c.args.done.now in
+    rw c.in-Bound.is
+    (binder_added (scope_of c.args.names.now c.args.firsts.now) first c.bind.new.self.live c.bind.new.self.nodes.items c.in-Bound.x c.in_ok-bind-in-Bound.ensures.done c.in_ok-bind-in-Bound.ensures.added)
 
 pub returns-in_ok-push-in_default : goal.returns-in_ok-push-in_default
 returns-in_ok-push-in_default c = record {

@@ -6,11 +6,6 @@ use Rattle.mls_infer.specs.Pending.{part_in}
 use Rattle.mls_infer.proofs.NamedParts.{let_numbered}
 use Rattle.mls_infer.proofs.infer.built.Goals as goal
 
-pub returns-in_ok-of_bound-in-Bound-clause-part : goal.returns-in_ok-of_bound-in-Bound-clause-part
-returns-in_ok-of_bound-in-Bound-clause-part c =
-    rw c.in-Bound.is
-    c.in_ok-of_bound-in-Bound.ensures
-
 pub returns-in_ok-of_number-in-Number-clause-part : goal.returns-in_ok-of_number-in-Number-clause-part
 returns-in_ok-of_number-in-Number-clause-part c =
     rw c.in-Number.is

@@ -1,11 +1,12 @@
-use Rattle.std.proofs.Common.{◌≡◌, ◌++◌, ◌∷◌, [], List, subst, sym, slice_get, slice_set, Some}
+use Rattle.std.proofs.Common.{◌≡◌, ◌++◌, ◌∷◌, [], List, refl, subst, sym, slice_get, slice_set, Some}
 use Rattle.mls_infer.specs.declared.done.Known.{Known}
 use Rattle.mls_infer.specs.declared.done.Known.TheVariants as known
+use Rattle.mls_infer.specs.Constraints.{bound_scheme}
 use Rattle.mls_infer.specs.Doing.{AreTaken}
 use Rattle.mls_infer.specs.declared.named.Named.{Named}
 use Rattle.mls_infer.specs.Pending.{IsCopied, part_in}
 use Rattle.mls_infer.proofs.DonePlaces.{found_at, none_at}
-use Rattle.mls_infer.proofs.DoneSteps.{take_named, take_waiting}
+use Rattle.mls_infer.proofs.DoneSteps.{take_copied, take_waiting}
 use Rattle.mls_infer.proofs.OneState.{scheme_states}
 use Rattle.mls_infer.proofs.done.Done.take.Goals as goal
 
@@ -37,4 +38,12 @@ returns-in_ok-part-in-Named c = λ first gone parts taken fresh.
     let copy : IsCopied c.in-Named.named.value.scheme c.args.self.now.live c.copied.new.live (part_in c.in_ok-part-in-Named.part) =
     subst (λ (n : Named). IsCopied n.scheme c.args.self.now.live c.copied.new.live (part_in c.in_ok-part-in-Named.part)) c.deref.ensures c.in_ok-part-in-Named.ensures.copied in
     subst (λ (k : Known). AreTaken first (gone ++ c.args.i ∷ []) c.copied.new.live (slice_set nodes c.args.i k) (parts ++ part_in c.in_ok-part-in-Named.part ∷ [])) (sym c.replace.ensures.after)
-    (take_named first gone c.args.self.now.live nodes parts taken c.args.i fresh c.in-Named.named at c.copied.new.live c.ready-copied.ensures.live (part_in c.in_ok-part-in-Named.part) copy)
+    (take_copied first gone c.args.self.now.live nodes parts taken c.args.i fresh (known.Named c.in-Named.named) c.in-Named.named.value.scheme at refl c.copied.new.live c.ready-copied.ensures.live (part_in c.in_ok-part-in-Named.part) copy)
+
+pub returns-in_ok-part-in-Bound : goal.returns-in_ok-part-in-Bound
+returns-in_ok-part-in-Bound c = λ first gone parts taken fresh.
+    let nodes : List Known = c.args.self.now.nodes.items in
+    let at : slice_get nodes c.args.i ≡ Some (known.Bound c.in-Bound.x) =
+    found_at c.args.self.now.live nodes c.args.i c.requires.there.0 c.requires.there.1 (known.Bound c.in-Bound.x) c.index_mut.result.now c.in-Bound.ensures.value c.index_mut.ensures.value in
+    subst (λ (k : Known). AreTaken first (gone ++ c.args.i ∷ []) c.bound.new.live (slice_set nodes c.args.i k) (parts ++ part_in c.in_ok-part-in-Bound.part ∷ [])) (sym c.replace.ensures.after)
+    (take_copied first gone c.args.self.now.live nodes parts taken c.args.i fresh (known.Bound c.in-Bound.x) (bound_scheme c.in-Bound.x) at refl c.bound.new.live c.ready-made.ensures.live (part_in c.in_ok-part-in-Bound.part) c.in_ok-part-in-Bound.ensures)
