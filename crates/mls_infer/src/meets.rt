@@ -104,7 +104,8 @@ fn met(
     if entries.len() == 1 {
         return Ok(entries[0]);
     }
-    let (head, ends) = together(alloc, live, entries)?;
+    let head = head_together(alloc, live, entries)?;
+    let ends = ends_together(alloc, live, entries)?;
     let state = region.add(live, Polarity::Negative, head)?;
     link(live, state, &ends)?;
     let _linked = live.ready();
@@ -114,34 +115,49 @@ fn met(
     })
 }
 
-// The combined head of the states of some entries, and the ends of all their edges. Both are put together by halves, so
-// that each head is gone through as often as the number of entries has binary digits; the calls are as deep.
-fn together(alloc: Global, live: &Live, entries: &[EnvEntry]) -> Result<(Head, StateSet), Memory>
+// The combined head of the states of some entries. It is put together by halves, so that each head is gone through as
+// often as the number of entries has binary digits; the calls are as deep.
+fn head_together(alloc: Global, live: &Live, entries: &[EnvEntry]) -> Result<Head, Memory>
     requires some { 0 < length entries.now }
     requires states { All (λ (entry : EnvEntry). IsLiveState live.now Negative entry.state.0) entries.now }
-    ensures parts { IfOk result (λ all. IsSameParts (parts_of all.0) (parts_together live.now.table entries.now)) }
-    ensures labels { IfOk result (λ all. HasRisingLabels all.0.fields) }
-    ensures ends { IfOk result (λ all. (p : ℕ) → Contains all.1 p ↔ HasFlowOfOne live.now.table entries.now p) }
+    ensures parts { IfOk result (λ head. IsSameParts (parts_of head) (parts_together live.now.table entries.now)) }
+    ensures labels { IfOk result (λ head. HasRisingLabels head.fields) }
     ensures live { OnOk result (IsLive live.now) }
 {
     if entries.len() == 1 {
         let head = copied_head(live.head(entries[0].state))?;
-        let ends = copied_set(live.after(entries[0].state))?;
-        return Ok((head, ends));
+        return Ok(head);
     }
     let half = entries.len() / 2;
-    let (first_head, first_ends) = together(alloc, live, &entries[..half])?;
-    let (second_head, second_ends) = together(alloc, live, &entries[half..])?;
-    let head = unite_heads(alloc, Polarity::Negative, first_head, second_head)?;
-    let ends = first_ends.union(&second_ends)?;
-    Ok((head, ends))
+    let first = head_together(alloc, live, &entries[..half])?;
+    let second = head_together(alloc, live, &entries[half..])?;
+    let head = unite_heads(alloc, Polarity::Negative, first, second)?;
+    Ok(head)
 }
 
-fn copied_set(set: &StateSet) -> Result<StateSet, Memory>
-    ensures { IfOk result (λ copy. copy ≡ set.now) }
+// The ends of all edges of the states of some entries. They are put in order once.
+fn ends_together(alloc: Global, live: &Live, entries: &[EnvEntry]) -> Result<StateSet, Memory>
+    requires { All (λ (entry : EnvEntry). IsLiveState live.now Negative entry.state.0) entries.now }
+    ensures { IfOk result (λ ends. (p : ℕ) → Contains ends p ↔ HasFlowOfOne live.now.table entries.now p) }
 {
-    let copy = set.clone()?;
-    Ok(copy)
+    let mut numbers = Vec::new(alloc);
+    for entry in entries {
+        numbers.extend_from_slice(live.after(entry.state).as_slice())?;
+    }
+    numbers.sort_unstable();
+    let ends = set_of(alloc, numbers.as_slice())?;
+    Ok(ends)
+}
+
+// The set of these states. Those that rise are added at its end.
+fn set_of(alloc: Global, numbers: &[usize]) -> Result<StateSet, Memory>
+    ensures { IfOk result (λ set. (s : ℕ) → Contains set s ↔ Contains numbers.now s) }
+{
+    let mut set = StateSet::new(alloc);
+    for s in numbers {
+        set.insert(StateId(*s))?;
+    }
+    Ok(set)
 }
 
 // Adds the edges from a negative state to these positive ones.

@@ -18,7 +18,7 @@ link-requires-clause-state c = state_came c.args.live.now c.add.new.live c.in_ok
 pub link-requires-clause-ends : goal.link-requires-clause-ends
 link-requires-clause-ends c =
     ends_live c.args.live.now c.add.new.live ((c.in_ok-state.state.0, negative c.in_ok-head.head) ∷ []) [] c.in_ok-head.ensures.live c.in_ok-state.ensures.grows
-    c.args.entries.now c.in_ok-head.ends c.in_ok-head.ensures.ends
+    c.args.entries.now c.in_ok-ends.ends c.in_ok-ends.ensures
 
 pub returns : goal.returns
 returns c =
@@ -28,5 +28,5 @@ returns c =
     meets_all c.args.live.now c.link.new.live c.in_ok-head.ensures.live c.ready-linked.ensures.live c.args.entries.now _
     (of_first c.args.entries.now c.requires.binder.0 c.requires.binder.1 _ some) several c.in_ok-state.state
     (met_by c.args.live.now c.args.entries.now c.in_ok-head.head c.in_ok-head.ensures.parts c.add.new.live c.link.new.live c.in_ok-state.state.0 c.in_ok-state.ensures.grows
-    c.in_ok-head.ends c.in_ok-head.ensures.ends c.in_ok-link.ensures.states c.in_ok-link.ensures.numbers c.in_ok-link.ensures.flows)
+    c.in_ok-ends.ends c.in_ok-ends.ensures c.in_ok-link.ensures.states c.in_ok-link.ensures.numbers c.in_ok-link.ensures.flows)
     (states_in c.args.region.now) (states_in c.add.new.self) c.in_ok-state.ensures.states
