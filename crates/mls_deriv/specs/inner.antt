@@ -8,3 +8,4 @@ pub mod Clauses
 pub mod Readings
 pub mod GivenLines
 pub mod Guesses
+pub mod Environments

@@ -1,8 +1,13 @@
 //! Derivations as values: what stands on the lines of the text of a derivation.
+ghost use Rattle.std.specs.Prelude.{◌≡◌, IfOk};
 
+pub use crate::env::BinderNodes;
 use mls_base::list::List;
+use mls_base::memory::Memory;
 use mls_book::book::{Book, NodeId};
 use mls_book::name::Name;
+use std::alloc::Global;
+use std::marker::Model;
 
 /// A derivation: a section for each binding of a module, in order.
 #[derive(Drop)]
@@ -31,7 +36,7 @@ pub type SectionLines = List<SectionLine>;
 #[derive(Drop)]
 pub enum SectionLine {
     Let(usize, usize),
-    Step(StepLine),
+    Step(OwnStep),
     Put(usize, NodeId),
     Pair(Mode, NodeId, NodeId),
 }
@@ -42,6 +47,53 @@ pub enum Mode {
     Lr,
     Rl,
     Pp,
+}
+
+/// A step in memory of its own, since it is longer than the other lines, which are many more. Contracts see the step.
+#[derive(Drop)]
+pub struct OwnStep {
+    step: Box<StepLine>,
+}
+
+impl Model for OwnStep {
+    ghost use Rattle.mls_deriv.specs.declared.derivation.StepLine.{StepLine};
+
+    ghost Value = { StepLine };
+
+    ghost view = { λ own. own.step.value };
+}
+
+impl OwnStep {
+    /// Puts a step into memory of its own.
+    ///
+    /// # Errors
+    ///
+    /// `Memory` where memory is wanting.
+    pub fn new(alloc: Global, step: StepLine) -> Result<OwnStep, Memory>
+        ensures { IfOk result (λ own. own ≡ step) }
+    {
+        let step = Box::new(alloc, step)?;
+        Ok(OwnStep { step })
+    }
+
+    /// The step.
+    pub fn get(&self) -> &StepLine
+        ensures { result.now ≡ self.now }
+    {
+        &self.step
+    }
+
+    /// The step, to be changed.
+    pub fn get_mut(&mut self) -> &mut StepLine {
+        &mut self.step
+    }
+
+    /// The step, out of its memory.
+    pub fn into_step(self) -> StepLine
+        ensures { result ≡ self }
+    {
+        Box::into_inner(self.step)
+    }
 }
 
 /// A step: the node of the term that it is about, its rule, and the scheme that it concludes.
@@ -59,9 +111,6 @@ pub struct BinderNode {
     pub binder: usize,
     pub node: NodeId,
 }
-
-/// An environment, with its binders in rising order.
-pub type BinderNodes = List<BinderNode>;
 
 /// The rule of a step, with the numbers of the earlier steps that it needs.
 #[derive(Drop)]

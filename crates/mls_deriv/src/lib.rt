@@ -4,6 +4,7 @@
 pub mod check;
 pub mod claim;
 pub mod derivation;
+pub mod env;
 pub mod fault;
 mod fit;
 mod front;

@@ -7,7 +7,7 @@ ghost use Rattle.mls_deriv.specs.Forms.{IsEntryForm, IsLineForm, IsStepForm};
 ghost use Rattle.mls_deriv.specs.Steps.{IsRising};
 ghost use Rattle.mls_deriv.specs.inner.Readings.{IsLineRead};
 
-use crate::derivation::{BinderNodes, SectionLine, StepLine};
+use crate::derivation::{BinderNodes, OwnStep, SectionLine, StepLine};
 use crate::front::behind;
 use crate::last_env::LONG;
 use crate::print::{add_env, add_one};
@@ -60,7 +60,7 @@ impl LineReader {
         ensures { IfOk result (IsLineRead line.now) }
     {
         if let Some(step) = self.known(alloc, line)? {
-            return Ok(Some(SectionLine::Step(step)));
+            return Ok(Some(SectionLine::Step(OwnStep::new(alloc, step)?)));
         }
         match read_line(alloc, line)? {
             None => Ok(None),
@@ -103,7 +103,7 @@ impl LineReader {
         short.extend_from_slice(front)?;
         short.extend_from_slice(back)?;
         let step = match read_line(alloc, short.as_slice())? {
-            Some(SectionLine::Step(step)) => step,
+            Some(SectionLine::Step(step)) => step.into_step(),
             _ => return Ok(None),
         };
         if !step.env.is_empty() || !is_type(alloc, back, step.root)? {
@@ -112,7 +112,7 @@ impl LineReader {
         Ok(Some(StepLine {
             node: step.node,
             rule: step.rule,
-            env: copied(&self.env)?,
+            env: self.env.copy(alloc)?,
             root: step.root,
         }))
     }
@@ -123,10 +123,10 @@ impl LineReader {
     {
         match line {
             SectionLine::Step(step) => {
-                if step.env.len() < LONG {
+                if step.get().env.len() < LONG {
                     Ok(())
                 } else {
-                    self.keep(alloc, &step.env)
+                    self.keep(alloc, &step.get().env)
                 }
             }
             _ => Ok(()),
@@ -141,7 +141,7 @@ impl LineReader {
     {
         let mut words = Vec::new(alloc);
         add_env(&mut words, env.as_slice())?;
-        self.env = copied(env)?;
+        self.env = env.copy(alloc)?;
         self.words = words;
         Ok(())
     }
@@ -166,12 +166,4 @@ fn is_type(alloc: Global, bytes: &[u8], root: NodeId) -> Result<bool, Memory>
     let mut text = Vec::new(alloc);
     add_one(&mut text, b" type", root.0)?;
     Ok(text.as_slice() == bytes)
-}
-
-// The same environment once more.
-fn copied(env: &BinderNodes) -> Result<BinderNodes, Memory>
-    ensures { IfOk result (λ copy. copy ≡ env.now) }
-{
-    let copy = env.clone()?;
-    Ok(copy)
 }

@@ -48,7 +48,7 @@ fn add_line(
     ensures { OnOk result (DoStand book.now (declared.now ++ earlier.now) names.new) }
 {
     match line {
-        SectionLine::Step(step) => match name_of(nodes, step) {
+        SectionLine::Step(step) => match name_of(nodes, step.get()) {
             Some((g, n)) => add_name(names, declared, earlier, book, g, n),
             None => Ok(()),
         },

@@ -177,7 +177,7 @@ fn add_line<'a>(
     ensures { OnOk result (text.new.items ≡ text.old.items ++ line_text line.now) }
 {
     match line {
-        SectionLine::Step(step) => add_known(alloc, text, last, step)?,
+        SectionLine::Step(step) => add_known(alloc, text, last, step.get())?,
         _ => add_words(text, line)?,
     }
     text.push(b'\n')?;
@@ -204,7 +204,7 @@ pub(crate) fn add_words(text: &mut Vec<u8>, line: &SectionLine) -> Result<(), Me
 {
     match line {
         SectionLine::Let(k, s) => add_pair(text, b"let", *k, *s),
-        SectionLine::Step(step) => add_step(text, step),
+        SectionLine::Step(step) => add_step(text, step.get()),
         SectionLine::Put(x, n) => add_pair(text, b"put", *x, n.0),
         SectionLine::Pair(mode, i, j) => {
             text.extend_from_slice(b"pair")?;

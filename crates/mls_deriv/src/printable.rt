@@ -175,7 +175,7 @@ fn is_line(line: &SectionLine) -> bool
 {
     match line {
         SectionLine::Let(k, s) => is_word(*k) && is_word(*s),
-        SectionLine::Step(step) => is_step(step),
+        SectionLine::Step(step) => is_step(step.get()),
         SectionLine::Put(x, n) => is_word(*x) && is_word(n.0),
         SectionLine::Pair(_, i, j) => is_word(i.0) && is_word(j.0),
     }

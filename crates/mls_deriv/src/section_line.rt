@@ -5,7 +5,7 @@ ghost use Rattle.mls_deriv.specs.inner.Guesses.{line_word, line_guess, mode_gues
 ghost use Rattle.mls_deriv.specs.inner.Guesses.{rule_word_of, rule_by};
 ghost use Rattle.mls_deriv.specs.inner.Readings.{IsLineRead, HasRisingBinders};
 
-use crate::derivation::{BinderNode, BinderNodes, Mode, SectionLine, StepLine, StepRule};
+use crate::derivation::{BinderNode, BinderNodes, Mode, OwnStep, SectionLine, StepLine, StepRule};
 use crate::print::add_words;
 use crate::steps::is_rising;
 use crate::words::Words;
@@ -39,7 +39,7 @@ pub fn read_line(alloc: Global, line: &[u8]) -> Result<Option<SectionLine>, Memo
 fn is_spelled(alloc: Global, found: &SectionLine, line: &[u8]) -> Result<bool, Memory>
     ensures { IfOk result (λ same. IsTrue same ↔ (line.now ≡ line_words found.now)) }
 {
-    let mut text = Vec::new(alloc);
+    let mut text = Vec::with_capacity(alloc, line.len())?;
     add_words(&mut text, found)?;
     Ok(text.as_slice() == line)
 }
@@ -49,7 +49,7 @@ fn has_rising(found: &SectionLine) -> bool
     ensures { IsTrue result ↔ HasRisingBinders found.now }
 {
     match found {
-        SectionLine::Step(step) => is_rising(step.env.as_slice()),
+        SectionLine::Step(step) => is_rising(step.get().env.as_slice()),
         _ => true,
     }
 }
@@ -111,12 +111,13 @@ fn step_of(alloc: Global, words: &Words) -> Result<SectionLine, Memory>
     let count = numbers.len();
     let entries = words.values_until(alloc, sum(count, 4)?, b"type")?;
     let root = words.value(sum(sum(count, entries.len())?, 5)?);
-    Ok(SectionLine::Step(StepLine {
+    let step = StepLine {
         node: words.value(1),
         rule: rule_of(rule_word(words.word(2)), numbers),
         env: env_of(alloc, entries.as_slice())?,
         root: NodeId(root),
-    }))
+    };
+    Ok(SectionLine::Step(OwnStep::new(alloc, step)?))
 }
 
 // The sum of two numbers; one that is too large is no number of words that memory holds.
@@ -137,7 +138,8 @@ fn env_of(alloc: Global, numbers: &[usize]) -> Result<BinderNodes, Memory>
             node: NodeId(numbers[2 * i + 1]),
         })?;
     }
-    Ok(env)
+    let shared = env.share(alloc)?;
+    Ok(shared)
 }
 
 // The kinds of rules, by their words. A word that is none of theirs counts as that of a record.

@@ -35,7 +35,7 @@ impl GivenLines {
     {
         match line {
             SectionLine::Let(k, step) => *step < self.steps && !self.lets.contains(k),
-            SectionLine::Step(step) => is_in_range(nodes, self.steps, step),
+            SectionLine::Step(step) => is_in_range(nodes, self.steps, step.get()),
             SectionLine::Put(x, n) => n.0 < nodes && self.may_put(*x),
             SectionLine::Pair(_, i, j) => i.0 < nodes && j.0 < nodes && self.puts.is_some(),
         }
@@ -66,7 +66,7 @@ impl GivenLines {
             }
             SectionLine::Step(step) => {
                 self.steps = self.steps.checked_add(1).ok_or(Memory)?;
-                self.puts = puts_behind(alloc, &step.rule);
+                self.puts = puts_behind(alloc, &step.get().rule);
             }
             SectionLine::Put(x, _) => {
                 if let Some(variables) = &mut self.puts {

@@ -161,7 +161,8 @@ fn take_line<'a>(
             note_let(lets, *k, *number)?;
             Ok(true)
         }
-        SectionLine::Step(step) => {
+        SectionLine::Step(own) => {
+            let step = own.get();
             let nodes = binding.term.nodes.as_slice();
             let rest = &lines[i + 1..];
             if !is_allowed(

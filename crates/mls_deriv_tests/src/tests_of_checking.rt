@@ -10,8 +10,8 @@ use mls_base::spelling::is_name;
 use mls_book::book::{Book, Field, Fields, Node, NodeId};
 use mls_book::name::Name;
 use mls_deriv::derivation::{
-    BinderNode, BinderNodes, Derivation, Mode, Section, SectionLine, SectionLines, Sections,
-    StepLine, StepRule,
+    BinderNode, BinderNodes, Derivation, Mode, OwnStep, Section, SectionLine, SectionLines,
+    Sections, StepLine, StepRule,
 };
 use mls_deriv::print::print_derivation;
 use mls_deriv::verify::{Verified, verify};
@@ -98,13 +98,14 @@ fn identity_book(alloc: Global) -> Result<Book, Memory> {
     Ok(book)
 }
 
-fn step(alloc: Global, node: usize, rule: StepRule, root: usize) -> SectionLine {
-    SectionLine::Step(StepLine {
+fn step(alloc: Global, node: usize, rule: StepRule, root: usize) -> Result<SectionLine, Memory> {
+    let line = StepLine {
         node,
         rule,
         env: BinderNodes::new(alloc),
         root: NodeId(root),
-    })
+    };
+    Ok(SectionLine::Step(OwnStep::new(alloc, line)?))
 }
 
 fn use_of_binder(alloc: Global, root: usize) -> Result<SectionLine, Memory> {
@@ -113,12 +114,13 @@ fn use_of_binder(alloc: Global, root: usize) -> Result<SectionLine, Memory> {
         binder: 0,
         node: NodeId(1),
     })?;
-    Ok(SectionLine::Step(StepLine {
+    let line = StepLine {
         node: 0,
         rule: StepRule::Var,
         env,
         root: NodeId(root),
-    }))
+    };
+    Ok(SectionLine::Step(OwnStep::new(alloc, line)?))
 }
 
 fn push_pairs(lines: &mut SectionLines, count: usize) -> Result<(), Memory> {
@@ -133,9 +135,9 @@ fn push_pairs(lines: &mut SectionLines, count: usize) -> Result<(), Memory> {
 fn identity_lines(alloc: Global, change: &Change) -> Result<SectionLines, Memory> {
     let mut lines = SectionLines::new(alloc);
     lines.push(use_of_binder(alloc, change.first)?)?;
-    lines.push(step(alloc, 1, StepRule::Fun(0), change.second))?;
+    lines.push(step(alloc, 1, StepRule::Fun(0), change.second)?)?;
     if change.subsumes {
-        lines.push(step(alloc, 1, StepRule::Sub(1), 0))?;
+        lines.push(step(alloc, 1, StepRule::Sub(1), 0)?)?;
         push_pairs(&mut lines, change.pairs)?;
     }
     Ok(lines)
@@ -314,8 +316,8 @@ fn record_book(alloc: Global) -> Result<Book, Memory> {
 
 fn record_section(alloc: Global, rule: StepRule) -> Result<Section, Memory> {
     let mut lines = SectionLines::new(alloc);
-    lines.push(step(alloc, 0, StepRule::Lit, 1))?;
-    lines.push(step(alloc, 1, rule, 0))?;
+    lines.push(step(alloc, 0, StepRule::Lit, 1)?)?;
+    lines.push(step(alloc, 1, rule, 0)?)?;
     let nodes = record_book(alloc)?;
     let text = text_of(alloc, b"{a: int}")?;
     let name = name_of(alloc, b"id")?;

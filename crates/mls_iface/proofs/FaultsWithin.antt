@@ -1,6 +1,6 @@
 -- The place of a fault of an interface lies within its text.
-use Rattle.std.proofs.Common.{◌≡◌, ℕ, suc, ◌+◌, ◌<◌, ◌≤◌, Bool, true, false, if◌then◌else◌, List, [], ◌∷◌, ◌++◌, map, length, ap, subst, arith}
-use Rattle.std.specs.Prelude.{option_map, unwrap_or, bytes_eq}
+use Rattle.std.proofs.Common.{◌≡◌, ℕ, suc, ◌+◌, ◌≤◌, Bool, true, false, if◌then◌else◌, List, [], ◌∷◌, ◌++◌, map, length, subst, arith}
+use Rattle.std.specs.Prelude.{bytes_eq}
 use Rattle.std.specs.List.{list_any}
 use Rattle.mls_lexer.specs.declared.token.LexFault.{LexFault}
 use Rattle.mls_lexer.specs.declared.token.LexFault.TheVariants as lex
@@ -19,7 +19,7 @@ use Rattle.mls_iface.specs.declared.interface.IfaceFault.{IfaceFault}
 use Rattle.mls_iface.specs.declared.interface.IfaceFault.TheVariants.{DuplicateVal}
 use Rattle.mls_iface.specs.Declarations.{Declaration, behind}
 use Rattle.mls_iface.specs.Faults.{of_tokens, of_type, HasGrammarFault, before, at_end, faults_of}
-use Rattle.mls_iface.specs.Interfaces.{HasInterfaceFault, in_tokens, in_grammar, in_declarations}
+use Rattle.mls_iface.specs.Interfaces.{in_tokens, in_grammar, in_declarations}
 use Rattle.mls_iface.specs.FaultPlaces.{fault_place}
 use Rattle.mls_iface.specs.Laws.{FaultIsInText}
 

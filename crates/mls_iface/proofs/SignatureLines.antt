@@ -4,7 +4,8 @@ use Rattle.std.proofs.lemmas.List.{take_more}
 use Rattle.mls_iface.specs.declared.signature.SigEntry.{SigEntry}
 use Rattle.mls_iface.specs.Signatures.{entry_line, signature_text}
 
-signature_text-append : (es : List SigEntry) (e : SigEntry) → signature_text (es ++ e ∷ []) ≡ signature_text es ++ entry_line e
+-- an entry behind the others
+pub signature_text-append : (es : List SigEntry) (e : SigEntry) → signature_text (es ++ e ∷ []) ≡ signature_text es ++ entry_line e
 unfolding signature_text
 signature_text-append [] e = append-nil (entry_line e)
 signature_text-append (first ∷ es) e = ap (λ l. entry_line first ++ l) (signature_text-append es e) ∙ sym (append_assoc (entry_line first) (signature_text es) (entry_line e))

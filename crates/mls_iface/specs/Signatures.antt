@@ -24,9 +24,13 @@ pub record AreEntries (entries : List SigEntry) : Type 0 where
   pub each : All IsEntry entries
   pub distinct : AllPairs (λ x y. x ≢ y) (map (λ e. e.name) entries)
 
+-- the line that declares a name with the text of a type
+abbrev pub val_line : (name text : List ℕ) → List ℕ
+val_line name text = codes "val " ++ name ++ codes " : " ++ text ++ codes "\n"
+
 -- the text of a signature: a line `val NAME : TYPE` for each entry
 abbrev pub entry_line : SigEntry → List ℕ
-entry_line e = codes "val " ++ e.name ++ codes " : " ++ e.text ++ codes "\n"
+entry_line e = val_line e.name e.text
 
 unfoldable pub signature_text : List SigEntry → List ℕ
 signature_text [] = []

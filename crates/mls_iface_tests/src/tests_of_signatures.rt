@@ -11,7 +11,7 @@ use mls_book::name::Name;
 use mls_iface::interface::IfaceFault;
 use mls_iface::laws::interface_is_valid;
 use mls_iface::matching::{MatchAnswer, Path, matches};
-use mls_iface::print::print_interface;
+use mls_iface::print::{add_val, print_interface};
 use mls_iface::read::read_interface;
 use mls_iface::signature::{SigEntry, Signature};
 use mls_subsume::verdict::{Reason, Step};
@@ -169,5 +169,17 @@ fn the_text_of_a_signature_is_an_interface(rt: HostRuntime) -> Result<(), Fail> 
             assert_eq!(rt; line.as_str(), "all");
         }
     }
+    Ok(())
+}
+
+#[test]
+fn an_entry_is_a_line(rt: HostRuntime) -> Result<(), Fail> {
+    let mut text = Vec::new(rt.alloc());
+    assert!(rt; is_name(b"x"));
+    add_val(&mut text, &Name::new(rt.alloc(), b"x")?, b"int")?;
+    assert!(rt; is_name(b"id"));
+    add_val(&mut text, &Name::new(rt.alloc(), b"id")?, b"a -> a")?;
+    let want = "val x : int\nval id : a -> a\n";
+    assert_eq!(rt; text.as_slice(), want.as_bytes());
     Ok(())
 }

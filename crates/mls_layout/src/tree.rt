@@ -4,9 +4,9 @@ ghost use Rattle.mls_book.specs.Books.{IsBook};
 ghost use Rattle.mls_layout.specs.Trees.{AddsTree, AddsTrees, HasMembersIn, none_node, two_node};
 
 use mls_automaton::automaton::Polarity;
-use mls_base::list::List;
 use mls_base::memory::Memory;
 use mls_book::book::{Book, Node, NodeId};
+use mls_pairs::short::ShortList;
 use std::alloc::Global;
 
 // The node of no member.
@@ -93,7 +93,7 @@ pub struct PlannedTree {
 }
 
 /// Numbers of nodes in order.
-pub type NodeIds = List<NodeId>;
+pub type NodeIds = ShortList<NodeId>;
 
 /// Adds the tree of these members, which are nodes of the book.
 pub(crate) fn push_planned(book: &mut Book, tree: &PlannedTree) -> Result<NodeId, Memory>

@@ -13,7 +13,7 @@ use mls_base::memory::Memory;
 use mls_book::book::{Book, NodeId};
 use mls_deriv::claim::Pair;
 use mls_deriv::derivation::{
-    BinderNode, BinderNodes, Mode, SectionLine, SectionLines, StepLine, StepRule,
+    BinderNode, BinderNodes, Mode, OwnStep, SectionLine, SectionLines, StepLine, StepRule,
 };
 use mls_deriv::steps::is_same;
 use mls_pairs::lines::{push_pairs, push_puts};
@@ -55,24 +55,9 @@ pub struct Steps {
 pub fn copied(alloc: Global, env: &[BinderNode]) -> Result<BinderNodes, Memory>
     ensures { IfOk result (λ copy. copy ≡ env.now) }
 {
-    let mut copy = BinderNodes::new(alloc);
-    copy.reserve(env.len())?;
-    for entry in env {
-        copy.push(*entry)?;
-    }
-    Ok(copy)
-}
-
-/// The same whole environment once more. It takes less time than a copy of its entries one by one.
-///
-/// # Errors
-///
-/// `Memory` where memory is wanting.
-pub fn whole_copy(env: &BinderNodes) -> Result<BinderNodes, Memory>
-    ensures { IfOk result (λ copy. copy ≡ env.now) }
-{
-    let copy = env.clone()?;
-    Ok(copy)
+    let mut copy = Vec::with_capacity(alloc, env.len())?;
+    copy.extend_from_slice(env)?;
+    Ok(BinderNodes::of(copy))
 }
 
 /// The node of a binder, where binders rise.
@@ -158,12 +143,15 @@ impl Steps {
     {
         let step = self.count;
         self.count = step.checked_add(1).ok_or(Memory)?;
-        self.lines.push(SectionLine::Step(StepLine {
+        let env = env.share(alloc)?;
+        let line = StepLine {
             node,
             rule,
-            env: whole_copy(&env)?,
+            env: env.copy(alloc)?,
             root,
-        }))?;
+        };
+        self.lines
+            .push(SectionLine::Step(OwnStep::new(alloc, line)?))?;
         Ok(Conclusion {
             step,
             root,

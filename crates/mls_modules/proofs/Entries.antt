@@ -2,12 +2,12 @@
 --     is_entry        what is printed and read back of the scheme of a binding's term is its entry
 --     entries-append  an entry more is one for the next binding
 --     term_at, failed_at, one_more     the turn of the loop
-use Rattle.std.proofs.Common.{◌≡◌, ◌≢◌, ◌⊎◌, inl, inr, ℕ, zero, suc, ◌+◌, ◌<◌, ◌≤◌, List, [], ◌∷◌, ◌++◌, length, map, take, get_or, refl, sym, ap, ◌∙◌, subst, append_assoc, append-nil, Some, arith, All}
+use Rattle.std.proofs.Common.{◌≡◌, ◌≢◌, ◌⊎◌, inl, inr, ℕ, zero, suc, ◌+◌, ◌<◌, ◌≤◌, List, [], ◌∷◌, ◌++◌, length, take, get_or, refl, sym, ap, ◌∙◌, subst, Some, arith, All}
 use Rattle.std.specs.Prelude.{slice_get}
 use Rattle.std.proofs.lemmas.Bool.{cases_lt}
 use Rattle.std.proofs.lemmas.Option.{slice_get-get_or}
-use Rattle.std.proofs.lemmas.List.{take-append-le, length-append, length-map}
-use Rattle.std.proofs.lemmas.List.Elements.{All-push, All-nil}
+use Rattle.std.proofs.lemmas.List.{take-append-le, length-append}
+use Rattle.std.proofs.lemmas.List.Elements.{All-push}
 use Rattle.mls_base.specs.Spelling.{IsName}
 use Rattle.mls_book.specs.Schemes as book
 use Rattle.mls_grammar.specs.declared.fault.Fault.{Fault}
@@ -38,13 +38,12 @@ use Rattle.mls_print.specs.Laws.{ReadsBack}
 use Rattle.mls_print.specs.Printed.{HasNamedFields, IsPrinted}
 use Rattle.mls_iface.specs.declared.interface.Interface.{Interface}
 use Rattle.mls_iface.specs.declared.signature.SigEntry.{SigEntry}
-use Rattle.mls_iface.specs.declared.signature.Signature.{Signature}
-use Rattle.mls_iface.specs.Signatures.{IsEntry, IsPlain}
+use Rattle.mls_iface.specs.Signatures.{IsPlain}
 use Rattle.mls_modules.specs.declared.fault.ModuleFault.{ModuleFault}
 use Rattle.mls_modules.specs.declared.fault.ModuleFault.TheVariants.{UnknownName, NoScheme, Memory}
 use Rattle.mls_iface.specs.Matches.{IsRead}
-use Rattle.mls_modules.specs.Environments.{declared_names, known_after, MeanAfter}
-use Rattle.mls_modules.specs.Entries.{IsEntryOf, AreEntriesOf, AreAllEntriesOf, HasNoEntry, IsSignatureOf}
+use Rattle.mls_modules.specs.Environments.{declared_names, MeanAfter}
+use Rattle.mls_modules.specs.Entries.{IsEntryOf, AreEntriesOf}
 use Rattle.mls_modules.specs.ModuleFaults.{HasModuleFault}
 use Rattle.mls_modules.specs.steps.Inferring.{of_names, at_binding, EndsAt, HaveEntries}
 use Rattle.mls_modules.proofs.KnownTypes.{text_is_valid, read_is_scheme}

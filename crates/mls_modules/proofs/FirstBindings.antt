@@ -1,11 +1,11 @@
 -- The first bindings of a module are one.
-use Rattle.std.proofs.Common.{◌≡◌, ℕ, ◌<◌, ◌≤◌, List, map, take, drop, length, refl, sym, ap, ◌∙◌, subst, arith}
+use Rattle.std.proofs.Common.{◌≡◌, ℕ, ◌<◌, ◌≤◌, List, map, take, drop, length, sym, ap, ◌∙◌, subst, arith}
 use Rattle.std.specs.Prelude.{Contains}
 use Rattle.std.proofs.lemmas.List.{take-map, get_or-take, length-take-le, length-map, take-append-drop}
 use Rattle.std.proofs.lemmas.List.Elements.{Contains-append_left}
 use Rattle.mls_grammar.specs.declared.module.Module.{Module}
 use Rattle.mls_grammar.specs.declared.module.Binding.{Binding}
-use Rattle.mls_grammar.specs.Trees.{BindingTree, SourceTree}
+use Rattle.mls_grammar.specs.Trees.{BindingTree}
 use Rattle.mls_grammar.specs.Modules.{AreDistinct, binding_of, module_of, IsModule}
 use Rattle.mls_modules.specs.ModuleFaults.{first_bindings}
 

@@ -18,7 +18,6 @@ use Rattle.mls_typetext.specs.Schemes.{scheme_of, type_scheme, operator_types}
 use Rattle.mls_typetext.specs.Texts.{read_of, IsTypeText}
 use Rattle.mls_typetext.specs.Laws.{IsReadScheme}
 use Rattle.mls_typetext.proofs.ReadLaws.{one_reading, read_is_closed}
-use Rattle.mls_scheme.specs.ReadTypes.{IsPolarisedRead}
 use Rattle.mls_scheme.proofs.PolarisedTypes.{read-polarised}
 use Rattle.mls_print.specs.Layouts.{written}
 use Rattle.mls_print.proofs.WrittenPhrases.{HasNames, written-terminals}

@@ -1,25 +1,19 @@
 -- A module has one signature or one fault.
-use Rattle.std.proofs.Common.{◌≡◌, ◌⊎◌, inl, inr, ℕ, zero, suc, ◌+◌, ◌<◌, List, [], ◌∷◌, length, map, refl, sym, ap, ◌∙◌, subst, Some, arith, All}
+use Rattle.std.proofs.Common.{◌≡◌, ◌⊎◌, inl, inr, ℕ, suc, ◌+◌, ◌<◌, List, [], ◌∷◌, length, refl, sym, ap, ◌∙◌, subst, Some, arith, All}
 use Rattle.std.specs.Prelude.{slice_get}
 use Rattle.mls_book.specs.Schemes.{AreEquivalent}
 use Rattle.mls_book.proofs.LongerBooks.{below_or_more}
-use Rattle.mls_grammar.specs.declared.fault.Fault.{Fault}
 use Rattle.mls_grammar.specs.declared.fault.Fault.TheVariants as names
-use Rattle.mls_grammar.specs.declared.module.Module.{Module}
 use Rattle.mls_term.specs.declared.term.Resolved.{Resolved}
 use Rattle.mls_term.specs.declared.term.ResolvedBinding.{ResolvedBinding}
 use Rattle.mls_names.proofs.OneResolution.{one_resolution, one_unknown_name, no_unknown_name_beside_a_resolution}
 use Rattle.mls_typetext.specs.Schemes.{scheme_of}
-use Rattle.mls_infer.specs.declared.fault.Site.{Site}
 use Rattle.mls_iface.specs.declared.interface.Interface.{Interface}
 use Rattle.mls_iface.specs.declared.signature.SigEntry.{SigEntry}
-use Rattle.mls_iface.specs.declared.signature.Signature.{Signature}
-use Rattle.mls_modules.specs.declared.fault.ModuleFault.{ModuleFault}
 use Rattle.mls_modules.specs.declared.fault.ModuleFault.TheVariants.{UnknownName, NoScheme, Memory}
 use Rattle.mls_modules.specs.Environments.{IsValidInterface, declared_names}
-use Rattle.mls_modules.specs.Entries.{AreEntriesOf, AreAllEntriesOf, HasFirstNone, HasNoEntry, IsSignatureOf}
-use Rattle.mls_modules.specs.ModuleFaults.{IsWithoutScheme, HasModuleFault}
-use Rattle.mls_modules.specs.Laws.{AreAlike, OneSignature, NoFaultBesideSignature, IsSameFault, OneModuleFault}
+use Rattle.mls_modules.specs.Entries.{AreEntriesOf, AreAllEntriesOf, HasFirstNone, HasNoEntry}
+use Rattle.mls_modules.specs.Laws.{AreAlike, OneSignature, NoFaultBesideSignature, OneModuleFault}
 use Rattle.mls_modules.proofs.SameEntries.{same_entry, no_entry, one_node, stands, below_length}
 
 -- lists of one length are alike where their entries are, number by number

@@ -1,18 +1,15 @@
 -- A signature of a module has an entry with a name of its own for each binding.
-use Rattle.std.proofs.Common.{◌≡◌, ◌≢◌, ℕ, zero, suc, ◌<◌, List, [], ◌∷◌, ◌++◌, length, map, get_or, refl, sym, ap, ◌∙◌, subst, Some, arith, All}
+use Rattle.std.proofs.Common.{◌≡◌, ℕ, suc, ◌<◌, List, [], ◌∷◌, ◌++◌, length, map, get_or, refl, sym, ap, ◌∙◌, subst, Some, arith}
 use Rattle.std.specs.Prelude.{slice_get}
 use Rattle.std.proofs.lemmas.Option.{slice_get-get_or}
 use Rattle.mls_grammar.specs.declared.module.Module.{Module}
 use Rattle.mls_grammar.specs.declared.module.Binding.{Binding}
 use Rattle.mls_grammar.specs.Trees.{BindingTree}
-use Rattle.mls_grammar.specs.Modules.{AreDistinct, binding_of, IsModule}
+use Rattle.mls_grammar.specs.Modules.{AreDistinct, binding_of}
 use Rattle.mls_term.specs.declared.term.ResolvedBinding.{ResolvedBinding}
-use Rattle.mls_names.specs.Resolution.{Resolves, AreTermsOf}
-use Rattle.mls_iface.specs.declared.interface.Interface.{Interface}
+use Rattle.mls_names.specs.Resolution.{AreTermsOf}
 use Rattle.mls_iface.specs.declared.signature.SigEntry.{SigEntry}
-use Rattle.mls_iface.specs.Signatures.{IsEntry, AreEntries}
 use Rattle.mls_modules.specs.Environments.{declared_names}
-use Rattle.mls_modules.specs.Entries.{AreAllEntriesOf, IsSignatureOf}
 use Rattle.mls_modules.specs.Laws.{SignaturesAreValid}
 use Rattle.mls_modules.proofs.SameEntries.{stands}
 

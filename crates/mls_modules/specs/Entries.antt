@@ -20,7 +20,7 @@ use Rattle.mls_iface.specs.declared.matching.MatchAnswer.{MatchAnswer}
 use Rattle.mls_iface.specs.declared.signature.SigEntry.{SigEntry}
 use Rattle.mls_iface.specs.declared.signature.Signature.{Signature}
 use Rattle.mls_iface.specs.Matches.{IsMatchAnswer}
-use Rattle.mls_iface.specs.Signatures.{IsEntry}
+use Rattle.mls_iface.specs.Signatures.{IsEntry, signature_text}
 use Rattle.mls_modules.specs.Environments.{declared_names, known_after}
 
 -- the text is printed of a simplified scheme, which needs no binder, whose labels are names, and which is equivalent to
@@ -79,6 +79,12 @@ pub record IsSignatureOf (m : Module) (imports : List Interface) (s : Signature)
   pub resolved : Resolved
   pub resolves : Resolves m (declared_names imports) resolved
   pub entries : AreAllEntriesOf imports resolved.bindings s.entries
+
+-- the text is that of a signature of the module
+pub record IsSignatureText (m : Module) (imports : List Interface) (text : List ℕ) : Type 0 where
+  pub signature : Signature
+  pub is_signature : IsSignatureOf m imports signature
+  pub text_is : text ≡ signature_text signature.entries
 
 -- this is what the match of a signature of the module and this interface answers
 pub record IsMatchOf (m : Module) (imports : List Interface) (own : Interface) (answer : MatchAnswer) : Type 0 where

@@ -9,7 +9,7 @@ use Rattle.mls_iface.specs.declared.signature.SigEntry.{SigEntry}
 use Rattle.mls_iface.specs.declared.signature.Signature.{Signature}
 use Rattle.mls_iface.specs.Signatures.{AreEntries}
 use Rattle.mls_modules.specs.declared.fault.ModuleFault.{ModuleFault}
-use Rattle.mls_modules.specs.declared.fault.ModuleFault.TheVariants.{UnknownName, NoScheme, Memory}
+use Rattle.mls_modules.specs.declared.fault.ModuleFault.TheVariants.{UnknownName, NoScheme}
 use Rattle.mls_modules.specs.Environments.{IsValidInterface}
 use Rattle.mls_modules.specs.Entries.{IsSignatureOf}
 use Rattle.mls_modules.specs.ModuleFaults.{HasModuleFault}

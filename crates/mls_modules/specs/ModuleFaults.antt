@@ -1,5 +1,5 @@
 -- Why a module has no signature.
-use Rattle.std.specs.Prelude.{◌≡◌, ℕ, List, take}
+use Rattle.std.specs.Prelude.{ℕ, List, take}
 use Rattle.mls_term.specs.declared.term.Resolved.{Resolved}
 use Rattle.mls_grammar.specs.declared.fault.Fault.TheVariants as names
 use Rattle.mls_grammar.specs.declared.module.Module.{Module}

@@ -6,9 +6,9 @@ ghost use Rattle.mls_names.specs.Resolution.{declared_count};
 ghost use Rattle.mls_names.specs.ResolutionLaws.{AreTerms};
 ghost use Rattle.mls_infer.specs.Inference.{IsFirstWithout};
 ghost use Rattle.mls_modules.specs.Environments.{AreInterfacesOf, IsValidInterface, MeanAfter, declared_names};
-ghost use Rattle.mls_modules.specs.Entries.{AreAllEntriesOf, IsEntryOf, IsSignatureOf};
+ghost use Rattle.mls_modules.specs.Entries.{AreAllEntriesOf, IsEntryOf, IsSignatureOf, IsSignatureText};
 ghost use Rattle.mls_modules.specs.ModuleFaults.{HasModuleFault};
-ghost use Rattle.mls_modules.specs.steps.Inferring.{at_binding, of_names, AreTypes, EndsAt};
+ghost use Rattle.mls_modules.specs.steps.Inferring.{at_binding, of_names, AreTypes, EndsAt, IsLineAdded, IsTextOfAll};
 
 use crate::copy::{copy_name, copy_scheme};
 use crate::environment::{declared_names, names_of};
@@ -19,6 +19,7 @@ use mls_base::memory::Memory;
 use mls_grammar::fault::Fault;
 use mls_grammar::module::Module;
 use mls_iface::interface::Interface;
+use mls_iface::print::add_val;
 use mls_iface::signature::{SigEntry, Signature};
 use mls_infer::environment::Environment;
 use mls_infer::fault::InferFault;
@@ -48,6 +49,29 @@ pub fn infer_module(
     let declared = declared_names(alloc, imports)?;
     match resolve(alloc, module, declared.as_slice()) {
         Ok(resolved) => signature_of(alloc, imports, resolved.bindings.as_slice()),
+        Err(fault) => Err(of_names(fault)),
+    }
+}
+
+/// The text of the signature of a module, as `print_interface` gives it of what `infer_module` answers. No entry is kept,
+/// and no type is read back of which no later binding speaks.
+///
+/// # Errors
+///
+/// Those of `infer_module`.
+pub fn infer_text(
+    alloc: Global,
+    module: &Module,
+    imports: &[Interface],
+) -> Result<Vec<u8>, ModuleFault>
+    requires module { IsModule «module».now }
+    requires imports { AreInterfacesOf «module».now imports.now }
+    ensures text { IfOk result (λ text. IsSignatureText «module».now imports.now text.items) }
+    ensures fault { IfErr result (λ f. f ≢ ModuleFault.Memory → HasModuleFault «module».now imports.now f) }
+{
+    let declared = declared_names(alloc, imports)?;
+    match resolve(alloc, module, declared.as_slice()) {
+        Ok(resolved) => text_of(alloc, imports, resolved.bindings.as_slice()),
         Err(fault) => Err(of_names(fault)),
     }
 }
@@ -127,4 +151,68 @@ fn entry_of(
         text: List::of(printed),
         scheme: read,
     })
+}
+
+// The text of the entries of bindings, or the first binding without a scheme.
+fn text_of(
+    alloc: Global,
+    imports: &[Interface],
+    bindings: &[ResolvedBinding],
+) -> Result<Vec<u8>, ModuleFault>
+    requires imports { All IsValidInterface imports.now }
+    requires terms { AreTerms (5 + declared_count (declared_names imports.now)) bindings.now }
+    ensures text { IfOk result (λ text. IsTextOfAll imports.now bindings.now text.items) }
+    ensures fault { IfErr result (EndsAt imports.now bindings.now) }
+{
+    let nothing = Signature {
+        entries: List::new(alloc),
+    };
+    let names = names_of(alloc, imports, &nothing)?;
+    let mut environment = Environment::new(alloc, names);
+    let mut types = ShortTypes::new(alloc);
+    let mut text = Vec::new(alloc);
+    for (number, binding) in bindings.iter().enumerate() {
+        let follows = number + 1 < bindings.len();
+        match add_line(
+            alloc,
+            &mut environment,
+            &mut types,
+            &mut text,
+            binding,
+            follows,
+        ) {
+            Ok(()) => {}
+            Err(fault) => return Err(at_binding(number, fault)),
+        }
+    }
+    Ok(text)
+}
+
+// Adds the line of an entry of a binding to a text, whatever entries the environment comes from, and what its type is
+// read as to the environment where another binding follows.
+fn add_line(
+    alloc: Global,
+    environment: &mut Environment,
+    types: &mut ShortTypes,
+    text: &mut Vec<u8>,
+    binding: &ResolvedBinding,
+    follows: bool,
+) -> Result<(), InferFault>
+    requires term { IsTerm (length environment.old.schemes) binding.now.term.nodes binding.now.term.binders
+        binding.now.term.lets }
+    requires types { AreTypes types.old }
+    ensures types { OnOk result (AreTypes types.new) }
+    ensures line { OnOk result (IsLineAdded binding.now follows environment.old environment.new text.old.items
+        text.new.items) }
+    ensures fault { IfErr result (IsFirstWithout environment.old binding.now.term) }
+{
+    let scheme = environment.infer(alloc, &binding.term)?;
+    let printed = print_scheme(alloc, &scheme)?;
+    add_val(text, &binding.name, &printed)?;
+    if follows {
+        let read = types.type_of(alloc, &printed)?;
+        environment.add(read)?;
+        return Ok(());
+    }
+    Ok(())
 }

@@ -9,7 +9,7 @@ use mls_modules::check::check_module;
 use mls_modules::environment::names_of;
 use mls_modules::fault::ModuleFault;
 use mls_modules::first::infer_first;
-use mls_modules::infer::infer_module;
+use mls_modules::infer::{infer_module, infer_text};
 use mls_modules::laws::signatures_are_valid;
 use mls_syntax::parse::{Fault, parse_module};
 use std::alloc::{AllocError, Global};
@@ -78,8 +78,9 @@ fn inferred(alloc: Global, text: &[u8], count: usize) -> Result<String, Stop> {
     Ok(line)
 }
 
-fn shown(alloc: Global, text: &[u8], count: usize) -> Result<String, AllocError> {
-    match inferred(alloc, text, count) {
+// The line, or why there is none.
+fn shown(alloc: Global, found: Result<String, Stop>) -> Result<String, AllocError> {
+    match found {
         Ok(line) => Ok(line),
         Err(stop) => {
             let mut line = String::new(alloc);
@@ -106,7 +107,43 @@ fn infers_the_first_bindings(rt: HostRuntime) -> Result<(), Fail> {
         (text, 4, "Module(UnknownName(87))"),
     ];
     for (text, count, want) in cases {
-        let line = shown(rt.alloc(), text, count)?;
+        let line = shown(rt.alloc(), inferred(rt.alloc(), text, count))?;
+        assert_eq!(rt; line.as_str(), want);
+    }
+    Ok(())
+}
+
+// The text of the signature of a module.
+fn printed(alloc: Global, text: &[u8]) -> Result<String, Stop> {
+    let module = parse_module(alloc, text)?;
+    if module.imports.len() != 0 {
+        return Err(Stop::Count);
+    }
+    let lines = infer_text(alloc, &module, &[])?;
+    let mut line = String::new(alloc);
+    match str::from_utf8(lines.as_slice()) {
+        Ok(lines) => write!(line, "{lines}")?,
+        Err(_) => write!(line, "no text")?,
+    }
+    Ok(line)
+}
+
+#[test]
+fn prints_the_signature(rt: HostRuntime) -> Result<(), Fail> {
+    let cases: [(&[u8], &str); 4] = [
+        (b"", ""),
+        (b"let a = fun x -> x", "val a : a -> a\n"),
+        (
+            b"let a = fun x -> x.l let b = a {l = 1} let c = fun f -> f b",
+            "val a : {l: a} -> a\nval b : int\nval c : (int -> a) -> a\n",
+        ),
+        (
+            b"let a = 1 let b = a 1",
+            "Module(NoScheme(1, Site { node: 2, kind: Unlike(Int, Function) }))",
+        ),
+    ];
+    for (text, want) in cases {
+        let line = shown(rt.alloc(), printed(rt.alloc(), text))?;
         assert_eq!(rt; line.as_str(), want);
     }
     Ok(())

@@ -25,6 +25,9 @@ head_there x xs = (0, omega arith, refl)
 pub next_there : (x y : Pair) → Contains (x ∷ y ∷ []) y
 next_there x y = (1, omega arith, refl)
 
+pub two_there : (x y : Pair) (xs : List Pair) → xs ≡ x ∷ y ∷ [] → Contains xs x × Contains xs y
+two_there x y xs is = subst (λ l. Contains l x × Contains l y) (sym is) (head_there x (y ∷ []), next_there x y)
+
 read_there : (pair : ℕ → Pair) (o : Option ℕ) (n : ℕ) → o ≡ Some n → Contains (read_as pair o) (pair n)
 read_there pair o n e = subst (λ o. Contains (read_as pair o) (pair n)) (sym e) (head_there (pair n) [])
 

@@ -5,7 +5,7 @@
 --     swept_fewer         where a pair is gone, fewer of the list are left
 --     swept_list          where none is gone, the list justifies itself
 use Rattle.std.proofs.Common.{◌≡◌, ◌⊎◌, inl, inr, Bool, true, false, ℕ, suc, ◌<◌, ◌≤◌, ◌+◌, ◌-◌, drop, get_or, List, [], ◌∷◌, length, refl, sym, ap, ◌∙◌, subst, arith}
-use Rattle.std.specs.Prelude.{All, Contains}
+use Rattle.std.specs.Prelude.{Contains}
 use Rattle.std.proofs.lemmas.List.{drop_more}
 use Rattle.std.proofs.lemmas.List.Elements.{All-contains}
 use Rattle.mls_book.specs.declared.book.Node.{Node}
@@ -17,7 +17,7 @@ use Rattle.mls_deriv.proofs.ScopedNames.{first_or_later}
 use Rattle.mls_pairs.specs.Lines.{IsTable}
 use Rattle.mls_pairs.specs.PairLists.{IsPairList}
 use Rattle.mls_pairs.specs.steps.Deleting.{Deletes, IsHeldBy, Sweeps, nothing, one_more}
-use Rattle.mls_pairs.specs.steps.Rounds.{AreThose, IsJustifiedBy, IsLeft, IsShownBy, none, kept}
+use Rattle.mls_pairs.specs.steps.Rounds.{AreThose, IsLeft, IsShownBy, none, kept}
 use Rattle.mls_pairs.proofs.Deletions.{deletes_less, deletes_trans}
 use Rattle.mls_pairs.proofs.Rounding.{left_last, those_all, those_smaller}
 use Rattle.mls_pairs.proofs.TableShown.{those_justified}

@@ -2,5 +2,6 @@
 pub mod Needs
 pub mod Growth
 pub mod Rounds
+pub mod ShortLists
 pub mod Deleting
 pub mod Reasons

@@ -17,6 +17,9 @@ use mls_deriv::derivation::Mode;
 use mls_deriv::table::Table;
 use std::alloc::Global;
 
+// How many pairs a step has for the most part, or less.
+const EXPECTED: usize = 32;
+
 /// Pairs in the order in which they were found, each once, and the table of them and of the nodes of variables.
 #[derive(Drop)]
 pub(crate) struct Found {
@@ -35,7 +38,8 @@ impl Found {
         ensures empty { IfOk result (λ found. found.pairs ≡ []) }
         ensures puts { IfOk result (λ found. (x : ℕ) → put_in found.table x ≡ put_at puts.now x) }
     {
-        let pairs = Pairs::new(alloc);
+        let mut pairs = Pairs::new(alloc);
+        pairs.reserve(EXPECTED)?;
         let table = table_with(alloc, puts, &pairs)?;
         Ok(Found { pairs, table })
     }

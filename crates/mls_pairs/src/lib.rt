@@ -10,4 +10,5 @@ pub mod laws;
 pub mod lines;
 mod needs;
 pub mod pairs;
+pub mod short;
 mod thin;

@@ -9,14 +9,14 @@ ghost use Rattle.mls_pairs.specs.steps.Rounds.{AreThose};
 use crate::chosen::chosen_of;
 use crate::deleting::{delete_all, held, sweep};
 use crate::found::{Found, gathered};
-use mls_base::list::List;
+use crate::short::ShortList;
 use mls_base::memory::Memory;
 use mls_book::book::Book;
 use mls_deriv::claim::{Pair, Put};
 use std::alloc::Global;
 
 /// Pairs in order.
-pub type Pairs = List<Pair>;
+pub type Pairs = ShortList<Pair>;
 
 // So many rounds go over all pairs, before those alone are looked at again that rest on a pair that is gone.
 const ROUNDS: usize = 4;

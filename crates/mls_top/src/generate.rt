@@ -5,11 +5,10 @@ ghost use Rattle.mls_top.specs.steps.Answering.{IsAskedOfNone, IsAskedStopOfNone
 use crate::answer::{Answer, Stop};
 use crate::command::Command;
 use crate::generator::generate;
-use crate::infer::signature_of;
+use crate::infer::printed_signature;
 use crate::lines::generated_line;
 use crate::reading::module_of;
 use crate::status::Status;
-use mls_iface::print::print_interface;
 use std::alloc::Global;
 
 /// The answer of `generate`: that of `infer` over a store where just the generated text is, and in place of a signature
@@ -23,8 +22,7 @@ pub fn generate_and_infer(alloc: Global, seed: u32, count: usize) -> Result<Answ
     let file = "generated.ml";
     let text = generate(alloc, seed, count)?;
     let source = module_of(alloc, file, text.as_slice())?;
-    let signature = signature_of(alloc, file, text.as_slice(), &source, &[])?;
-    let printed = print_interface(alloc, &signature)?;
+    let printed = printed_signature(alloc, file, text.as_slice(), &source, &[])?;
     Ok(Answer {
         status: Status::Done,
         text: generated_line(alloc, count, text.len(), printed.len())?,

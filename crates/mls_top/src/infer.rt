@@ -3,7 +3,7 @@ ghost use Rattle.std.specs.Prelude.{◌≢◌, IfOk, IfErr};
 ghost use Rattle.mls_io.specs.Stores.{Follows};
 ghost use Rattle.mls_grammar.specs.Modules.{IsModule, IsModuleText};
 ghost use Rattle.mls_modules.specs.Environments.{AreInterfacesOf};
-ghost use Rattle.mls_modules.specs.Entries.{IsSignatureOf};
+ghost use Rattle.mls_modules.specs.Entries.{IsSignatureOf, IsSignatureText};
 ghost use Rattle.mls_top.specs.Answers.{IsOver};
 ghost use Rattle.mls_top.specs.Outcomes.{Infers, InfersBindings, refused};
 ghost use Rattle.mls_top.specs.steps.Answering.{IsAsked, IsAskedStop, IsStop, IsCausedStop, IsUncounted};
@@ -18,13 +18,12 @@ use crate::status::Status;
 use mls_base::memory::Memory;
 use mls_book::name::Name;
 use mls_iface::interface::Interface;
-use mls_iface::print::print_interface;
 use mls_iface::signature::Signature;
 use mls_infer::fault::Site;
 use mls_io::store::Store;
 use mls_lexer::place::locate;
 use mls_modules::fault::ModuleFault;
-use mls_modules::infer::infer_module;
+use mls_modules::infer::{infer_module, infer_text};
 use mls_syntax::module::Module;
 use mls_syntax::parse::Fault;
 use std::alloc::Global;
@@ -42,10 +41,17 @@ pub fn infer<S: Store>(alloc: Global, store: &mut S, name: &Name) -> Result<Answ
     ensures answer { IfOk result (IsAsked (S.holdings store.old) (S.holdings store.new) (Command.Infer name.now)) }
     ensures stop { IfErr result (IsAskedStop (S.holdings store.old) (S.holdings store.new) (Command.Infer name.now)) }
 {
-    let found = signed(alloc, store, name)?;
+    let source = source_of(alloc, store, name)?;
+    let text = printed_signature(
+        alloc,
+        source.file.as_str(),
+        source.text.as_slice(),
+        &source.parsed,
+        source.imports.as_slice(),
+    )?;
     Ok(Answer {
         status: Status::Done,
-        text: print_interface(alloc, &found.signature)?,
+        text,
     })
 }
 
@@ -88,6 +94,26 @@ pub fn signature_of(
 {
     match infer_module(alloc, source, imports) {
         Ok(signature) => Ok(signature),
+        Err(fault) => Err(Stop::Refused(unsigned(alloc, file, text, source, fault)?)),
+    }
+}
+
+/// The text of the signature of the module that this text of a file is, where these are the interfaces of its imports.
+pub fn printed_signature(
+    alloc: Global,
+    file: &str,
+    text: &[u8],
+    source: &Module,
+    imports: &[Interface],
+) -> Result<Vec<u8>, Stop>
+    requires source { IsModuleText text.now source.now }
+    requires imports { AreInterfacesOf source.now imports.now }
+    ensures printed { IfOk result (λ printed. IsSignatureText source.now imports.now printed.items) }
+    ensures refused { IfErr result (IsStop (λ r. InfersBindings file.now text.now source.now imports.now (refused r))) }
+    ensures uncounted { IfErr result IsUncounted }
+{
+    match infer_text(alloc, source, imports) {
+        Ok(printed) => Ok(printed),
         Err(fault) => Err(Stop::Refused(unsigned(alloc, file, text, source, fault)?)),
     }
 }

@@ -6,6 +6,7 @@ use mls_book::book::{Book, Field, Fields, Node, NodeId};
 use mls_deriv::derivation::{
     BinderNode, BinderNodes, SectionLine, SectionLines, StepLine, StepRule,
 };
+use mls_deriv::steps::is_same;
 use std::alloc::Global;
 use std::mem;
 
@@ -43,8 +44,8 @@ impl Marks {
         match line {
             SectionLine::Let(_, _) => Ok(()),
             SectionLine::Step(step) => {
-                self.mark(step.root)?;
-                self.mark_env(step.env.as_slice())
+                self.mark(step.get().root)?;
+                self.mark_env(step.get().env.as_slice())
             }
             SectionLine::Put(_, id) => self.mark(*id),
             SectionLine::Pair(_, left, right) => {
@@ -112,6 +113,13 @@ fn marks_of(
     Ok(marks)
 }
 
+// The last environment whose nodes got new numbers, before and after.
+#[derive(Drop)]
+struct LastEnv {
+    old: BinderNodes,
+    new: BinderNodes,
+}
+
 // The new numbers of nodes.
 #[derive(Drop)]
 struct Numbers {
@@ -165,42 +173,71 @@ impl Numbers {
         }
     }
 
-    // Gives the nodes of an environment their new numbers.
-    fn renumber_env(&self, alloc: Global, env: &mut BinderNodes) {
-        let mut entries = mem::replace(env, BinderNodes::new(alloc)).into_vec();
-        for entry in entries.iter_mut() {
-            entry.node = self.at(entry.node);
+    // Gives the nodes of an environment their new numbers. Where it is the last one again, it is shared with it.
+    fn renumber_env(
+        &self,
+        alloc: Global,
+        env: &mut BinderNodes,
+        last: &mut LastEnv,
+    ) -> Result<(), Memory> {
+        if is_same(env.as_slice(), last.old.as_slice()) {
+            *env = last.new.copy(alloc)?;
+            return Ok(());
         }
-        *env = List::of(entries);
+        let mut entries = Vec::with_capacity(alloc, env.len())?;
+        for entry in env.as_slice() {
+            entries.push(BinderNode {
+                binder: entry.binder,
+                node: self.at(entry.node),
+            })?;
+        }
+        last.old = mem::replace(env, BinderNodes::of(entries).share(alloc)?);
+        last.new = env.copy(alloc)?;
+        Ok(())
     }
 
-    fn renumber_step(&self, alloc: Global, step: &mut StepLine) {
+    fn renumber_step(
+        &self,
+        alloc: Global,
+        step: &mut StepLine,
+        last: &mut LastEnv,
+    ) -> Result<(), Memory> {
         if let StepRule::Name(first) = step.rule {
             step.rule = StepRule::Name(self.at(first));
         }
         step.root = self.at(step.root);
-        self.renumber_env(alloc, &mut step.env);
+        self.renumber_env(alloc, &mut step.env, last)
     }
 
-    fn renumber_line(&self, alloc: Global, line: &mut SectionLine) {
+    fn renumber_line(
+        &self,
+        alloc: Global,
+        line: &mut SectionLine,
+        last: &mut LastEnv,
+    ) -> Result<(), Memory> {
         match line {
             SectionLine::Let(_, _) => {}
-            SectionLine::Step(step) => self.renumber_step(alloc, step),
+            SectionLine::Step(step) => self.renumber_step(alloc, step.get_mut(), last)?,
             SectionLine::Put(_, id) => *id = self.at(*id),
             SectionLine::Pair(_, left, right) => {
                 *left = self.at(*left);
                 *right = self.at(*right);
             }
         }
+        Ok(())
     }
 
     // The lines with the new numbers of their nodes, in the memory that they have.
-    fn renumbered(&self, alloc: Global, lines: SectionLines) -> SectionLines {
+    fn renumbered(&self, alloc: Global, lines: SectionLines) -> Result<SectionLines, Memory> {
+        let mut last = LastEnv {
+            old: BinderNodes::new(alloc),
+            new: BinderNodes::new(alloc),
+        };
         let mut items = lines.into_vec();
         for line in items.iter_mut() {
-            self.renumber_line(alloc, line);
+            self.renumber_line(alloc, line, &mut last)?;
         }
-        List::of(items)
+        Ok(List::of(items))
     }
 
     // The nodes that serve. One that may not stand behind those before it is left out: the check refuses such lines.
@@ -234,6 +271,6 @@ pub(crate) fn pruned(
     let numbers = Numbers::of(alloc, serves)?;
     Ok(Written {
         book: numbers.book(alloc, book, serves)?,
-        lines: numbers.renumbered(alloc, lines),
+        lines: numbers.renumbered(alloc, lines)?,
     })
 }

@@ -2,7 +2,6 @@
 ghost use Rattle.std.specs.Prelude.{OnOk};
 ghost use Rattle.mls_lines.specs.Writer.{Lengthens};
 
-use crate::steps::whole_copy;
 use crate::writer::joined::MEMBERS;
 use crate::writer::{PartView, Writer};
 use mls_base::memory::Memory;
@@ -52,10 +51,10 @@ impl Writer {
         };
         if !self.chains.contains_key(&first) {
             let env = self.env_of_chain(alloc, view, first)?;
-            self.chains.insert(first, env)?;
+            self.chains.insert(first, env.share(alloc)?)?;
         }
         match self.chains.get(&first) {
-            Some(env) if !env.is_empty() => Ok(Some(whole_copy(env)?)),
+            Some(env) if !env.is_empty() => Ok(Some(env.copy(alloc)?)),
             _ => Ok(None),
         }
     }

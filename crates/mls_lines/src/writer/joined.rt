@@ -10,7 +10,7 @@ ghost use Rattle.mls_lines.specs.Stepping.{conclusion_of};
 ghost use Rattle.mls_lines.specs.Writer.{Grows, HaveRisingSteps, Offers, own_node};
 
 use crate::envs::{Needed, merged, with};
-use crate::steps::{Conclusion, are_same, copied, whole_copy};
+use crate::steps::{Conclusion, are_same, copied};
 use crate::writer::nodes::behind;
 use crate::writer::{Concluded, PartView, Writer};
 use mls_base::memory::Memory;
@@ -56,7 +56,7 @@ impl Writer {
             (IsOffered (own_node self.now view.now.posing.now) (by_step (conclusion_of of.now)) u) }
     {
         if of.puts.is_empty() {
-            return whole_copy(&of.env);
+            return of.env.copy(alloc);
         }
         self.placed(alloc, view, of.env.as_slice())
     }

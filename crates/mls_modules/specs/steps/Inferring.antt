@@ -1,5 +1,5 @@
 -- What is inferred of some bindings of a module.
-use Rattle.std.specs.Prelude.{◌≡◌, ℕ, List, length, All}
+use Rattle.std.specs.Prelude.{◌≡◌, ℕ, ◌<◌, Bool, IsTrue, List, [], ◌∷◌, ◌++◌, length, All}
 use Rattle.mls_grammar.specs.declared.fault.Fault.{Fault}
 use Rattle.mls_grammar.specs.declared.fault.Fault.TheVariants as names
 use Rattle.mls_term.specs.declared.term.ResolvedBinding.{ResolvedBinding}
@@ -11,11 +11,12 @@ use Rattle.mls_infer.specs.declared.fault.InferFault.{InferFault}
 use Rattle.mls_infer.specs.declared.fault.InferFault.TheVariants as fault
 use Rattle.mls_iface.specs.declared.interface.Interface.{Interface}
 use Rattle.mls_iface.specs.declared.signature.SigEntry.{SigEntry}
+use Rattle.mls_iface.specs.Signatures.{entry_line, signature_text}
 use Rattle.mls_modules.specs.declared.fault.ModuleFault.{ModuleFault}
 use Rattle.mls_modules.specs.declared.fault.ModuleFault.TheVariants.{UnknownName, NoScheme, Memory}
 use Rattle.mls_modules.specs.declared.short.ShortTypes.{ShortTypes}
 use Rattle.mls_modules.specs.Environments.{MeanAfter}
-use Rattle.mls_modules.specs.Entries.{AreEntriesOf, HasNoEntry}
+use Rattle.mls_modules.specs.Entries.{AreEntriesOf, AreAllEntriesOf, HasNoEntry, IsEntryOf}
 
 -- the text is a type
 abbrev pub IsType : List ℕ → Type 0
@@ -48,3 +49,29 @@ pub record HaveEntries (imports : List Interface) (bindings : List ResolvedBindi
   pub are_entries : AreEntriesOf imports bindings entries
   pub are_names : AreNames names
   pub mean : MeanAfter imports entries names
+
+-- the text is that of entries of the first k bindings; where another binding follows, the names mean what is known
+-- behind them
+pub record HaveLines (imports : List Interface) (bindings : List ResolvedBinding) (k : ℕ) (names : Names)
+    (text : List ℕ) : Type 0 where
+  pub entries : List SigEntry
+  pub count : length entries ≡ k
+  pub are_entries : AreEntriesOf imports bindings entries
+  pub text_is : text ≡ signature_text entries
+  pub before : k < length bindings → HaveEntries imports bindings k names entries
+
+-- the text is that of an entry for each binding
+pub record IsTextOfAll (imports : List Interface) (bindings : List ResolvedBinding) (text : List ℕ) : Type 0 where
+  pub entries : List SigEntry
+  pub are_entries : AreAllEntriesOf imports bindings entries
+  pub text_is : text ≡ signature_text entries
+
+-- the line of an entry of the binding was added to the text, whatever entries the names come from; where another binding
+-- follows, what its text is read as was added to the names
+pub record IsLineAdded (binding : ResolvedBinding) (follows : Bool) (old_names new_names : Names)
+    (old_text new_text : List ℕ) : Type 0 where
+  pub entry : SigEntry
+  pub is_entry : (imports : List Interface) (earlier : List SigEntry) → MeanAfter imports earlier old_names
+      → IsEntryOf imports earlier binding entry
+  pub text_is : new_text ≡ old_text ++ entry_line entry
+  pub names_are : IsTrue follows → new_names.schemes ≡ old_names.schemes ++ entry.scheme ∷ []

@@ -1,4 +1,4 @@
-use Rattle.std.proofs.Common.{take, drop}
+use Rattle.std.proofs.Common.{take}
 use Rattle.mls_deriv.specs.Texts.{none_given, AllStand}
 use Rattle.mls_deriv.specs.BadLines.{given_by}
 use Rattle.mls_deriv.specs.inner.GivenLines.{IsGiven}

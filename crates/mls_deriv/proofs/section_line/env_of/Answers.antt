@@ -1,4 +1,4 @@
-use Rattle.std.proofs.Common.{rules}
+use Rattle.std.proofs.Common.{◌∙◌, rules}
 use Rattle.mls_deriv.specs.inner.Guesses.{env_guess}
 use Rattle.mls_deriv.proofs.WordValues.{env_more, env_all}
 use Rattle.mls_deriv.proofs.section_line.env_of.Goals as goal
@@ -7,4 +7,4 @@ pub loop-i-preserved : goal.loop-i-preserved
 loop-i-preserved c = env_more c.args.numbers.now c.loop-i.i c.loop-i.env c.push.new.self (env_guess c.args.numbers.now) c.loop-i-test.true c.loop-i.invariant (search rules)
 
 pub returns : goal.returns
-returns c = env_all c.args.numbers.now c.loop-i.i c.loop-i.env (env_guess c.args.numbers.now) c.loop-i-test.false c.loop-i.invariant
+returns c = c.in_ok-shared.ensures ∙ env_all c.args.numbers.now c.loop-i.i c.loop-i.env (env_guess c.args.numbers.now) c.loop-i-test.false c.loop-i.invariant

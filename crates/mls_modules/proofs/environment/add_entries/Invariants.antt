@@ -1,4 +1,4 @@
-use Rattle.std.proofs.Common.{◌≡◌, ◌++◌, map, take}
+use Rattle.std.proofs.Common.{◌≡◌, ◌++◌, take}
 use Rattle.mls_modules.specs.Environments.{entry_schemes}
 use Rattle.mls_modules.proofs.environment.add_entries.Given as goal
 

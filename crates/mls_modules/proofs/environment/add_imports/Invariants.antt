@@ -1,4 +1,4 @@
-use Rattle.std.proofs.Common.{◌≡◌, ◌++◌, map, take}
+use Rattle.std.proofs.Common.{◌≡◌, ◌++◌, take}
 use Rattle.mls_modules.specs.Environments.{declared_schemes}
 use Rattle.mls_modules.proofs.environment.add_imports.Given as goal
 

@@ -1,4 +1,4 @@
-use Rattle.std.proofs.Common.{◌≡◌, ◌++◌, map, take}
+use Rattle.std.proofs.Common.{◌≡◌, take}
 use Rattle.mls_modules.specs.Environments.{declared_names}
 use Rattle.mls_modules.proofs.environment.declared_names.Given as goal
 

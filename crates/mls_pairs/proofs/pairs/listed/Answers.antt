@@ -1,4 +1,4 @@
-use Rattle.std.proofs.Common.{◌≡◌, ◌<◌, true, false, List, length, sym, subst}
+use Rattle.std.proofs.Common.{true, false, List, sym, subst}
 use Rattle.mls_deriv.specs.declared.claim.Pair.{Pair}
 use Rattle.mls_deriv.specs.declared.table.Table.{Table}
 use Rattle.mls_pairs.specs.Lines.{IsTable}

@@ -14,13 +14,14 @@ returns c =
     let front = c.args.front.now in
     let back = c.args.back.now in
     let env = c.args.self.now in
-    let step = c.in-Some-Step.step in
+    let step = c.into_step-step.result in
     let short = c.as_slice.result.now in
     let cut : short ≡ front ++ back = search rules in
-    let read : IsLineRead short (Some (Step step)) = rw c.in-Some-Step.field-0-is at (rw c.in-Some-Step.is at c.in_ok-step.ensures) in
+    let found : IsLineRead short (Some (Step c.in-Some-Step.step)) = rw c.in-Some-Step.field-0-is at (rw c.in-Some-Step.is at c.in_ok-step.ensures) in
+    let read : IsLineRead short (Some (Step step)) = subst (λ s. IsLineRead short (Some (Step s))) (sym c.into_step-step.ensures) found in
     let none : step.env ≡ [] = search rules in
     let ends : back ≡ codes " type" ++ number_word step.root.0 = search rules in
-    let same : c.in_ok-copied.field-0 ≡ env = search rules in
+    let same : c.in_ok-copy.field-0 ≡ env = search rules in
     let forms : All IsEntryForm env = search rules in
     let rising : IsRising env = search rules in
     subst (λ es. IsStepForm (with_env step es) × (front ++ flat_map entry_words env ++ back ≡ line_words (Step (with_env step es)))) (sym same) (step_known front back short step env cut read none ends forms rising)
