@@ -1,13 +1,15 @@
 //! Combined heads.
-ghost use Rattle.std.specs.Prelude.{◌≡◌, ◌<◌, ◌+◌, ◌⊎◌, List, length, option_map, IfOk, OnOk, Some};
-ghost use Rattle.mls_automaton.specs.Heads.{AreRising, combined_functions, combined_records, combined_two, parts_of};
-ghost use Rattle.mls_automaton.specs.Heads.{set_at, IsSameParts};
-ghost use Rattle.mls_automaton.specs.Models.{HasRisingLabels};
+ghost use Rattle.std.specs.Prelude.{◌≡◌, ◌<◌, ◌+◌, ◌⊎◌, List, length, map, option_map, All, IfOk, IsTrue, OnOk, Some};
+ghost use Rattle.mls_automaton.specs.Automata.{head_at};
+ghost use Rattle.mls_automaton.specs.Heads.{AreRising, combined, combined_functions, combined_records, combined_two};
+ghost use Rattle.mls_automaton.specs.Heads.{no_parts, parts_of, set_at, IsSameParts};
+ghost use Rattle.mls_automaton.specs.Models.{HasRisingLabels, IsClosed};
 ghost use Rattle.mls_automaton.specs.declared.automaton.FieldSet.{FieldSet as IsField};
 ghost use Rattle.mls_automaton.specs.steps.Combining.{IsJoined, IsLeft, IsNext, IsSameFunction, IsSameRecord, IsUnited};
 ghost use Rattle.mls_automaton.specs.steps.Combining.{TakesOne, TakesTwo};
 
-use crate::automaton::{Arms, FieldSet, FieldSets, Head, Polarity};
+use crate::automaton::{Arms, Automaton, FieldSet, FieldSets, Head, Polarity};
+use crate::state_set::StateId;
 use mls_base::memory::Memory;
 use std::alloc::Global;
 use std::cmp::Ordering;
@@ -251,4 +253,65 @@ pub fn combine_heads(
         function,
         fields,
     })
+}
+
+/// A copy of a head.
+///
+/// # Errors
+///
+/// `Memory` where memory is wanting.
+pub fn copied_head(head: &Head) -> Result<Head, Memory>
+    ensures { IfOk result (λ copy. copy ≡ head.now) }
+{
+    let copy = head.clone()?;
+    Ok(copy)
+}
+
+// Whether no head of these states has anything.
+fn are_nothing(a: &Automaton, members: &[usize]) -> bool
+    requires { All (λ j. j < length a.now.states) members.now }
+    ensures { IsTrue result → All (λ j. parts_of (head_at a.now j) ≡ no_parts) members.now }
+{
+    for j in members {
+        if !a.head(StateId(*j)).is_nothing() {
+            return false;
+        }
+    }
+    true
+}
+
+/// The combined head of these states. It is put together by halves, so that each head is gone through as often as the
+/// number of states has binary digits; the calls are as deep. For the most part one half has nothing, and adds nothing.
+///
+/// # Errors
+///
+/// `Memory` where memory is wanting.
+pub fn combined_head(
+    alloc: Global,
+    a: &Automaton,
+    polarity: Polarity,
+    members: &[usize],
+) -> Result<Head, Memory>
+    requires closed { IsClosed a.now }
+    requires in_range { All (λ j. j < length a.now.states) members.now }
+    ensures parts { IfOk result (λ head. IsSameParts (parts_of head)
+        (combined polarity (map (λ j. parts_of (head_at a.now j)) members.now))) }
+    ensures labels { IfOk result (λ head. HasRisingLabels head.fields) }
+{
+    if members.is_empty() {
+        return Ok(Head::empty());
+    }
+    if members.len() == 1 {
+        return copied_head(a.head(StateId(members[0])));
+    }
+    let half = members.len() / 2;
+    if are_nothing(a, &members[..half]) {
+        return combined_head(alloc, a, polarity, &members[half..]);
+    }
+    if are_nothing(a, &members[half..]) {
+        return combined_head(alloc, a, polarity, &members[..half]);
+    }
+    let first = combined_head(alloc, a, polarity, &members[..half])?;
+    let second = combined_head(alloc, a, polarity, &members[half..])?;
+    unite_heads(alloc, polarity, first, second)
 }

@@ -15,7 +15,7 @@ use Rattle.mls_automaton.proofs.CombinedStates.{HasPartsIn, parts_in, combined_i
 use Rattle.mls_solver.specs.Rooms.{Room, Holds}
 use Rattle.mls_solver.specs.Solved.{IsSolved, ReachesBy}
 use Rattle.mls_solver.specs.steps.Solving.{IsSolvedState}
-use Rattle.mls_solver.proofs.CombinedHeads.{same_parts-self}
+use Rattle.mls_automaton.proofs.CombinedHeads.{same_parts-self}
 use Rattle.mls_biunify.specs.Live.{IsStateIn}
 use Rattle.mls_biunify.specs.steps.Settlement.{AddsEdges, AreFit, AreNewEdges, AreNewHeads, IsTouched, StoresHeads}
 use Rattle.mls_biunify.specs.steps.Tables.{HoldsThere, IsNumbered, Numbered}

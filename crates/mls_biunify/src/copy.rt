@@ -7,9 +7,9 @@ ghost use Rattle.mls_biunify.specs.steps.Copying.{AreCopiedStates, CopiesFlows, 
 
 use crate::table::Table;
 use mls_automaton::automaton::{Automaton, Head, Polarity};
+use mls_automaton::combine::copied_head;
 use mls_automaton::state_set::StateId;
 use mls_base::memory::Memory;
-use mls_solver::materialise::copied_head;
 use std::alloc::Global;
 
 // The automaton in which each number that is free is a positive state with nothing.

@@ -1,10 +1,10 @@
 //! The heads and edges of the solved automaton, over states that keep their numbers.
 ghost use Rattle.std.specs.Prelude.{◌≡◌, ◌↔◌, ◌⊎◌, ℕ, ◌<◌, ◌≤◌, List, true, false, get_or, length, map, All, Contains};
-ghost use Rattle.std.specs.Prelude.{IfOk, OnErr, OnOk};
+ghost use Rattle.std.specs.Prelude.{IfOk, IsTrue, OnErr, OnOk};
 ghost use Rattle.mls_automaton.specs.declared.automaton.Head.{Head};
 ghost use Rattle.mls_automaton.specs.declared.automaton.Polarity.TheVariants.{Positive, Negative};
 ghost use Rattle.mls_automaton.specs.Automata.{HasFlow, head_at, polarity_at};
-ghost use Rattle.mls_automaton.specs.Heads.{IsSameParts, combined, parts_of};
+ghost use Rattle.mls_automaton.specs.Heads.{IsSameParts, combined, no_parts, parts_of};
 ghost use Rattle.mls_automaton.specs.Models.{HasRisingLabels, HasStatesIn};
 ghost use Rattle.mls_solver.specs.Rooms.{Holds};
 ghost use Rattle.mls_solver.specs.Solved.{IsNewFlow};
@@ -17,10 +17,9 @@ ghost use Rattle.mls_biunify.specs.steps.Tables.{HoldsThere, IsNumbered};
 use crate::relation::Relation;
 use crate::table::Table;
 use mls_automaton::automaton::{Head, Polarity};
-use mls_automaton::combine::unite_heads;
+use mls_automaton::combine::{copied_head, unite_heads};
 use mls_automaton::state_set::{StateId, StateSet};
 use mls_base::memory::Memory;
-use mls_solver::materialise::copied_head;
 use std::alloc::Global;
 
 // Puts the members of a set into another one.
@@ -93,8 +92,21 @@ fn with_below(set: StateSet, relation: &Relation, positives: &[usize]) -> Result
     Ok(all)
 }
 
+// Whether no head of these states has anything.
+fn are_nothing(table: &Table, members: &[usize]) -> bool
+    requires { All (λ j. get_or table.now.there j false ≡ true) members.now }
+    ensures { IsTrue result → All (λ j. parts_of (head_at table.now.automaton j) ≡ no_parts) members.now }
+{
+    for j in members {
+        if !table.head(StateId(*j)).is_nothing() {
+            return false;
+        }
+    }
+    true
+}
+
 // The combined head of these states. It is put together by halves, so that each head is gone through as often as the
-// number of states has binary digits; the calls are as deep.
+// number of states has binary digits; the calls are as deep. For the most part one half has nothing.
 fn combined_head(
     alloc: Global,
     table: &Table,
@@ -113,6 +125,12 @@ fn combined_head(
         return copied_head(table.head(StateId(members[0])));
     }
     let half = members.len() / 2;
+    if are_nothing(table, &members[..half]) {
+        return combined_head(alloc, table, polarity, &members[half..]);
+    }
+    if are_nothing(table, &members[half..]) {
+        return combined_head(alloc, table, polarity, &members[..half]);
+    }
     let first = combined_head(alloc, table, polarity, &members[..half])?;
     let second = combined_head(alloc, table, polarity, &members[half..])?;
     unite_heads(alloc, polarity, first, second)

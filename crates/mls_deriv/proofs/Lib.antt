@@ -12,7 +12,9 @@ pub mod Lookups
 pub mod PairRules
 pub mod PartLabels
 pub mod Tables
+pub mod PairSets
 pub mod Entries
+pub mod Environments
 pub mod CheckedRules
 pub mod StepEnvironments
 pub mod Checking

@@ -15,7 +15,8 @@ use Rattle.mls_deriv.specs.declared.derivation.SectionLine.TheVariants as line
 use Rattle.mls_deriv.specs.declared.table.Table.{Table}
 use Rattle.mls_deriv.specs.Pairs.{Put, Pair, Claims, put_at}
 use Rattle.mls_deriv.specs.Steps.{puts_of, pairs_of}
-use Rattle.mls_deriv.specs.inner.Tables.{numbers_cmp, Holds, put_in, or_else, AddsPair, RemovesPair, Adds, IsTableWith, IsTableOf}
+use Rattle.mls_deriv.specs.declared.pair_set.PairSet.{PairSet}
+use Rattle.mls_deriv.specs.inner.Tables.{numbers_cmp, GetsPair, LosesPair, Holds, put_in, or_else, AddsPair, RemovesPair, Adds, IsTableWith, IsTableOf}
 use Rattle.mls_deriv.proofs.ScopedNames.{first_or_later}
 
 both_equal : (o p : Ordering) → is_eq (ordering_then o p) ≡ true → (o ≡ Equal) × (p ≡ Equal)
@@ -61,7 +62,7 @@ set_added i j old new updates k l =
         ap (λ b. cond b true (contains numbers_cmp old (k, l))) equal
 
 -- and with one less
-set_removed : (i j : ℕ) (old new : BTreeSet (ℕ × ℕ)) → Updates numbers_cmp old new (i, j) false → (k l : ℕ)
+pub set_removed : (i j : ℕ) (old new : BTreeSet (ℕ × ℕ)) → Updates numbers_cmp old new (i, j) false → (k l : ℕ)
     → IsTrue (contains numbers_cmp new (k, l)) ↔ (IsTrue (contains numbers_cmp old (k, l)) × ((i ≡ k) × (j ≡ l) → ⊥))
 set_removed i j old new updates k l =
     let same : contains numbers_cmp new (k, l) ≡ cond (is_eq (numbers_cmp (i, j) (k, l))) false (contains numbers_cmp old (k, l)) = updates.0 (k, l) in (
@@ -122,57 +123,57 @@ elsewhere A P Q m n other = (λ a. inl a, from)
     from (inl a) = a
     from (inr e) = absurd (other e.0)
 
-module _ (puts : BTreeMap ℕ ℕ) (lr rl pp set : BTreeSet (ℕ × ℕ)) (i j : ℕ) where
+module _ (puts : BTreeMap ℕ ℕ) (lr rl pp set : PairSet) (i j : ℕ) where
   abbrev old : Table
   old = record { puts = puts; lr = lr; rl = rl; pp = pp }
 
-  pub lr_added : Updates numbers_cmp lr set (i, j) true → AddsPair Lr i j old (record { puts = puts; lr = set; rl = rl; pp = pp })
+  pub lr_added : GetsPair i j lr set → AddsPair Lr i j old (record { puts = puts; lr = set; rl = rl; pp = pp })
   lr_added updates = (go, λ y. refl)
     where
       go : (m : Mode) (k l : ℕ) → Holds (record { puts = puts; lr = set; rl = rl; pp = pp }) m k l ↔ (Holds old m k l ⊎ ((Lr ≡ m) × (i ≡ k) × (j ≡ l)))
-      go Lr k l = here _ _ _ _ Lr (set_added i j lr set updates k l)
+      go Lr k l = here _ _ _ _ Lr (updates k l)
       go Rl k l = elsewhere _ _ _ Lr Rl (λ e. absurd (cc))
       go Pp k l = elsewhere _ _ _ Lr Pp (λ e. absurd (cc))
 
-  pub rl_added : Updates numbers_cmp rl set (i, j) true → AddsPair Rl i j old (record { puts = puts; lr = lr; rl = set; pp = pp })
+  pub rl_added : GetsPair i j rl set → AddsPair Rl i j old (record { puts = puts; lr = lr; rl = set; pp = pp })
   rl_added updates = (go, λ y. refl)
     where
       go : (m : Mode) (k l : ℕ) → Holds (record { puts = puts; lr = lr; rl = set; pp = pp }) m k l ↔ (Holds old m k l ⊎ ((Rl ≡ m) × (i ≡ k) × (j ≡ l)))
       go Lr k l = elsewhere _ _ _ Rl Lr (λ e. absurd (cc))
-      go Rl k l = here _ _ _ _ Rl (set_added i j rl set updates k l)
+      go Rl k l = here _ _ _ _ Rl (updates k l)
       go Pp k l = elsewhere _ _ _ Rl Pp (λ e. absurd (cc))
 
-  pub pp_added : Updates numbers_cmp pp set (i, j) true → AddsPair Pp i j old (record { puts = puts; lr = lr; rl = rl; pp = set })
+  pub pp_added : GetsPair i j pp set → AddsPair Pp i j old (record { puts = puts; lr = lr; rl = rl; pp = set })
   pp_added updates = (go, λ y. refl)
     where
       go : (m : Mode) (k l : ℕ) → Holds (record { puts = puts; lr = lr; rl = rl; pp = set }) m k l ↔ (Holds old m k l ⊎ ((Pp ≡ m) × (i ≡ k) × (j ≡ l)))
       go Lr k l = elsewhere _ _ _ Pp Lr (λ e. absurd (cc))
       go Rl k l = elsewhere _ _ _ Pp Rl (λ e. absurd (cc))
-      go Pp k l = here _ _ _ _ Pp (set_added i j pp set updates k l)
+      go Pp k l = here _ _ _ _ Pp (updates k l)
 
-  pub lr_removed : Updates numbers_cmp lr set (i, j) false → RemovesPair Lr i j old (record { puts = puts; lr = set; rl = rl; pp = pp })
+  pub lr_removed : LosesPair i j lr set → RemovesPair Lr i j old (record { puts = puts; lr = set; rl = rl; pp = pp })
   lr_removed updates = (go, λ y. refl)
     where
       go : (m : Mode) (k l : ℕ) → Holds (record { puts = puts; lr = set; rl = rl; pp = pp }) m k l ↔ Holds old m k l × ((Lr ≡ m) × (i ≡ k) × (j ≡ l) → ⊥)
-      go Lr k l = not_here _ _ _ _ Lr (set_removed i j lr set updates k l)
+      go Lr k l = not_here _ _ _ _ Lr (updates k l)
       go Rl k l = not_elsewhere _ _ _ Lr Rl (λ e. absurd (cc))
       go Pp k l = not_elsewhere _ _ _ Lr Pp (λ e. absurd (cc))
 
-  pub rl_removed : Updates numbers_cmp rl set (i, j) false → RemovesPair Rl i j old (record { puts = puts; lr = lr; rl = set; pp = pp })
+  pub rl_removed : LosesPair i j rl set → RemovesPair Rl i j old (record { puts = puts; lr = lr; rl = set; pp = pp })
   rl_removed updates = (go, λ y. refl)
     where
       go : (m : Mode) (k l : ℕ) → Holds (record { puts = puts; lr = lr; rl = set; pp = pp }) m k l ↔ Holds old m k l × ((Rl ≡ m) × (i ≡ k) × (j ≡ l) → ⊥)
       go Lr k l = not_elsewhere _ _ _ Rl Lr (λ e. absurd (cc))
-      go Rl k l = not_here _ _ _ _ Rl (set_removed i j rl set updates k l)
+      go Rl k l = not_here _ _ _ _ Rl (updates k l)
       go Pp k l = not_elsewhere _ _ _ Rl Pp (λ e. absurd (cc))
 
-  pub pp_removed : Updates numbers_cmp pp set (i, j) false → RemovesPair Pp i j old (record { puts = puts; lr = lr; rl = rl; pp = set })
+  pub pp_removed : LosesPair i j pp set → RemovesPair Pp i j old (record { puts = puts; lr = lr; rl = rl; pp = set })
   pp_removed updates = (go, λ y. refl)
     where
       go : (m : Mode) (k l : ℕ) → Holds (record { puts = puts; lr = lr; rl = rl; pp = set }) m k l ↔ Holds old m k l × ((Pp ≡ m) × (i ≡ k) × (j ≡ l) → ⊥)
       go Lr k l = not_elsewhere _ _ _ Pp Lr (λ e. absurd (cc))
       go Rl k l = not_elsewhere _ _ _ Pp Rl (λ e. absurd (cc))
-      go Pp k l = not_here _ _ _ _ Pp (set_removed i j pp set updates k l)
+      go Pp k l = not_here _ _ _ _ Pp (updates k l)
 
 -- a list with one more pair in front
 claims_more : (mode : Mode) (i j : ℕ) (pairs : List Pair) (m : Mode) (k l : ℕ)

@@ -15,7 +15,7 @@ use crate::named::StandingNames;
 use crate::rules::{
     by_app, by_fun, by_if, by_let, by_lit, by_make, by_name, by_proj, by_rec, by_use, by_var,
 };
-use crate::steps::{Steps, are_low, is_rising};
+use crate::steps::Steps;
 use crate::sub::by_sub;
 use crate::table::{Table, table_of};
 use mls_base::memory::Memory;
@@ -95,9 +95,7 @@ fn is_found(
 fn is_plain(book: &Book, step: &StepLine) -> bool
     ensures { IsTrue result ↔ IsPlain (length book.now) step.now }
 {
-    step.root.0 < book.len()
-        && are_low(step.env.as_slice(), book.len())
-        && is_rising(step.env.as_slice())
+    step.root.0 < book.len() && step.env.are_low(book.len()) && step.env.is_rising()
 }
 
 // Whether the step has what its rule asks.

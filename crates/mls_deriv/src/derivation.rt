@@ -84,7 +84,9 @@ impl OwnStep {
     }
 
     /// The step, to be changed.
-    pub fn get_mut(&mut self) -> &mut StepLine {
+    pub fn get_mut(&mut self) -> &mut StepLine
+        ensures { result.now ≡ self.old }
+    {
         &mut self.step
     }
 

@@ -15,6 +15,7 @@ mod line_reader;
 pub mod lookup;
 mod named;
 mod node_line;
+mod pair_set;
 pub mod print;
 pub mod printable;
 pub mod read;

@@ -3,7 +3,7 @@ ghost use Rattle.std.specs.Prelude.{◌≡◌, ◌↔◌, ◌<◌, All, IsTrue, 
 ghost use Rattle.mls_deriv.specs.Texts.{Given, none_given, after, Stands, IsRuleInRange, puts_behind};
 ghost use Rattle.mls_deriv.specs.inner.GivenLines.{IsGiven, MayPut, Puts};
 
-use crate::derivation::{BinderNode, SectionLine, StepLine, StepRule};
+use crate::derivation::{SectionLine, StepLine, StepRule};
 use mls_base::memory::Memory;
 use std::alloc::Global;
 use std::collections::BTreeSet;
@@ -94,16 +94,7 @@ fn is_in_range(nodes: usize, steps: usize, step: &StepLine) -> bool
     ensures { IsTrue result ↔ (IsRuleInRange nodes steps step.now.rule
         × All (λ entry. entry.node.0 < nodes) step.now.env × (step.now.root.0 < nodes)) }
 {
-    is_rule_in_range(nodes, steps, &step.rule)
-        && are_low(step.env.as_slice(), nodes)
-        && step.root.0 < nodes
-}
-
-// Whether all nodes of an environment are.
-fn are_low(env: &[BinderNode], nodes: usize) -> bool
-    ensures { IsTrue result ↔ All (λ entry. entry.node.0 < nodes) env.now }
-{
-    env.iter().all(|entry| entry.node.0 < nodes)
+    is_rule_in_range(nodes, steps, &step.rule) && step.env.are_low(nodes) && step.root.0 < nodes
 }
 
 // Whether those that its rule names are.

@@ -3,17 +3,18 @@ ghost use Rattle.std.specs.Prelude.{◌≡◌, ◌↔◌, ◌∷◌, IfOk, OnOk,
 ghost use Rattle.mls_deriv.specs.inner.Tables.{AddsPair, AddsPut, Adds, Holds, IsTableOf, RemovesPair, put_in};
 
 use crate::derivation::{Mode, SectionLine};
+use crate::pair_set::PairSet;
 use mls_base::memory::Memory;
 use std::alloc::Global;
-use std::collections::{BTreeMap, BTreeSet};
+use std::collections::BTreeMap;
 
 /// The nodes of variables, and the pairs of each mode.
 #[derive(Drop)]
 pub struct Table {
     puts: BTreeMap<usize, usize>,
-    lr: BTreeSet<(usize, usize)>,
-    rl: BTreeSet<(usize, usize)>,
-    pp: BTreeSet<(usize, usize)>,
+    lr: PairSet,
+    rl: PairSet,
+    pp: PairSet,
 }
 
 impl Table {
@@ -24,9 +25,9 @@ impl Table {
     {
         Table {
             puts: BTreeMap::new(alloc),
-            lr: BTreeSet::new(alloc),
-            rl: BTreeSet::new(alloc),
-            pp: BTreeSet::new(alloc),
+            lr: PairSet::new(alloc),
+            rl: PairSet::new(alloc),
+            pp: PairSet::new(alloc),
         }
     }
 
@@ -35,9 +36,9 @@ impl Table {
         ensures { IsTrue result ↔ Holds self.now mode left right }
     {
         match mode {
-            Mode::Lr => self.lr.contains(&(left, right)),
-            Mode::Rl => self.rl.contains(&(left, right)),
-            Mode::Pp => self.pp.contains(&(left, right)),
+            Mode::Lr => self.lr.has(left, right),
+            Mode::Rl => self.rl.has(left, right),
+            Mode::Pp => self.pp.has(left, right),
         }
     }
 
@@ -58,9 +59,9 @@ impl Table {
         ensures new { IfOk result (λ is_new. is_new ≡ false → Holds self.old mode left right) }
     {
         let is_new = match mode {
-            Mode::Lr => self.lr.insert((left, right))?,
-            Mode::Rl => self.rl.insert((left, right))?,
-            Mode::Pp => self.pp.insert((left, right))?,
+            Mode::Lr => self.lr.insert(left, right)?,
+            Mode::Rl => self.rl.insert(left, right)?,
+            Mode::Pp => self.pp.insert(left, right)?,
         };
         Ok(is_new)
     }
@@ -70,9 +71,9 @@ impl Table {
         ensures { RemovesPair mode left right self.old self.new }
     {
         match mode {
-            Mode::Lr => self.lr.remove(&(left, right)),
-            Mode::Rl => self.rl.remove(&(left, right)),
-            Mode::Pp => self.pp.remove(&(left, right)),
+            Mode::Lr => self.lr.remove(left, right),
+            Mode::Rl => self.rl.remove(left, right),
+            Mode::Pp => self.pp.remove(left, right),
         };
     }
 

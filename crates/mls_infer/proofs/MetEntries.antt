@@ -11,7 +11,7 @@ use Rattle.mls_automaton.specs.Heads.{IsSameParts, combined_two, parts_of}
 use Rattle.mls_automaton.specs.Models.{IsClosed}
 use Rattle.mls_automaton.proofs.Lists.{Contains-cases, Contains-here, Contains-later}
 use Rattle.mls_scheme.proofs.MetStates.{combined-none, state-new}
-use Rattle.mls_solver.proofs.CombinedHeads.{same_parts-self, same_parts-trans, same_parts-two}
+use Rattle.mls_automaton.proofs.CombinedHeads.{same_parts-self, same_parts-trans, same_parts-two}
 use Rattle.mls_infer.specs.Constraints.{id}
 use Rattle.mls_infer.specs.Meets.{HasFlowOfOne, parts_together}
 use Rattle.mls_infer.specs.Merges.{AreNegative, IsMet, Merges}

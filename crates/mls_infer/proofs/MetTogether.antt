@@ -13,7 +13,7 @@ use Rattle.mls_automaton.specs.declared.scheme.EnvEntry.{EnvEntry}
 use Rattle.mls_automaton.specs.Automata.{Automaton, HasFlow, head_at}
 use Rattle.mls_automaton.specs.Heads.{IsSameParts, combined_two, parts_of}
 use Rattle.mls_automaton.proofs.Lists.{Contains-cases, Contains-here}
-use Rattle.mls_solver.proofs.CombinedHeads.{same_parts-halves}
+use Rattle.mls_automaton.proofs.CombinedHeads.{same_parts-halves}
 use Rattle.mls_infer.specs.Meets.{HasFlowOfOne, parts_together}
 use Rattle.mls_infer.proofs.ConstraintRows.{nothing_in}
 

@@ -11,7 +11,7 @@ use Rattle.std.proofs.lemmas.List.Elements.{Contains-append_cases, Contains-appe
 use Rattle.mls_automaton.specs.Automata.{Automaton, head_at}
 use Rattle.mls_automaton.specs.Heads.{parts_of}
 use Rattle.mls_biunify.specs.Live.{IsLive, IsThere, Live}
-use Rattle.mls_solver.proofs.CombinedHeads.{same_parts-self, same_parts-trans}
+use Rattle.mls_automaton.proofs.CombinedHeads.{same_parts-self, same_parts-trans}
 use Rattle.mls_biunify.proofs.TableSteps.{table-closed, there-or_not}
 use Rattle.mls_infer.specs.Constraints.{no_goals}
 use Rattle.mls_infer.specs.Merges.{HaveSameTypes}

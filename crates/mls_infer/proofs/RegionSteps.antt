@@ -33,7 +33,7 @@ use Rattle.mls_automaton.proofs.RisingSets.{contains-place}
 use Rattle.mls_biunify.specs.Live.{AddsStates, Inserts, IsCopiedFlow, IsCopyAt, IsLive, IsLiveState, IsReachedFrom, IsThere, KeepsThere, Live, number_of, root as at-root, named as by-name}
 use Rattle.mls_solver.specs.Relations.{InCodomain, InDomain, InField, IsRelated, goal, domain, codomain, field, along}
 use Rattle.mls_solver.specs.Solved.{IsNewFlow, IsSolved, ReachesBy}
-use Rattle.mls_solver.proofs.CombinedHeads.{same_parts-self, same_parts-trans, same_parts-two}
+use Rattle.mls_automaton.proofs.CombinedHeads.{same_parts-self, same_parts-trans, same_parts-two}
 use Rattle.mls_solver.proofs.RelatedHeads.{set_at-field}
 use Rattle.mls_biunify.proofs.Removals.{empty-names_none}
 use Rattle.mls_biunify.proofs.SettledTables.{combined-alone}

@@ -18,13 +18,12 @@ ghost use Rattle.mls_biunify.specs.Live.{IsLive, IsLiveState};
 use crate::pending::{Pending, without};
 use crate::region::Region;
 use mls_automaton::automaton::{Head, Polarity};
-use mls_automaton::combine::unite_heads;
+use mls_automaton::combine::{copied_head, unite_heads};
 use mls_automaton::scheme::{Env, EnvEntry};
 use mls_automaton::state_set::{StateId, StateSet};
 use mls_base::list::List;
 use mls_base::memory::Memory;
 use mls_biunify::live::Live;
-use mls_solver::materialise::copied_head;
 use std::alloc::Global;
 
 /// The part in which each binder has one state, in the order of binders.

@@ -40,11 +40,16 @@ impl Conclusion {
     }
 }
 
+// So many binders make an environment long.
+const LONG: usize = 8;
+
 /// The lines of a section so far, and how many steps they have.
 #[derive(Drop)]
 pub struct Steps {
     pub lines: SectionLines,
     pub count: usize,
+    // The last long environment: most steps of a large term have it again, and share it.
+    last: BinderNodes,
 }
 
 /// The same environment once more.
@@ -122,7 +127,23 @@ impl Steps {
         Steps {
             lines: List::new(alloc),
             count: 0,
+            last: BinderNodes::new(alloc),
         }
+    }
+
+    // The same environment, in the place of the last long one where it is that one again.
+    fn placed(&mut self, alloc: Global, env: BinderNodes) -> Result<BinderNodes, Memory>
+        ensures lines { self.new.lines ≡ self.old.lines }
+        ensures count { self.new.count ≡ self.old.count }
+        ensures same { IfOk result (λ placed. placed ≡ env) }
+    {
+        if env.len() < LONG {
+            return env.share(alloc);
+        }
+        if !are_same(env.as_slice(), self.last.as_slice()) {
+            self.last = env.share(alloc)?;
+        }
+        self.last.copy(alloc)
     }
 
     /// Writes a step.
@@ -143,7 +164,7 @@ impl Steps {
     {
         let step = self.count;
         self.count = step.checked_add(1).ok_or(Memory)?;
-        let env = env.share(alloc)?;
+        let env = self.placed(alloc, env)?;
         let line = StepLine {
             node,
             rule,

@@ -13,8 +13,8 @@ ghost use Rattle.mls_parts.specs.SolvedTypes.{HasBindersOf, entries_of, solved_s
 ghost use Rattle.mls_parts.specs.steps.Twins.{AddsEdgesTo, AddsTwin, IsWider};
 
 use crate::posable::is_scheme;
-use crate::pose::copied_head;
 use mls_automaton::automaton::{Automaton, Polarity};
+use mls_automaton::combine::copied_head;
 use mls_automaton::scheme::{Env, EnvEntry, Scheme};
 use mls_automaton::state_set::{StateId, StateSet};
 use mls_base::memory::Memory;

@@ -26,7 +26,7 @@ ghost use Rattle.mls_parts.specs.steps.Sharing.{PosesNext, shared_added};
 use crate::numbers::NumberMap;
 use crate::shared::{Shared, number_of};
 use mls_automaton::automaton::{Arms, Automaton, FieldSet, FieldSets, Head, Polarity};
-use mls_automaton::combine::combine_heads;
+use mls_automaton::combine::{combine_heads, copied_head};
 use mls_automaton::scheme::{EnvEntry, Scheme};
 use mls_automaton::state_set::{StateId, StateSet};
 use mls_base::list::List;
@@ -92,14 +92,6 @@ fn larger_branch(condition: usize, first: usize, second: usize) -> usize
     } else {
         second
     }
-}
-
-/// The same head once more.
-pub(crate) fn copied_head(head: &Head) -> Result<Head, Memory>
-    ensures { IfOk result (λ copy. copy ≡ head.now) }
-{
-    let copy = head.clone()?;
-    Ok(copy)
 }
 
 // The head of the functions from a state to a state.

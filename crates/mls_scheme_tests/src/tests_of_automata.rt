@@ -1,7 +1,7 @@
 //! Calls of what allocates in automata, heads and schemes.
 use crate::tests_of_schemes::sample;
 use mls_automaton::automaton::{Automaton, Head, Polarity};
-use mls_automaton::combine::combine_heads;
+use mls_automaton::combine::{combine_heads, combined_head};
 use mls_automaton::sample::show_automaton;
 use mls_automaton::scheme::{Env, EnvEntry};
 use mls_automaton::state_set::{StateId, StateSet};
@@ -51,6 +51,23 @@ fn combined_records_unite_their_sets(rt: HostRuntime) -> Result<(), Fail> {
     let (first, second) = (automaton.head(StateId(0)), automaton.head(StateId(1)));
     let both = combine_heads(rt.alloc(), Polarity::Positive, first, second)?;
     automaton.state(Polarity::Positive, both)?;
+    let line = show_automaton(rt.alloc(), &automaton)?;
+    assert_eq!(rt; line.as_str(), "+{l:4} +i{l:1} + + + +i{l:1,4}");
+    Ok(())
+}
+
+#[test]
+fn a_half_with_nothing_adds_nothing(rt: HostRuntime) -> Result<(), Fail> {
+    let mut automaton = sample(&rt, rt.alloc(), "+{l:4} +i{l:1} + + + *0")?.automaton;
+    assert!(rt; automaton.len() == 5 && automaton.is_closed());
+    let members = [2, 3, 0, 1, 4];
+    let all = combined_head(
+        rt.alloc(),
+        &automaton,
+        Polarity::Positive,
+        members.as_slice(),
+    )?;
+    automaton.state(Polarity::Positive, all)?;
     let line = show_automaton(rt.alloc(), &automaton)?;
     assert_eq!(rt; line.as_str(), "+{l:4} +i{l:1} + + + +i{l:1,4}");
     Ok(())

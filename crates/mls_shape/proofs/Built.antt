@@ -28,7 +28,7 @@ use Rattle.mls_shape.specs.steps.Building.{IsSetOf, IsStateOf, AreStatesOf}
 use Rattle.mls_shape.specs.steps.Edges.{set_at, AddsFlows, IsEdge}
 use Rattle.mls_shape.specs.steps.Entries.{HasEntryAt, NumbersEnv}
 use Rattle.mls_shape.specs.steps.Built.{IsBuilt}
-use Rattle.mls_shape.proofs.CombinedHeads.{same_parts-trans}
+use Rattle.mls_automaton.proofs.CombinedHeads.{same_parts-trans}
 use Rattle.mls_shape.proofs.Entries.{SameEntry, entry_env, entry_of, binders_rise}
 use Rattle.mls_shape.proofs.NumberedStates.{row_in, row_labels, row_single, row_spread, members_at}
 use Rattle.mls_shape.proofs.Registered.{at_kept, key_at-set, key_size}

@@ -5,7 +5,6 @@ pub mod AddedFlows
 pub mod Registered
 pub mod RegisteredOnes
 pub mod NumberedHeads
-pub mod CombinedHeads
 pub mod NumberedStates
 pub mod BuiltStates
 pub mod RisingSets

@@ -8,8 +8,8 @@ ghost use Rattle.mls_flow.specs.Admissible.{IsRedundant};
 ghost use Rattle.mls_flow.specs.Needs.{IsPair};
 ghost use Rattle.mls_shape.specs.Dropped.{DropsRedundant};
 
-use crate::heads::copied_head;
 use mls_automaton::automaton::{Automaton, Flow};
+use mls_automaton::combine::copied_head;
 use mls_automaton::scheme::{Env, Scheme};
 use mls_automaton::state_set::StateId;
 use mls_base::memory::Memory;

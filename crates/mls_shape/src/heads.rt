@@ -1,4 +1,4 @@
-//! The combined head of a set of states, with one state for each of its sets.
+//! A head with one state for each of its sets.
 ghost use Rattle.std.specs.Prelude.{◌≡◌, ◌<◌, length, map, All, IfOk, OnOk};
 ghost use Rattle.mls_automaton.specs.Automata.{head_at};
 ghost use Rattle.mls_automaton.specs.Heads.{IsSameParts, combined, parts_of};
@@ -9,53 +9,10 @@ ghost use Rattle.mls_shape.specs.steps.NumberedHeads.{NumbersRecord, NumbersHead
 
 use crate::register::Register;
 use mls_automaton::automaton::{Arms, Automaton, FieldSet, FieldSets, Head, Polarity};
-use mls_automaton::combine::unite_heads;
 use mls_automaton::state_set::{StateId, StateSet};
 use mls_base::memory::Memory;
 use mls_book::name::Name;
 use std::alloc::Global;
-
-/// The combined head of these states. It is put together by halves, so that each head is gone through as often as the
-/// number of states has binary digits; the calls are as deep.
-///
-/// # Errors
-///
-/// `Memory` where memory is wanting.
-pub fn combined_head(
-    alloc: Global,
-    a: &Automaton,
-    polarity: Polarity,
-    members: &[usize],
-) -> Result<Head, Memory>
-    requires closed { IsClosed a.now }
-    requires in_range { All (λ j. j < length a.now.states) members.now }
-    ensures parts { IfOk result (λ head. IsSameParts (parts_of head) (combined polarity
-        (map (λ j. parts_of (head_at a.now j)) members.now))) }
-    ensures labels { IfOk result (λ head. HasRisingLabels head.fields) }
-{
-    if members.is_empty() {
-        return Ok(Head::empty());
-    }
-    if members.len() == 1 {
-        return copied_head(a.head(StateId(members[0])));
-    }
-    let half = members.len() / 2;
-    let first = combined_head(alloc, a, polarity, &members[..half])?;
-    let second = combined_head(alloc, a, polarity, &members[half..])?;
-    unite_heads(alloc, polarity, first, second)
-}
-
-/// The same head once more.
-///
-/// # Errors
-///
-/// `Memory` where memory is wanting.
-pub fn copied_head(head: &Head) -> Result<Head, Memory>
-    ensures { IfOk result (λ copy. copy ≡ head.now) }
-{
-    let copy = head.clone()?;
-    Ok(copy)
-}
 
 fn copied_set(set: &StateSet) -> Result<StateSet, Memory>
     ensures { IfOk result (λ copy. copy ≡ set.now) }

@@ -4,9 +4,10 @@ ghost use Rattle.mls_automaton.specs.Models.{IsClosed};
 ghost use Rattle.mls_shape.specs.steps.Registers.{IsRegister, sets_in};
 ghost use Rattle.mls_shape.specs.steps.Building.{IsSetOf, AddsState, AreStatesOf};
 
-use crate::heads::{combined_head, numbered_head};
+use crate::heads::numbered_head;
 use crate::register::Register;
 use mls_automaton::automaton::Automaton;
+use mls_automaton::combine::combined_head;
 use mls_base::memory::Memory;
 use std::alloc::Global;
 

@@ -20,7 +20,6 @@ pub mod NumberedStates
 pub mod KeyOrder
 pub mod FirstKinds
 pub mod FirstClashes
-pub mod CombinedHeads
 pub mod Members
 pub mod AddedFlows
 pub mod SolvedStates

@@ -32,7 +32,7 @@ use Rattle.mls_solver.specs.steps.Consequences.{first_of, second_of}
 use Rattle.mls_solver.specs.steps.Numbers.{ByOne}
 use Rattle.mls_solver.specs.steps.Settling.{AreChanges, AreMade, HasChangeOf, IsChange, IsFitting, IsMadeAt, IsTouched, Makes}
 use Rattle.mls_solver.specs.steps.Solving.{AddsFlows, AreMembers, IsSolvedFlow, IsSolvedState, IsTarget}
-use Rattle.mls_solver.proofs.CombinedHeads.{same_parts-self}
+use Rattle.mls_automaton.proofs.CombinedHeads.{same_parts-self}
 use Rattle.mls_solver.proofs.Members.{below_or_last, only, flow-target, partner_of_negative, target-flow}
 use Rattle.mls_solver.proofs.Relating.{take-all, taken-before, taken-cases, taken-last}
 use Rattle.mls_solver.proofs.SolvedClosed.{closed_solved}

@@ -12,7 +12,7 @@ use Rattle.mls_automaton.specs.Heads.{parts_of, combined, IsSameParts}
 use Rattle.mls_automaton.specs.Models.{HasRisingLabels, IsClosed}
 use Rattle.mls_solver.specs.Solved.{IsSolved}
 use Rattle.mls_solver.specs.steps.Solving.{AddsFlows, AreMembers, AreSolvedTo, IsSolvedFlow, IsSolvedState}
-use Rattle.mls_solver.proofs.CombinedHeads.{same_parts-self}
+use Rattle.mls_automaton.proofs.CombinedHeads.{same_parts-self}
 use Rattle.mls_solver.proofs.Members.{below_or_last, members-none}
 
 abbrev none : State

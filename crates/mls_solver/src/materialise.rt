@@ -18,7 +18,7 @@ use crate::cells::Cells;
 use crate::goal::is_state;
 use crate::room::Room;
 use mls_automaton::automaton::{Automaton, Head, Polarity};
-use mls_automaton::combine::unite_heads;
+use mls_automaton::combine::combined_head;
 use mls_automaton::state_set::StateId;
 use mls_base::memory::Memory;
 use std::alloc::Global;
@@ -156,40 +156,6 @@ fn marked(alloc: Global, marks: &Cells) -> Result<Vec<usize>, Memory>
         numbers.push(marks.get(i))?;
     }
     Ok(numbers)
-}
-
-// The combined old head of these states. It is put together by halves, so that each head is gone through as often as
-// the number of states has binary digits; the calls are as deep.
-pub(crate) fn combined_head(
-    alloc: Global,
-    a: &Automaton,
-    polarity: Polarity,
-    members: &[usize],
-) -> Result<Head, Memory>
-    requires closed { IsClosed a.now }
-    requires in_range { All (λ j. j < length a.now.states) members.now }
-    ensures parts { IfOk result (λ head. IsSameParts (parts_of head)
-        (combined polarity (map (λ j. parts_of (head_at a.now j)) members.now))) }
-    ensures labels { IfOk result (λ head. HasRisingLabels head.fields) }
-{
-    if members.is_empty() {
-        return Ok(Head::empty());
-    }
-    if members.len() == 1 {
-        return copied_head(a.head(StateId(members[0])));
-    }
-    let half = members.len() / 2;
-    let first = combined_head(alloc, a, polarity, &members[..half])?;
-    let second = combined_head(alloc, a, polarity, &members[half..])?;
-    unite_heads(alloc, polarity, first, second)
-}
-
-/// A copy of a head.
-pub fn copied_head(head: &Head) -> Result<Head, Memory>
-    ensures { IfOk result (λ copy. copy ≡ head.now) }
-{
-    let copy = head.clone()?;
-    Ok(copy)
 }
 
 // Adds the edges of the solved automaton.

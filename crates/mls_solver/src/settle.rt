@@ -11,8 +11,9 @@ ghost use Rattle.mls_solver.specs.steps.Settling.{Makes};
 ghost use Rattle.mls_solver.specs.steps.Solving.{AreMembers, IsTarget};
 
 use crate::found::Found;
-use crate::materialise::{add_flows_to, combined_head, copied_head};
+use crate::materialise::add_flows_to;
 use mls_automaton::automaton::{Automaton, Head, Polarity};
+use mls_automaton::combine::{combined_head, copied_head};
 use mls_automaton::state_set::{StateId, StateSet};
 use mls_base::list::List;
 use mls_base::memory::Memory;

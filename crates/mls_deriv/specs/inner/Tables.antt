@@ -1,14 +1,16 @@
 -- The pairs and the nodes of variables that follow a step, as they are looked up.
 use Rattle.std.specs.Prelude.{◌≡◌, ◌↔◌, ◌⊎◌, ℕ, List, Option, Some, None, IsTrue, Bool, true, false, if◌then◌else◌}
-use Rattle.std.specs.Prelude.{nat_eq}
+use Rattle.std.specs.Prelude.{nat_eq, not, ◌&&◌, ◌||◌}
+use Rattle.std.specs.List.{list_any}
 use Rattle.std.specs.BTreeMap as tree
-use Rattle.std.specs.BTreeSet.{BTreeSet, contains}
+use Rattle.std.specs.BTreeSet.{contains}
 use Rattle.std.specs.Ordering.{nat_cmp, ordering_then}
 use Rattle.std.specs.declared.cmp.Ordering.{Ordering}
 use Rattle.mls_deriv.specs.declared.derivation.Mode.{Mode}
 use Rattle.mls_deriv.specs.declared.derivation.Mode.TheVariants.{Lr, Rl, Pp}
 use Rattle.mls_deriv.specs.declared.derivation.SectionLine.{SectionLine}
 use Rattle.mls_deriv.specs.declared.derivation.SectionLine.TheVariants as line
+use Rattle.mls_deriv.specs.declared.pair_set.PairSet.{PairSet}
 use Rattle.mls_deriv.specs.declared.table.Table.{Table}
 use Rattle.mls_deriv.specs.Pairs.{Claims, put_at}
 use Rattle.mls_deriv.specs.Steps.{puts_of, pairs_of}
@@ -17,15 +19,34 @@ use Rattle.mls_deriv.specs.Steps.{puts_of, pairs_of}
 abbrev pub numbers_cmp : ℕ × ℕ → ℕ × ℕ → Ordering
 numbers_cmp x y = ordering_then (nat_cmp x.0 y.0) (nat_cmp x.1 y.1)
 
+-- the pair is this one, or another one
+abbrev pub is_pair : ℕ → ℕ → ℕ × ℕ → Bool
+is_pair i j p = nat_eq p.0 i && nat_eq p.1 j
+
+abbrev pub is_other : ℕ → ℕ → ℕ × ℕ → Bool
+is_other i j p = not (nat_eq p.0 i) || not (nat_eq p.1 j)
+
+-- a set has a pair in one of its two places
+abbrev pub HasPair : PairSet → ℕ → ℕ → Type 0
+HasPair s i j = IsTrue (list_any (is_pair i j) s.few.items || contains numbers_cmp s.others (i, j))
+
+-- the set has what it had, and this pair
+abbrev pub GetsPair : ℕ → ℕ → PairSet → PairSet → Type 0
+GetsPair i j old new = (k l : ℕ) → HasPair new k l ↔ (HasPair old k l ⊎ ((i ≡ k) × (j ≡ l)))
+
+-- the set has what it had but this pair
+abbrev pub LosesPair : ℕ → ℕ → PairSet → PairSet → Type 0
+LosesPair i j old new = (k l : ℕ) → HasPair new k l ↔ (HasPair old k l × ((i ≡ k) × (j ≡ l) → ⊥))
+
 -- the pairs of a mode
-abbrev pub set_of : Mode → Table → BTreeSet (ℕ × ℕ)
+abbrev pub set_of : Mode → Table → PairSet
 set_of Lr t = t.lr
 set_of Rl t = t.rl
 set_of Pp t = t.pp
 
 -- the table has the pair
 abbrev pub Holds : Table → Mode → ℕ → ℕ → Type 0
-Holds t mode i j = IsTrue (contains numbers_cmp (set_of mode t) (i, j))
+Holds t mode i j = HasPair (set_of mode t) i j
 
 -- the node of a variable
 abbrev pub put_in : Table → ℕ → Option ℕ

@@ -6,7 +6,6 @@ use mls_book::book::{Book, Field, Fields, Node, NodeId};
 use mls_deriv::derivation::{
     BinderNode, BinderNodes, SectionLine, SectionLines, StepLine, StepRule,
 };
-use mls_deriv::steps::is_same;
 use std::alloc::Global;
 use std::mem;
 
@@ -17,14 +16,19 @@ pub(crate) struct Written {
     pub(crate) lines: SectionLines,
 }
 
+// So many binders make an environment long.
+const LONG: usize = 8;
+
 // Which nodes serve, and those of them whose children are still to be marked.
 #[derive(Drop)]
-struct Marks {
+struct Marks<'a> {
     serves: Vec<bool>,
     todo: Vec<usize>,
+    // The last long environment, all of whose nodes are marked.
+    last: Option<&'a BinderNodes>,
 }
 
-impl Marks {
+impl<'a> Marks<'a> {
     fn mark(&mut self, id: NodeId) -> Result<(), Memory> {
         if id.0 < self.serves.len() && !self.serves[id.0] {
             self.serves[id.0] = true;
@@ -33,19 +37,32 @@ impl Marks {
         Ok(())
     }
 
-    fn mark_env(&mut self, env: &[BinderNode]) -> Result<(), Memory> {
+    fn mark_entries(&mut self, env: &[BinderNode]) -> Result<(), Memory> {
         for entry in env {
             self.mark(entry.node)?;
         }
         Ok(())
     }
 
-    fn mark_line(&mut self, line: &SectionLine) -> Result<(), Memory> {
+    // Marks the nodes of an environment, unless it lies with the last long one.
+    fn mark_env(&mut self, env: &'a BinderNodes) -> Result<(), Memory> {
+        if let Some(last) = self.last {
+            if env.lies_with(last) {
+                return Ok(());
+            }
+        }
+        if env.len() >= LONG {
+            self.last = Some(env);
+        }
+        self.mark_entries(env.as_slice())
+    }
+
+    fn mark_line(&mut self, line: &'a SectionLine) -> Result<(), Memory> {
         match line {
             SectionLine::Let(_, _) => Ok(()),
             SectionLine::Step(step) => {
                 self.mark(step.get().root)?;
-                self.mark_env(step.get().env.as_slice())
+                self.mark_env(&step.get().env)
             }
             SectionLine::Put(_, id) => self.mark(*id),
             SectionLine::Pair(_, left, right) => {
@@ -89,16 +106,17 @@ impl Marks {
     }
 }
 
-// The first nodes of a book, and those that lines name or that such nodes name.
-fn marks_of(
+// Which nodes serve: the first nodes of a book, and those that lines name or that such nodes name.
+fn serving(
     alloc: Global,
     book: &Book,
     lines: &[SectionLine],
     fixed: usize,
-) -> Result<Marks, Memory> {
+) -> Result<Vec<bool>, Memory> {
     let mut marks = Marks {
         serves: Vec::new(alloc),
         todo: Vec::new(alloc),
+        last: None,
     };
     for _ in 0..book.len() {
         marks.serves.push(false)?;
@@ -110,10 +128,10 @@ fn marks_of(
         marks.mark_line(line)?;
     }
     marks.close(book)?;
-    Ok(marks)
+    Ok(marks.serves)
 }
 
-// The last environment whose nodes got new numbers, before and after.
+// The last long environment whose nodes got new numbers, before and after.
 #[derive(Drop)]
 struct LastEnv {
     old: BinderNodes,
@@ -173,14 +191,14 @@ impl Numbers {
         }
     }
 
-    // Gives the nodes of an environment their new numbers. Where it is the last one again, it is shared with it.
+    // Gives the nodes of an environment their new numbers. Where it lies with the last long one, so does what it becomes.
     fn renumber_env(
         &self,
         alloc: Global,
         env: &mut BinderNodes,
         last: &mut LastEnv,
     ) -> Result<(), Memory> {
-        if is_same(env.as_slice(), last.old.as_slice()) {
+        if env.lies_with(&last.old) {
             *env = last.new.copy(alloc)?;
             return Ok(());
         }
@@ -191,8 +209,11 @@ impl Numbers {
                 node: self.at(entry.node),
             })?;
         }
-        last.old = mem::replace(env, BinderNodes::of(entries).share(alloc)?);
-        last.new = env.copy(alloc)?;
+        let old = mem::replace(env, BinderNodes::of(entries).share(alloc)?);
+        if old.len() >= LONG {
+            last.old = old;
+            last.new = env.copy(alloc)?;
+        }
         Ok(())
     }
 
@@ -266,11 +287,10 @@ pub(crate) fn pruned(
     lines: SectionLines,
     fixed: usize,
 ) -> Result<Written, Memory> {
-    let marks = marks_of(alloc, book, lines.as_slice(), fixed)?;
-    let serves = marks.serves.as_slice();
-    let numbers = Numbers::of(alloc, serves)?;
+    let serves = serving(alloc, book, lines.as_slice(), fixed)?;
+    let numbers = Numbers::of(alloc, serves.as_slice())?;
     Ok(Written {
-        book: numbers.book(alloc, book, serves)?,
+        book: numbers.book(alloc, book, serves.as_slice())?,
         lines: numbers.renumbered(alloc, lines)?,
     })
 }

@@ -13,6 +13,6 @@ returns c = λ rising.
     let own = entry x c.args.node.0 in
     subst (IsWith d x c.args.node.0)
     (sym (c.in_ok-push_above.ensures
-    ∙ (ap (λ (l : List BinderNode). l ++ above x d) (c.in_ok-push.ensures ∙ ap (λ (l : List BinderNode). l ++ own ∷ []) (c.in_ok-push_below.ensures ∙ ap (λ (l : List BinderNode). l ++ below x d) c.new-longer.ensures))
+    ∙ (ap (λ (l : List BinderNode). l ++ above x d) (c.in_ok-push.ensures.ok ∙ ap (λ (l : List BinderNode). l ++ own ∷ []) (c.in_ok-push_below.ensures ∙ ap (λ (l : List BinderNode). l ++ below x d) c.new-longer.ensures))
     ∙ append_assoc (below x d) (own ∷ []) (above x d))))
     (with_binder d x c.args.node.0 rising)

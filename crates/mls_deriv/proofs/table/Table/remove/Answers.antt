@@ -7,16 +7,16 @@ pub returns-in-Lr : goal.returns-in-Lr
 returns-in-Lr c =
     let t = c.args.self.now in
     subst (λ mode. RemovesPair mode c.args.left c.args.right t (record { puts = t.puts; lr = c.remove.new.self; rl = t.rl; pp = t.pp })) (sym c.in-Lr.is)
-    (lr_removed t.puts t.lr t.rl t.pp c.remove.new.self c.args.left c.args.right c.remove.ensures.updates)
+    (lr_removed t.puts t.lr t.rl t.pp c.remove.new.self c.args.left c.args.right c.remove.ensures)
 
 pub returns-in-Rl : goal.returns-in-Rl
 returns-in-Rl c =
     let t = c.args.self.now in
     subst (λ mode. RemovesPair mode c.args.left c.args.right t (record { puts = t.puts; lr = t.lr; rl = c.remove-in-Rl.new.self; pp = t.pp })) (sym c.in-Rl.is)
-    (rl_removed t.puts t.lr t.rl t.pp c.remove-in-Rl.new.self c.args.left c.args.right c.remove-in-Rl.ensures.updates)
+    (rl_removed t.puts t.lr t.rl t.pp c.remove-in-Rl.new.self c.args.left c.args.right c.remove-in-Rl.ensures)
 
 pub returns-in-Pp : goal.returns-in-Pp
 returns-in-Pp c =
     let t = c.args.self.now in
     subst (λ mode. RemovesPair mode c.args.left c.args.right t (record { puts = t.puts; lr = t.lr; rl = t.rl; pp = c.remove-in-Pp.new.self })) (sym c.in-Pp.is)
-    (pp_removed t.puts t.lr t.rl t.pp c.remove-in-Pp.new.self c.args.left c.args.right c.remove-in-Pp.ensures.updates)
+    (pp_removed t.puts t.lr t.rl t.pp c.remove-in-Pp.new.self c.args.left c.args.right c.remove-in-Pp.ensures)

@@ -31,7 +31,7 @@ loop-needed-preserved c =
           let it = c.in_ok-entry.ensures.entry d e (every i none c.loop-needed-test.true) in
           subst (λ (xs : List ℕ). AreEntries (MeetsIn new.laid.book d e) xs c.push.new.self) binders
           (subst (λ (x : ℕ). AreEntries (MeetsIn new.laid.book d e) (map needed_binder (take i all) ++ x ∷ []) c.push.new.self) it.0
-          (subst (AreEntries (MeetsIn new.laid.book d e) (map needed_binder (take i all) ++ own.binder ∷ [])) (sym c.in_ok-push.ensures)
+          (subst (AreEntries (MeetsIn new.laid.book d e) (map needed_binder (take i all) ++ own.binder ∷ [])) (sym c.in_ok-push.ensures.ok)
           (meets_more w now new c.loop-needed.invariant.grows c.in_ok-entry.ensures.grows d e (map needed_binder (take i all)) c.loop-needed.env own.binder own.node (c.loop-needed.invariant.entries d e every) it.1)));
     }
 

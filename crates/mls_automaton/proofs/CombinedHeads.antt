@@ -1,7 +1,8 @@
 -- Combined heads are put together from the combined heads of parts of a list.
 --     combined-append     the combined head of two lists, one behind the other
 --     same_parts-halves   what is put together of the heads of a front and of the rest has the same as the head of all
-use Rattle.std.proofs.Common.{◌≡◌, inl, inr, ℕ, ◌-◌, ◌||◌, arith, get_or, length, Bool, true, false, List, [], ◌∷◌, ◌++◌, map, take, drop, refl, sym, ap, ◌∙◌, subst, append_assoc, Some, None, Contains}
+--     front-nothing, back-nothing   a front and a rest whose heads have nothing add nothing
+use Rattle.std.proofs.Common.{◌≡◌, inl, inr, ℕ, ◌-◌, ◌||◌, arith, length, suc, All, Bool, true, false, List, [], ◌∷◌, ◌++◌, map, take, drop, refl, sym, ap, ◌∙◌, subst, append_assoc, Some, None, Contains}
 use Rattle.std.specs.Prelude.{Option, Result, Ok, Err, IfOk}
 use Rattle.std.proofs.Math.Seq.{take-length}
 use Rattle.std.proofs.lemmas.List.{length-drop, map-append, take-append-drop}
@@ -191,23 +192,47 @@ halves_ok p parts n xs first second (Ok head) one two it =
     same_parts-halves p parts n xs first second (parts_of head) one (subst (λ ys. IsSameParts second (combined p (map parts ys))) (rest-slice n xs) two) it
 halves_ok p parts n xs first second (Err e) one two it = tt
 
--- what is combined with nothing
-functions-none : (f : Option Arms) → combined_functions f None ≡ f
-functions-none None = refl
-functions-none (Some f) = refl
+-- heads that have nothing
+module _ {X : Type 0} (p : Polarity) (parts : X → Parts) where
+  -- the first of a list has nothing, and so have the others
+  first-nothing : (x : X) (xs : List X) → All (λ x. parts x ≡ no_parts) (x ∷ xs) → parts x ≡ no_parts
+  first-nothing x xs all = all 0 x (omega arith)
 
-records-none : (p : Polarity) (f : Option Sets) → combined_records p f None ≡ f
-records-none p None = refl
-records-none p (Some f) = refl
+  rest-nothing : (x : X) (xs : List X) → All (λ x. parts x ≡ no_parts) (x ∷ xs) → All (λ x. parts x ≡ no_parts) xs
+  rest-nothing x xs all k d low = all (suc k) d (omega arith)
 
-or-false : (a : Bool) → a || false ≡ a
-or-false true = refl
-or-false false = refl
+  combined-nothing : (xs : List X) → All (λ x. parts x ≡ no_parts) xs → combined p (map parts xs) ≡ no_parts
+  combined-nothing [] all = refl
+  combined-nothing (x ∷ xs) all =
+      ap (λ h. combined_two p h (combined p (map parts xs))) (first-nothing x xs all) ∙ combined-nothing xs (rest-nothing x xs all)
 
-two-none : (p : Polarity) (h : Parts) → combined_two p h no_parts ≡ h
-two-none p h = λ i. record {
-  boolean = or-false h.boolean i;
-  integer = or-false h.integer i;
-  function = functions-none h.function i;
-  fields = records-none p h.fields i;
-}
+  pub front-nothing : (xs ys : List X) → All (λ x. parts x ≡ no_parts) xs → combined p (map parts (xs ++ ys)) ≡ combined p (map parts ys)
+  front-nothing [] ys all = refl
+  front-nothing (x ∷ xs) ys all =
+      ap (λ h. combined_two p h (combined p (map parts (xs ++ ys)))) (first-nothing x xs all) ∙ front-nothing xs ys (rest-nothing x xs all)
+
+  pub back-nothing : (xs ys : List X) → All (λ x. parts x ≡ no_parts) ys → combined p (map parts (xs ++ ys)) ≡ combined p (map parts xs)
+  back-nothing [] ys all = combined-nothing ys all
+  back-nothing (x ∷ xs) ys all = ap (λ h. combined_two p (parts x) h) (back-nothing xs ys all)
+
+-- the same of a call that may lack memory, for the rest as a slice to the end and for the front
+pub rest_ok : {E : Type 0} (p : Polarity) (parts : ℕ → Parts) (n : ℕ) (xs : List ℕ) (result : Result Head E)
+    → All (λ x. parts x ≡ no_parts) (take n xs)
+    → IfOk result (λ head. IsSameParts (parts_of head) (combined p (map parts (take (length xs - n) (drop n xs)))))
+    → IfOk result (λ head. IsSameParts (parts_of head) (combined p (map parts xs)))
+rest_ok p parts n xs (Ok head) none it =
+    subst (IsSameParts (parts_of head))
+    (ap (λ ys. combined p (map parts ys)) (rest-slice n xs)
+    ∙ sym (front-nothing p parts (take n xs) (drop n xs) none)
+    ∙ ap (λ ys. combined p (map parts ys)) (take-append-drop n xs)) it
+rest_ok p parts n xs (Err e) none it = tt
+
+pub front_ok : {E : Type 0} (p : Polarity) (parts : ℕ → Parts) (n : ℕ) (xs : List ℕ) (result : Result Head E)
+    → All (λ x. parts x ≡ no_parts) (take (length xs - n) (drop n xs))
+    → IfOk result (λ head. IsSameParts (parts_of head) (combined p (map parts (take n xs))))
+    → IfOk result (λ head. IsSameParts (parts_of head) (combined p (map parts xs)))
+front_ok p parts n xs (Ok head) none it =
+    subst (IsSameParts (parts_of head))
+    (sym (back-nothing p parts (take n xs) (drop n xs) (subst (All (λ x. parts x ≡ no_parts)) (rest-slice n xs) none))
+    ∙ ap (λ ys. combined p (map parts ys)) (take-append-drop n xs)) it
+front_ok p parts n xs (Err e) none it = tt
