@@ -3,12 +3,11 @@
 --     part_model          for each type of the part it has a model
 --     part_no_clash       so where the part has a type, its goals do not clash
 --     part_allows_all     and the solved constraint allows all types of the part
-use Rattle.std.proofs.Common.{◌≡◌, ◌≢◌, ◌⊎◌, inl, inr, ℕ, ◌+◌, ◌==◌, true, false, List, [], ◌∷◌, Contains, refl, sym, ap, ◌∙◌, subst, Some}
+use Rattle.std.proofs.Common.{◌≡◌, ◌⊎◌, inl, inr, ℕ, ◌+◌, List, Contains, refl, sym, ap, ◌∙◌, subst, Some}
 use Rattle.std.specs.Prelude.{Option, None, option_map}
 use Rattle.std.specs.BTreeMap.{BTreeMap, get}
 use Rattle.std.specs.FinMap as finmap
 use Rattle.std.specs.Ordering.{nat_cmp}
-use Rattle.std.proofs.lemmas.Bool.Decides.{eqb_tells}
 use Rattle.mls_book.specs.Predicates.{Predicate, Implies}
 use Rattle.mls_book.specs.Passes.{passes}
 use Rattle.mls_book.specs.Schemes as book
@@ -30,7 +29,7 @@ use Rattle.mls_term.specs.Derivations.{Known}
 use Rattle.mls_term.specs.WellFormed.{binders_of}
 use Rattle.mls_typing.specs.Typed.{Types, IsType, IsTyped, needs_of, type_of}
 use Rattle.mls_typing.proofs.Instances.{IsTyped-derived}
-use Rattle.mls_typing.proofs.Lists.{Contains-here, Contains-later, Contains-cases, nothing_in}
+use Rattle.mls_biunify.proofs.Membership.{decide_contains}
 use Rattle.mls_parts.specs.declared.pose.Posing.{Posing}
 use Rattle.mls_parts.specs.NodeTypes.{AllowsAll, HasNodeTypes, IsKnownHere, IsNodeOf, LetsAllow, NeedsOnly}
 use Rattle.mls_parts.specs.NumberedNodes.{IsPlaced}
@@ -43,16 +42,6 @@ use Rattle.mls_parts.proofs.HeldTypes.{top_type}
 use Rattle.mls_allowed.proofs.ModelledConstraints.{model_no_clash, models_allow_all}
 use Rattle.mls_allowed.proofs.NodeTypes.{nodes_have_types}
 use Rattle.mls_parts.proofs.TypedModels.{has_model}
-
--- whether a number is in a list
-decide_contains : (x : ℕ) (xs : List ℕ) → Contains xs x ⊎ (Contains xs x → ⊥)
-decide_contains x [] = inr (λ it. nothing_in x it)
-decide_contains x (y ∷ ys) = go (eqb_tells y x) (decide_contains x ys)
-  where
-    go : (((y == x) ≡ true) × (y ≡ x)) ⊎ (((y == x) ≡ false) × (y ≢ x)) → Contains ys x ⊎ (Contains ys x → ⊥) → Contains (y ∷ ys) x ⊎ (Contains (y ∷ ys) x → ⊥)
-    go (inl same) rest = inl (subst (Contains (y ∷ ys)) same.1 (Contains-here y ys))
-    go (inr unlike) (inl there) = inl (Contains-later y ys x there)
-    go (inr unlike) (inr none) = inr (λ it. elim (Contains-cases y ys x it) [ inl same ↦ unlike.1 same | inr later ↦ none later ])
 
 module _ (nodes : List TermNode) (globals lets : BTreeMap ℕ Scheme) (binders part : List ℕ) (p : Posing) (is : IsPartPosed nodes globals lets binders part p) (top : ℕ) (there : Contains part top)
     (scope : List ℕ) (env : List EnvEntry) (around : AreAround p binders scope env) where

@@ -9,7 +9,9 @@ pub mod SettledEdges
 pub mod SettledLinks
 pub mod StoredHeads
 pub mod CutSets
+pub mod Membership
 pub mod SettledTables
+pub mod LoneHeads
 pub mod Numbers
 pub mod Copied
 pub mod Renames

@@ -1,5 +1,5 @@
 -- The heads that settle a table.
-use Rattle.std.proofs.Common.{◌≡◌, ◌↔◌, ◌⊎◌, inl, inr, ℕ, ◌<◌, ◌≤◌, true, false, List, [], ◌∷◌, ◌++◌, ◌+◌, take, map, Contains, get_or, length, refl, sym, subst, arith, All}
+use Rattle.std.proofs.Common.{◌≡◌, ◌↔◌, ◌⊎◌, inl, inr, ℕ, ◌<◌, ◌≤◌, true, false, List, [], ◌∷◌, ◌+◌, take, map, Contains, get_or, length, refl, sym, subst, arith, All}
 use Rattle.std.proofs.lemmas.List.Elements.{Contains-append_left, Contains-push, Contains-push_cases}
 use Rattle.mls_automaton.specs.declared.automaton.Polarity.{Polarity}
 use Rattle.mls_automaton.specs.declared.automaton.Polarity.TheVariants.{Positive, Negative}
@@ -14,7 +14,7 @@ use Rattle.mls_solver.specs.steps.Solving.{AreMembers, IsSolvedState}
 use Rattle.mls_solver.proofs.FirstClashes.{pair_held}
 use Rattle.mls_solver.proofs.Relating.{taken-cases}
 use Rattle.mls_biunify.specs.Live.{IsStateIn}
-use Rattle.mls_biunify.specs.steps.Settlement.{AreNewHeads, GivenBy, TouchedBy}
+use Rattle.mls_biunify.specs.steps.Settlement.{AddsHead, AreNewHeads, GivenBy, KeepsHead, TouchedBy}
 use Rattle.mls_biunify.specs.steps.Tables.{HoldsThere, IsNumbered, Numbered}
 use Rattle.mls_biunify.proofs.Collected.{both_put}
 
@@ -112,8 +112,20 @@ heads-none t R states heads e = record {
   all = λ s none. let low : none.0 < 0 = none.1 in absurd (omega arith);
 }
 
-pub heads-more : (t : Numbered) (R : ℕ → ℕ → Type 0) (states : List ℕ) (i : ℕ) → i < length states → (old new : List (ℕ × Head)) (h : Head) → get_or t.there (get_or states i 0) false ≡ true → IsSolvedState t.automaton R (get_or states i 0) (record { polarity = polarity_at t.automaton (get_or states i 0); head = h }) → AreNewHeads t R (take i states) old → new ≡ old ++ (get_or states i 0, h) ∷ [] → AreNewHeads t R (take (i + 1) states) new
-heads-more t R states i low old new h there solved so_far e = record {
+pub heads-more : (t : Numbered) (R : ℕ → ℕ → Type 0) (states : List ℕ) (i : ℕ) → i < length states → (old new : List (ℕ × Head)) → get_or t.there (get_or states i 0) false ≡ true → AreNewHeads t R (take i states) old → AddsHead t R (get_or states i 0) old new → AreNewHeads t R (take (i + 1) states) new
+heads-more t R states i low old new there so_far (inl keeps) = record {
+  each = λ s h it. so_far.each s h (subst (λ (xs : List (ℕ × Head)). Contains xs (s, h)) keeps.0 it);
+  all = λ s it.
+      elim (taken-cases states i 0 low s it) [
+        | inl earlier ↦
+            elim (so_far.all s earlier) [
+              | inl found ↦ inl (found.0, subst (λ (xs : List (ℕ × Head)). Contains xs (s, found.0)) (sym keeps.0) found.1)
+              | inr own ↦ inr own
+            ]
+        | inr same ↦ inr (subst (KeepsHead t.automaton R) (sym same) keeps.1)
+      ];
+}
+heads-more t R states i low old new there so_far (inr (h, e, solved)) = record {
   each = λ s k it.
       elim (Contains-push_cases old (get_or states i 0, h) (s, k) (subst (λ (xs : List (ℕ × Head)). Contains xs (s, k)) e it)) [
         | inl before ↦ so_far.each s k before
@@ -125,9 +137,11 @@ heads-more t R states i low old new h there solved so_far e = record {
   all = λ s it.
       elim (taken-cases states i 0 low s it) [
         | inl earlier ↦
-            let found = so_far.all s earlier in
-            (found.0, subst (λ (xs : List (ℕ × Head)). Contains xs (s, found.0)) (sym e) (Contains-append_left old ((get_or states i 0, h) ∷ []) (s, found.0) found.1))
+            elim (so_far.all s earlier) [
+              | inl found ↦ inl (found.0, subst (λ (xs : List (ℕ × Head)). Contains xs (s, found.0)) (sym e) (Contains-append_left old ((get_or states i 0, h) ∷ []) (s, found.0) found.1))
+              | inr own ↦ inr own
+            ]
         | inr same ↦
-            (h, subst (λ k. Contains new (k, h)) (sym same) (subst (λ (xs : List (ℕ × Head)). Contains xs (get_or states i 0, h)) (sym e) (Contains-push old (get_or states i 0, h))))
+            inl (h, subst (λ k. Contains new (k, h)) (sym same) (subst (λ (xs : List (ℕ × Head)). Contains xs (get_or states i 0, h)) (sym e) (Contains-push old (get_or states i 0, h))))
       ];
 }

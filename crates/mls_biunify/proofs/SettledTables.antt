@@ -19,6 +19,7 @@ use Rattle.mls_automaton.proofs.CombinedHeads.{same_parts-self}
 use Rattle.mls_biunify.specs.Live.{IsStateIn}
 use Rattle.mls_biunify.specs.steps.Settlement.{AddsEdges, AreFit, AreNewEdges, AreNewHeads, IsTouched, StoresHeads}
 use Rattle.mls_biunify.specs.steps.Tables.{HoldsThere, IsNumbered, Numbered}
+use Rattle.mls_biunify.proofs.Membership.{decide_contains}
 use Rattle.mls_biunify.proofs.SettledLinks.{same-state-in}
 
 -- one head, combined
@@ -96,6 +97,18 @@ module _ (t : Numbered) (is : IsNumbered t) (room : Room) (states : HoldsThere t
       same-state : (s : ℕ) → state_at mid.automaton s ≡ state_at t.automaton s
       same-state s = ap (λ (xs : List State). get_or xs s (record { polarity = Positive; head = empty_head })) adds.states
 
+      -- a state without a new head
+      kept_or_untouched : (s : ℕ) → ((h : Head) → Contains heads (s, h) → ⊥) → IsSolvedState t.automaton R s (state_at t.automaton s)
+      kept_or_untouched s none = go (decide_contains s touched)
+        where
+          go : Contains touched s ⊎ (Contains touched s → ⊥) → IsSolvedState t.automaton R s (state_at t.automaton s)
+          go (inl among) =
+              elim (new.all s among) [
+                | inl found ↦ absurd (none found.0 found.1)
+                | inr keeps ↦ record { polarity = refl; members = keeps.members; are = keeps.are; parts = keeps.parts; labels = is.is.labels s }
+              ]
+          go (inr beside) = untouched s (λ it. beside (all s it))
+
       each-solved : (s : ℕ) → IsSolvedState t.automaton R s (state_at now.automaton s)
       each-solved s =
           elim (stores.stored s) [
@@ -104,7 +117,7 @@ module _ (t : Numbered) (is : IsNumbered t) (room : Room) (states : HoldsThere t
                 subst (IsSolvedState t.automaton R s) (sym (here.2 ∙ (λ i. record { polarity = sign i; head = here.0 }))) (new.each s here.0 here.1).1
             | inr none ↦
                 subst (IsSolvedState t.automaton R s) (sym (none.1 ∙ same-state s))
-                (untouched s (λ touched_by. let found = new.all s (all s touched_by) in none.0 found.0 found.1))
+                (kept_or_untouched s none.0)
           ]
 
       edge-iff : (n q : ℕ) → HasFlow now.automaton n q ↔ (HasFlow t.automaton n q ⊎ Contains edges (n, q))

@@ -1,7 +1,7 @@
 //! A table as an automaton with the same numbers.
-ghost use Rattle.std.specs.Prelude.{◌≡◌, ◌↔◌, ◌⊎◌, ℕ, ◌<◌, true, false, [], get_or, length, IfOk, OnOk};
+ghost use Rattle.std.specs.Prelude.{◌≡◌, ◌↔◌, ℕ, ◌<◌, true, false, [], get_or, IfOk, OnOk};
 ghost use Rattle.mls_automaton.specs.declared.automaton.Polarity.TheVariants.{Negative};
-ghost use Rattle.mls_automaton.specs.Automata.{HasFlow, IsState, state_at, with_state};
+ghost use Rattle.mls_automaton.specs.Automata.{HasFlow, state_at, with_state};
 ghost use Rattle.mls_biunify.specs.Live.{IsStateIn};
 ghost use Rattle.mls_biunify.specs.steps.Copying.{AreCopiedStates, CopiesFlows, HasStatesOf, IsCopy};
 

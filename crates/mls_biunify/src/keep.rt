@@ -70,7 +70,7 @@ pub fn keep_among(
 fn states_of(alloc: Global, found: &Marks) -> Result<Vec<StateId>, Memory>
     ensures { IfOk result (λ states. numbers_in states.items ≡ found.now) }
 {
-    let mut states = Vec::new(alloc);
+    let mut states = Vec::with_capacity(alloc, found.as_slice().len())?;
     for s in found.as_slice() {
         states.push(StateId(*s))?;
     }
@@ -81,7 +81,7 @@ fn states_of(alloc: Global, found: &Marks) -> Result<Vec<StateId>, Memory>
 fn unfound(alloc: Global, states: &[usize], found: &Marks) -> Result<Vec<usize>, Memory>
     ensures { IfOk result (λ gone. (s : ℕ) → Contains gone.items s ↔ IsUnfound states.now found.now s) }
 {
-    let mut gone = Vec::new(alloc);
+    let mut gone = Vec::with_capacity(alloc, states.len())?;
     for s in states {
         push_unfound(&mut gone, found, *s)?;
     }

@@ -398,7 +398,7 @@ impl Live {
 fn numbers_of(alloc: Global, states: &[StateId]) -> Result<Vec<usize>, Memory>
     ensures { IfOk result (λ numbers. numbers.items ≡ numbers_in states.now) }
 {
-    let mut numbers = Vec::new(alloc);
+    let mut numbers = Vec::with_capacity(alloc, states.len())?;
     for s in states {
         numbers.push(s.0)?;
     }

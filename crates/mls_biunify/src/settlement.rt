@@ -1,18 +1,18 @@
 //! The heads and edges of the solved automaton, over states that keep their numbers.
-ghost use Rattle.std.specs.Prelude.{◌≡◌, ◌↔◌, ◌⊎◌, ℕ, ◌<◌, ◌≤◌, List, true, false, get_or, length, map, All, Contains};
+ghost use Rattle.std.specs.Prelude.{◌≡◌, ◌↔◌, ◌⊎◌, ℕ, ◌<◌, ◌≤◌, true, false, get_or, map, All, Contains};
 ghost use Rattle.std.specs.Prelude.{IfOk, IsTrue, OnErr, OnOk};
 ghost use Rattle.mls_automaton.specs.declared.automaton.Head.{Head};
+ghost use Rattle.mls_automaton.specs.declared.automaton.Polarity.{Polarity};
 ghost use Rattle.mls_automaton.specs.declared.automaton.Polarity.TheVariants.{Positive, Negative};
-ghost use Rattle.mls_automaton.specs.Automata.{HasFlow, head_at, polarity_at};
+ghost use Rattle.mls_automaton.specs.Automata.{head_at};
 ghost use Rattle.mls_automaton.specs.Heads.{IsSameParts, combined, no_parts, parts_of};
-ghost use Rattle.mls_automaton.specs.Models.{HasRisingLabels, HasStatesIn};
+ghost use Rattle.mls_automaton.specs.Models.{HasRisingLabels};
 ghost use Rattle.mls_solver.specs.Rooms.{Holds};
-ghost use Rattle.mls_solver.specs.Solved.{IsNewFlow};
-ghost use Rattle.mls_solver.specs.steps.Solving.{AreMembers, IsSolvedState};
+ghost use Rattle.mls_solver.specs.steps.Solving.{AreMembers};
 ghost use Rattle.mls_biunify.specs.Live.{IsStateIn};
-ghost use Rattle.mls_biunify.specs.steps.Settlement.{AddsEdges, AreFit, AreNewEdges, AreNewHeads, GetsEdges, GivenBy};
-ghost use Rattle.mls_biunify.specs.steps.Settlement.{IsTouched, Links, StoresHeads, Unlinks};
-ghost use Rattle.mls_biunify.specs.steps.Tables.{HoldsThere, IsNumbered};
+ghost use Rattle.mls_biunify.specs.steps.Settlement.{AddsEdges, AddsHead, AreFit, AreNewEdges, AreNewHeads, GetsEdges};
+ghost use Rattle.mls_biunify.specs.steps.Settlement.{GivenBy, IsTouched, Links, StoresHeads, Unlinks};
+ghost use Rattle.mls_biunify.specs.steps.Tables.{HoldsThere};
 
 use crate::relation::Relation;
 use crate::table::Table;
@@ -136,22 +136,43 @@ fn combined_head(
     unite_heads(alloc, polarity, first, second)
 }
 
-// The new head of a state.
-fn new_head(alloc: Global, relation: &Relation, table: &Table, s: StateId) -> Result<Head, Memory>
+// Whether one of these states is the given one, and the heads of the others have nothing.
+fn is_alone(table: &Table, members: &[usize], s: StateId) -> bool
+    requires { All (λ j. get_or table.now.there j false ≡ true) members.now }
+    ensures { IsTrue result → (p : Polarity) → IsSameParts (parts_of (head_at table.now.automaton s.0))
+        (combined p (map (λ j. parts_of (head_at table.now.automaton j)) members.now)) }
+{
+    match members.binary_search(&s.0) {
+        Ok(at) => are_nothing(table, &members[..at]) && are_nothing(table, &members[at + 1..]),
+        Err(_) => false,
+    }
+}
+
+// Puts the new head of a state behind those of others, unless it is the old one: then nothing has to be stored.
+fn push_head(
+    heads: &mut Vec<(usize, Head)>,
+    alloc: Global,
+    relation: &Relation,
+    table: &Table,
+    s: StateId,
+) -> Result<(), Memory>
     requires states { HoldsThere table.now relation.now }
     requires there { get_or table.now.there s.0 false ≡ true }
     requires rows { table.now.limit ≤ relation.now.positives }
     requires columns { table.now.limit ≤ relation.now.negatives }
-    ensures { IfOk result (λ h. IsSolvedState table.now.automaton (Holds relation.now) s.0
-        (record { polarity = polarity_at table.now.automaton s.0; head = h })) }
+    ensures { OnOk result (AddsHead table.now (Holds relation.now) s.0 heads.old.items heads.new.items) }
 {
     let polarity = table.polarity(s);
     let members = members(alloc, relation, table, s)?;
+    if is_alone(table, members.as_slice(), s) {
+        return Ok(());
+    }
     let head = combined_head(alloc, table, polarity, members.as_slice())?;
-    Ok(head)
+    heads.push((s.0, head))?;
+    Ok(())
 }
 
-// The new heads of these states.
+// The new heads of those of these states whose heads change.
 pub fn new_heads(
     alloc: Global,
     relation: &Relation,
@@ -166,8 +187,7 @@ pub fn new_heads(
 {
     let mut heads = Vec::with_capacity(alloc, states.len())?;
     for s in states {
-        let head = new_head(alloc, relation, table, StateId(*s))?;
-        heads.push((*s, head))?;
+        push_head(&mut heads, alloc, relation, table, StateId(*s))?;
     }
     Ok(heads)
 }

@@ -10,6 +10,10 @@ use std::alloc::Global;
 use std::marker::Model;
 use std::rc::Rc;
 
+/// So many binders make an environment long: those are shared, and read and printed once where the next step has the
+/// same.
+pub const LONG: usize = 8;
+
 // A list of binders with their nodes, and what was found out of it once.
 #[derive(Drop)]
 struct Shared {

@@ -4,14 +4,12 @@ ghost use Rattle.std.specs.List.{flat_map};
 ghost use Rattle.mls_deriv.specs.Spellings.{entry_words};
 
 use crate::derivation::BinderNode;
+use crate::env::LONG;
 use crate::print::add_env;
 use crate::steps::is_same;
 use mls_base::memory::Memory;
 use std::alloc::Global;
 use std::marker::Model;
-
-/// So many binders make an environment long.
-pub(crate) const LONG: usize = 8;
 
 /// The long environment that was printed last, with its words: steps behind one another often have the same one, whose
 /// numbers are then not formatted again. Contracts see the binders with their nodes.

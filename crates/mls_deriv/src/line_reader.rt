@@ -8,8 +8,8 @@ ghost use Rattle.mls_deriv.specs.Steps.{IsRising};
 ghost use Rattle.mls_deriv.specs.inner.Readings.{IsLineRead};
 
 use crate::derivation::{BinderNodes, OwnStep, SectionLine, StepLine};
+use crate::env::LONG;
 use crate::front::behind;
-use crate::last_env::LONG;
 use crate::print::{add_env, add_one};
 use crate::section_line::read_line;
 use mls_base::memory::Memory;

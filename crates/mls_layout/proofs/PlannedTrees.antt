@@ -26,8 +26,9 @@ use Rattle.mls_book.proofs.LongerBooks.{below_or_more}
 use Rattle.mls_automaton.specs.declared.automaton.Polarity.{Polarity}
 use Rattle.mls_automaton.proofs.Lists.{All-contained}
 use Rattle.mls_layout.specs.declared.tree.PlannedTree.{PlannedTree}
-use Rattle.mls_layout.specs.Trees.{IsTree, IsNodeIn, IsOfTree, AddsTree, tree_size, tree_root}
-use Rattle.mls_layout.specs.steps.Planned.{Planned, sizes, end_of, planned_tree, with_tree, AreLow, IsCounted, IsRootIn, IsRoot, IsNumberOf, AreKnown, HasTree, Extends, AddsPlanned}
+use Rattle.mls_layout.specs.Trees.{IsTree, member, IsNodeIn, IsOfTree, AddsTree, tree_size, tree_root}
+use Rattle.mls_layout.specs.Trees as shape
+use Rattle.mls_layout.specs.steps.Planned.{Planned, sizes, end_of, planned_tree, with_tree, AreLow, IsCounted, IsRootIn, IsRoot, IsNumberOf, AreKnown, HasTree, IsOne, IsPlaced, Extends, AddsPlanned}
 use Rattle.mls_layout.specs.steps.Owned.{HaveTrees}
 use Rattle.mls_layout.proofs.TreesMade.{tree_kept, tree_same}
 
@@ -149,18 +150,22 @@ end_more old new it =
     omega (arith, all, start)
 
 -- a tree that is planned
-pub tree_made : (plan : Planned) (p : Polarity) (members : List NodeId) (M : ℕ → Type 0) (i : ℕ) → IsRoot plan p members i → i < end_of plan → ((j : ℕ) → IsNodeIn members j ↔ M j) → HasTree plan p M i
+pub tree_made : (plan : Planned) (p : Polarity) (members : List NodeId) (M : ℕ → Type 0) (i : ℕ) → IsPlaced plan p members i → i < end_of plan → ((j : ℕ) → IsNodeIn members j ↔ M j) → HasTree plan p M i
 tree_made plan p members M i root low same = record { members = members; root = root; low = low; same = same }
 
 pub tree_more : (old new : Planned) (p : Polarity) (M : ℕ → Type 0) (i : ℕ) → Extends old new → HasTree old p M i → HasTree new p M i
 tree_more old new p M i more it = record {
   members = it.members;
-  root =
-      subst (λ n. IsRootIn n new.trees p it.members i) (sym more.start)
-      (subst (λ (ts : List PlannedTree). IsRootIn old.start ts p it.members i) (sym more.trees) (root_kept old.start old.trees more.more p it.members i it.root));
+  root = go it.root;
   low = let low : i < end_of old = it.low in let le : end_of old ≤ end_of new = end_more old new more in omega (arith, low, le);
   same = it.same;
 }
+  where
+    go : IsPlaced old p it.members i → IsPlaced new p it.members i
+    go (inl one) = inl one
+    go (inr root) = inr (
+        subst (λ n. IsRootIn n new.trees p it.members i) (sym more.start)
+        (subst (λ (ts : List PlannedTree). IsRootIn old.start ts p it.members i) (sym more.trees) (root_kept old.start old.trees more.more p it.members i root)))
 
 -- the same members in other words
 pub tree_as : (plan : Planned) (p : Polarity) (M P : ℕ → Type 0) (i : ℕ) → HasTree plan p M i → ((j : ℕ) → M j ↔ P j) → HasTree plan p P i
@@ -218,11 +223,36 @@ planned_next start trees tree old now new j it next = record {
         let that : AddsTree p members now new j = subst (λ (t : PlannedTree). AddsTree t.polarity t.members now new j) (sym last.0) next in
         subst (Result p members) (that.root ∙ sym last.1) (that.inside, that.tree)
 
+-- an only member is its own tree
+one_low : (members : List NodeId) (n i : ℕ) → IsOne members i → All (λ (id : NodeId). id.0 < n) members → i < n
+one_low [] n i one all = absurd one
+one_low (one ∷ []) n i is all = let low : one.0 < n = all 0 one (omega arith) in omega (arith, low, is)
+one_low (one ∷ other ∷ rest) n i is all = absurd is
+
+pub only_low : (plan : Planned) (members : List NodeId) (i : ℕ) → IsOne members i → All (λ (id : NodeId). id.0 < end_of plan) members → i < end_of plan
+only_low plan members i one all = one_low members (end_of plan) i one all
+
+one_is : (one : NodeId) (j : ℕ) → IsNodeIn (one ∷ []) j → one.0 ≡ j
+one_is one j (zero, low, is) = ap (λ (id : NodeId). id.0) is
+one_is one j (suc k, low, is) = absurd (let low' : suc k < 1 = low in omega arith)
+
+one_tree : (book : List Node) (p : Polarity) (members : List NodeId) (i : ℕ) → IsOne members i → IsTree book p (IsNodeIn members) i
+one_tree book p [] i one = absurd one
+one_tree book p (one ∷ []) i is = record {
+  only = member (0, omega arith, λ n. record { 0 = sym is n });
+  each = λ j there. shape.here (is ∙ one_is one j there);
+}
+one_tree book p (one ∷ other ∷ rest) i is = absurd is
+
 -- the planned trees are there
 pub planned_is : (plan : Planned) (old new : List Node) → IsBook old → AddsPlanned plan old new → (p : Polarity) (M : ℕ → Type 0) (i : ℕ) → HasTree plan p M i → (i < length new) × IsTree new p M i
 planned_is plan old new is it p M i tree =
-    let there = it.roots is p tree.members i tree.root in
+    let there = go tree.root in
     (there.0, tree_same new p (IsNodeIn tree.members) M tree.same i there.1)
+  where
+    go : IsPlaced plan p tree.members i → (i < length new) × IsTree new p (IsNodeIn tree.members) i
+    go (inl one) = let low : i < end_of plan = tree.low in let size : length new ≡ end_of plan = it.size in (omega (arith, low, size), one_tree new p tree.members i one)
+    go (inr root) = it.roots is p tree.members i root
 
 -- the parts of planned trees, with one tree more
 pub counted_next : (start end next size : ℕ) (trees new : List PlannedTree) (p : Polarity) (members : List NodeId) → IsCounted start end trees → size ≡ tree_size members → next ≡ end + size → new ≡ trees ++ planned_tree p members ∷ []

@@ -3,6 +3,7 @@
 
 use mls_automaton::scheme::Scheme;
 use mls_base::memory::Memory;
+use mls_parts::numbers::NumberMap;
 use mls_parts::split::Numbers;
 use mls_term::term::{Part, TermForm, TermNode};
 use std::alloc::Global;
@@ -14,8 +15,8 @@ type Binders = BTreeSet<usize>;
 /// node how many nodes the chain has, and the binders that it needs.
 #[derive(Drop)]
 pub struct Spines {
-    firsts: BTreeMap<usize, usize>,
-    links: BTreeMap<usize, usize>,
+    firsts: NumberMap<usize>,
+    links: NumberMap<usize>,
     binders: BTreeMap<usize, Numbers>,
 }
 
@@ -24,7 +25,7 @@ pub struct Spines {
 #[derive(Drop)]
 struct Chains {
     spines: Spines,
-    needed: BTreeMap<usize, Binders>,
+    needed: NumberMap<Binders>,
 }
 
 // Adds binders to others.
@@ -86,15 +87,15 @@ impl Spines {
     /// No chain.
     pub fn new(alloc: Global) -> Spines {
         Spines {
-            firsts: BTreeMap::new(alloc),
-            links: BTreeMap::new(alloc),
+            firsts: NumberMap::new(alloc),
+            links: NumberMap::new(alloc),
             binders: BTreeMap::new(alloc),
         }
     }
 
     // Notes that a node goes on with the chain of this part, or begins one.
     fn go_on(&mut self, node: usize, part: usize) -> Result<(), Memory> {
-        let first = *self.firsts.get(&part).unwrap_or(&node);
+        let first = *self.firsts.get(part).unwrap_or(&node);
         let links = self.links_of(first).saturating_add(1);
         self.links.insert(first, links)?;
         self.firsts.insert(node, first)?;
@@ -103,7 +104,7 @@ impl Spines {
 
     // Notes what a chain needs, if this is its last node.
     fn end(&mut self, alloc: Global, node: usize, binders: &Binders) -> Result<(), Memory> {
-        if let Some(first) = self.firsts.get(&node) {
+        if let Some(first) = self.firsts.get(node) {
             let first = *first;
             self.binders.insert(first, listed(alloc, binders)?)?;
         }
@@ -123,7 +124,7 @@ impl Spines {
     ) -> Result<Spines, Memory> {
         let mut chains = Chains {
             spines: Spines::new(alloc),
-            needed: BTreeMap::new(alloc),
+            needed: NumberMap::new(alloc),
         };
         for i in part {
             if let Some(node) = nodes.get(*i) {
@@ -139,12 +140,12 @@ impl Spines {
 
     /// The first node of the chain that a node is in, if it is in one.
     pub fn first(&self, node: usize) -> Option<usize> {
-        self.firsts.get(&node).copied()
+        self.firsts.get(node).copied()
     }
 
     /// How many nodes the chain with this first node has.
     pub fn links_of(&self, first: usize) -> usize {
-        *self.links.get(&first).unwrap_or(&0)
+        *self.links.get(first).unwrap_or(&0)
     }
 
     /// The binders that the chain with this first node needs.
@@ -168,7 +169,7 @@ impl Chains {
 
     // Takes what a node needs.
     fn taken(&mut self, alloc: Global, node: usize) -> Binders {
-        match self.needed.remove(&node) {
+        match self.needed.remove(node) {
             Some(binders) => binders,
             None => Binders::new(alloc),
         }
@@ -192,7 +193,7 @@ impl Chains {
 
     // How many binders a node needs.
     fn weight(&self, node: usize) -> usize {
-        match self.needed.get(&node) {
+        match self.needed.get(node) {
             Some(binders) => binders.len(),
             None => 0,
         }

@@ -1,5 +1,5 @@
 //! The steps of a section, as they are written.
-ghost use Rattle.std.specs.Prelude.{◌≡◌, ◌↔◌, ◌++◌, [], ◌∷◌, option_map, IfOk, IsTrue, OnOk};
+ghost use Rattle.std.specs.Prelude.{◌≡◌, ◌++◌, [], ◌∷◌, option_map, IfOk, IsTrue, OnOk};
 ghost use Rattle.mls_deriv.specs.declared.derivation.SectionLine.TheVariants as line;
 ghost use Rattle.mls_deriv.specs.Sections.{steps_of};
 ghost use Rattle.mls_deriv.specs.Steps.{IsRising};
@@ -15,6 +15,7 @@ use mls_deriv::claim::Pair;
 use mls_deriv::derivation::{
     BinderNode, BinderNodes, Mode, OwnStep, SectionLine, SectionLines, StepLine, StepRule,
 };
+use mls_deriv::env::LONG;
 use mls_deriv::steps::is_same;
 use mls_pairs::lines::{push_pairs, push_puts};
 use mls_pairs::pairs::{Pairs, pairs_for};
@@ -39,9 +40,6 @@ impl Conclusion {
         }
     }
 }
-
-// So many binders make an environment long.
-const LONG: usize = 8;
 
 /// The lines of a section so far, and how many steps they have.
 #[derive(Drop)]
@@ -137,6 +135,9 @@ impl Steps {
         ensures count { self.new.count ≡ self.old.count }
         ensures same { IfOk result (λ placed. placed ≡ env) }
     {
+        if env.is_empty() || env.lies_with(&self.last) {
+            return Ok(env);
+        }
         if env.len() < LONG {
             return env.share(alloc);
         }
@@ -188,16 +189,17 @@ impl Steps {
         book: &Book,
         node: usize,
         from: &Conclusion,
-        env: &[BinderNode],
+        env: &BinderNodes,
         root: NodeId,
     ) -> Result<Conclusion, Memory>
         ensures { IsRising env.now
             → IfOk result (AddsSub book.now self.old self.new node from.now env.now root) }
     {
         let puts = from.puts.as_slice();
-        let wanted = asked(alloc, from, env, root)?;
+        let binders = env.as_slice();
+        let wanted = asked(alloc, from, binders, root)?;
         let pairs = pairs_for(alloc, book, puts, wanted.as_slice())?;
-        let own = copied(alloc, env)?;
+        let own = env.copy(alloc)?;
         let to = self.step(alloc, node, StepRule::Sub(from.step), own, root)?;
         push_puts(&mut self.lines, puts)?;
         push_pairs(&mut self.lines, pairs.as_slice())?;
@@ -215,13 +217,16 @@ impl Steps {
         book: &Book,
         node: usize,
         from: Conclusion,
-        env: &[BinderNode],
+        env: &BinderNodes,
         root: NodeId,
     ) -> Result<Conclusion, Memory>
         ensures { IsRising env.now → AreCounted self.old → Stands (steps_of self.old.lines) from
             → IfOk result (AddsAdapted book.now self.old self.new node from env.now root) }
     {
-        if from.puts.is_empty() && from.root == root && are_same(from.env.as_slice(), env) {
+        if from.puts.is_empty()
+            && from.root == root
+            && are_same(from.env.as_slice(), env.as_slice())
+        {
             return Ok(from);
         }
         self.sub(alloc, book, node, &from, env, root)

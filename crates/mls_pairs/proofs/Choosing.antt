@@ -3,7 +3,7 @@
 --     fields_reason               where each field of the right record is named, the left one has its label
 --     needed_reason               the held pairs that the rules name are a reason
 --     choosing_first, choosing_next, choosing_last    the loop over the list
---     table_shown, chosen_list    the table of a list shows its pairs, and what is chosen of it is a list too
+--     chosen_list                 what is chosen of the table of a list is a list too
 --     chosen_inside               and has nodes of the book
 use Rattle.std.proofs.Common.{◌≡◌, ◌⊎◌, inl, inr, ℕ, suc, ◌<◌, ◌≤◌, ◌+◌, Bool, true, false, List, [], ◌∷◌, ◌++◌, length, refl, sym, ap, ◌∙◌, subst, arith, Option, Some, None, cond, bytes_eq, length-append}
 use Rattle.std.specs.Prelude.{All, Contains, IfSome, get_or, option_map, find}
@@ -21,7 +21,7 @@ use Rattle.mls_deriv.specs.declared.derivation.Mode.TheVariants.{Pp}
 use Rattle.mls_deriv.specs.declared.claim.Pair.{Pair}
 use Rattle.mls_deriv.specs.declared.claim.Put.{Put}
 use Rattle.mls_deriv.specs.declared.table.Table.{Table}
-use Rattle.mls_deriv.specs.Pairs.{put_at, Claims, exchanged, IsJustified, AreJustified}
+use Rattle.mls_deriv.specs.Pairs.{put_at, Claims, exchanged, IsJustified}
 use Rattle.mls_deriv.specs.inner.PairRules.{left_node, right_node, IsReadAs, ByLeft, ByRight, ByBoth, ByNodes}
 use Rattle.mls_deriv.specs.inner.Tables.{Holds, put_in}
 use Rattle.mls_deriv.proofs.PairRules.{from_nodes}
@@ -31,12 +31,11 @@ use Rattle.mls_pairs.specs.PairLists.{pair_of, IsRefuted, IsPairList, StaysInsid
 use Rattle.mls_pairs.specs.steps.Growth.{Finds}
 use Rattle.mls_pairs.specs.Lines.{IsTable}
 use Rattle.mls_pairs.specs.steps.Needs.{read_as, left_needs, right_needs, label_needs, field_needs, both_needs, node_needs}
-use Rattle.mls_pairs.specs.steps.Reasons.{AreShown, IsChosen, IsHeld, IsShownAt, FieldsReason, IsReasonFor, IsReasonOf, IsChoosing}
-use Rattle.mls_pairs.specs.steps.Rounds.{AreThose, none, kept, gone, IsShownBy}
+use Rattle.mls_pairs.specs.steps.Reasons.{IsChosen, IsHeld, IsShownAt, FieldsReason, IsReasonFor, IsReasonOf, IsChoosing}
+use Rattle.mls_pairs.specs.steps.Rounds.{AreThose, none, kept, gone}
 use Rattle.mls_pairs.proofs.Growing.{at_front, split}
 use Rattle.mls_pairs.proofs.Needed.{head_there, next_there, field_there}
 use Rattle.mls_pairs.proofs.Inside.{all_there, part_inside}
-use Rattle.mls_pairs.proofs.TableShown.{justified_shown}
 
 -- what was found and is held
 pub found_held : (P Q R : List Pair → Type 0) (found o : Option (List Pair)) → IfSome found P → IfSome o (λ reason. found ≡ Some reason) → IfSome o Q
@@ -239,10 +238,6 @@ module _ (book : List Node) (table : Table) where
               ∙ (ap (λ m. get_or f.pairs m one) is_n
               ∙ (get_or_default f.pairs n one pair low ∙ is))))
 
-  -- a pair that is chosen is shown by the table
-  pub choosing_shown : (wanted : List Pair) (n : ℕ) (f : Found) → AreShown book table → IsChoosing book table wanted n f → (pair : Pair) → Contains f.pairs pair → IsShownBy book table pair
-  choosing_shown wanted n f shown it pair there = shown pair (it.held pair there)
-
   pub choosing_last : (wanted : List Pair) (n : ℕ) (f : Found) → length f.pairs ≤ n → IsChoosing book table wanted n f → IsChosen book table wanted f.pairs
   choosing_last wanted n f all it = record {
     shown = λ pair there. it.reasoned there.0 pair (let low : there.0 < length f.pairs = there.1 in omega arith) there.1 there.2;
@@ -251,27 +246,21 @@ module _ (book : List Node) (table : Table) where
   }
 
 module _ (book : List Node) (puts : List Put) (pairs : List Pair) (table : Table) (is : IsTable puts pairs table) where
-  -- the table of a list that justifies itself shows all of its pairs
-  pub table_shown : AreJustified book puts pairs → AreShown book table
-  table_shown justified pair held =
-      justified_shown book puts pairs table is pair
-      (All-contains (λ (p : Pair). IsJustified book puts (Claims pairs) p.mode p.left p.right) pairs pair justified ((is.holds pair.mode pair.left pair.right).0 held))
-
   -- what is chosen has nodes of the book where the list has
   pub chosen_inside : (wanted chosen : List Pair) → StaysInside book (put_at puts) wanted pairs → IsChosen book table wanted chosen → StaysInside book (put_at puts) wanted chosen
   chosen_inside wanted chosen inside it =
       part_inside book (put_at puts) wanted pairs chosen (λ pair there. (is.holds pair.mode pair.left pair.right).0 (it.held pair there)) inside
 
-  -- what is chosen for wanted pairs is a list for them too
-  pub chosen_list : (wanted chosen : List Pair) → IsPairList book puts wanted pairs → IsChosen book table wanted chosen → IsPairList book puts wanted chosen
-  chosen_list wanted chosen list it = record {
+  -- what is chosen for wanted pairs is a list for them, where the list has each of these that is not refuted
+  pub chosen_list : (wanted chosen : List Pair) → ((pair : Pair) → Contains wanted pair → Contains pairs pair ⊎ IsRefuted book puts pair) → IsChosen book table wanted chosen → IsPairList book puts wanted chosen
+  chosen_list wanted chosen has it = record {
     justified =
         all_there (λ (p : Pair). IsJustified book puts (Claims chosen) p.mode p.left p.right) chosen
         (λ pair there.
         from_nodes book puts (Claims chosen) pair.mode pair.left pair.right
         (subst (λ (put : ℕ → Option ℕ). ByNodes put (Claims chosen) pair.mode pair.left pair.right (node_at book pair.left) (node_at book pair.right)) (λ k x. is.put x k)
         (it.shown pair there)));
-    has = λ pair there. go pair there (list.has pair there);
+    has = λ pair there. go pair there (has pair there);
   }
     where
       go : (pair : Pair) → Contains wanted pair → Contains pairs pair ⊎ IsRefuted book puts pair → Contains chosen pair ⊎ IsRefuted book puts pair

@@ -1,7 +1,8 @@
 -- Pairs that are taken out of a table, one after another.
 --     deletes_trans       one after another
 --     held_table          the table in the end is that of what it has of the list
---     held_left           and that is left of the list
+--     left_by             the table in the end is that of a list that is left
+--     held_left           and that is what it has of the list
 use Rattle.std.proofs.Common.{◌≡◌, ◌↔◌, ◌⊎◌, inl, inr, Bool, true, false, ℕ, ◌<◌, List, [], ◌∷◌, refl, sym, ap, ◌∙◌, subst, arith}
 use Rattle.std.specs.Prelude.{◌==◌, Contains}
 use Rattle.std.proofs.lemmas.Bool.Decides.{Decides-eqb}
@@ -105,11 +106,11 @@ held_table book puts pairs left old new table deletes those = record {
 
 module _ (book : List Node) (puts : List Put) (wanted : List Pair) where
   -- a list that is left of the first one, and of which this is the table
-  record IsLeftBy (pairs : List Pair) (table : Table) : Type 0 where
-    left : List Pair
-    is : IsLeft book puts wanted left
-    of : IsTable puts left table
-    within : (pair : Pair) → Contains left pair → Contains pairs pair
+  pub record IsLeftBy (pairs : List Pair) (table : Table) : Type 0 where
+    pub left : List Pair
+    pub is : IsLeft book puts wanted left
+    pub of : IsTable puts left table
+    pub within : (pair : Pair) → Contains left pair → Contains pairs pair
 
   -- the table without the pair is that of the list without it
   table_without : (pair : Pair) (pairs left : List Pair) (old new : Table) → AreThose (Other pair) pairs left → IsTable puts pairs old
@@ -146,7 +147,7 @@ module _ (book : List Node) (puts : List Put) (wanted : List Pair) where
       unjustified q same justified =
           same (λ e. not_so (subst (IsShownBy book old) (sym e) (justified_shown book puts it.left old it.of q justified)))
 
-  left_by : (pairs : List Pair) (old new : Table) → IsLeftBy pairs old → Deletes book old new → IsLeftBy pairs new
+  pub left_by : (pairs : List Pair) (old new : Table) → IsLeftBy pairs old → Deletes book old new → IsLeftBy pairs new
   left_by pairs old new it nothing = it
   left_by pairs old new it (one_more {mid = mid} pair before not_so removes) =
       one_less pairs pair mid new (left_by pairs old mid it before) not_so removes

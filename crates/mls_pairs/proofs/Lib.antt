@@ -9,3 +9,4 @@ pub mod TableShown
 pub mod Choosing
 pub mod Deletions
 pub mod Sweeping
+pub mod FirstChoice

@@ -3,6 +3,7 @@
 --     those_same                  lists of two kinds that are the same
 --     those_length, those_all, those_smaller      how long it is, and where all is kept
 --     left_first                  what is left
+--     left_has                    it has each wanted pair that is not refuted
 --     left_last                   what is left when nothing is to be deleted
 --     left_inside                 what is left has nodes of the book
 use Rattle.std.proofs.Common.{◌≡◌, ◌↔◌, ◌⊎◌, inl, inr, Bool, true, false, ℕ, zero, suc, ◌<◌, ◌≤◌, List, [], ◌∷◌, ◌++◌, ◌+◌, take, length, refl, sym, ap, subst, arith, Option, Some, None, IsSome}
@@ -271,12 +272,16 @@ module _ (book : List Node) (puts : List Put) (wanted : List Pair) where
   pub left_inside : (pairs : List Pair) → IsLeft book puts wanted pairs → StaysInside book (put_at puts) wanted pairs
   left_inside pairs it = part_inside book (put_at puts) wanted it.first pairs it.within it.whole.inside
 
+  -- each wanted pair is left, or refuted
+  pub left_has : (pairs : List Pair) → IsLeft book puts wanted pairs → (pair : Pair) → Contains wanted pair → Contains pairs pair ⊎ IsRefuted book puts pair
+  left_has pairs it pair there = go (it.either pair (it.whole.closed.has_wanted pair there))
+    where
+      go : Contains pairs pair ⊎ Contains it.gone pair → Contains pairs pair ⊎ IsRefuted book puts pair
+      go (inl h) = inl h
+      go (inr h) = inr (it.refuted pair h)
+
   pub left_last : (pairs left : List Pair) → IsLeft book puts wanted pairs → AreThose (IsJustifiedBy book puts pairs) pairs left → length left ≡ length pairs → IsPairList book puts wanted pairs
   left_last pairs left it those same = record {
     justified = those_all (IsJustifiedBy book puts pairs) pairs left those same;
-    has = λ pair there. go pair (it.either pair (it.whole.closed.has_wanted pair there));
+    has = left_has pairs it;
   }
-    where
-      go : (pair : Pair) → Contains pairs pair ⊎ Contains it.gone pair → Contains pairs pair ⊎ IsRefuted book puts pair
-      go pair (inl h) = inl h
-      go pair (inr h) = inr (it.refuted pair h)

@@ -3,12 +3,14 @@ ghost use Rattle.std.specs.Prelude.{◌≡◌, ◌↔◌, ◌⊎◌, ◌∷◌, 
 ghost use Rattle.mls_book.specs.Books.{AreRising};
 ghost use Rattle.mls_deriv.specs.inner.PairRules.{HasRisingLabels};
 ghost use Rattle.mls_pairs.specs.PairLists.{pair_of};
-ghost use Rattle.mls_pairs.specs.steps.Reasons.{AreEndPairs, BothReason, FieldsReason, IsHeld, IsReasonFor};
-ghost use Rattle.mls_pairs.specs.steps.Reasons.{AreShown, IsChosen, IsReasonOf, IsShownAt, LeftReason, LeftVariable, RightReason};
+ghost use Rattle.mls_pairs.specs.steps.Growth.{IsFound};
+ghost use Rattle.mls_pairs.specs.steps.Reasons.{AddsReason, AreEndPairs, BothReason, FieldsReason, IsChosen, IsHeld};
+ghost use Rattle.mls_pairs.specs.steps.Reasons.{IsReasonFor, IsReasonOf, LeftReason, LeftVariable, RightReason};
 ghost use Rattle.mls_pairs.specs.steps.Reasons.{RightVariable};
-ghost use Rattle.mls_pairs.specs.steps.Rounds.{AreThose, IsShownBy};
+ghost use Rattle.mls_pairs.specs.steps.Rounds.{AreThose};
 
 use crate::found::Found;
+use crate::justify::by_nodes;
 use crate::needs::{exchanged, left_node, node_needs, node_of, push_fields, right_node};
 use crate::pairs::Pairs;
 use crate::thin::add_kept;
@@ -285,21 +287,24 @@ fn by_meet(alloc: Global, table: &Table, pair: Pair, left: &Node) -> Result<Opti
     }
 }
 
-// All pairs of the list that the rules name for these nodes.
+// All pairs of the list that the rules name for these nodes, where the list shows the pair.
 fn by_needs(
     alloc: Global,
     table: &Table,
     pair: Pair,
     left: &Node,
     right: &Node,
-) -> Result<Pairs, Memory>
-    requires shown { IsShownAt table.now pair left.now right.now }
-    requires rising { HasRisingLabels left.now }
-    ensures { IfOk result (IsReasonFor table.now pair left.now right.now) }
+) -> Result<Option<Pairs>, Memory>
+    requires left { HasRisingLabels left.now }
+    requires right { HasRisingLabels right.now }
+    ensures { IfOk result (λ found. IfSome found (IsReasonFor table.now pair left.now right.now)) }
 {
+    if !by_nodes(table, pair.mode, pair.left, pair.right, left, right) {
+        return Ok(None);
+    }
     let needs = node_needs(alloc, table, pair, left, right)?;
     let reason = those_held(alloc, table, needs.as_slice())?;
-    Ok(reason)
+    Ok(Some(reason))
 }
 
 // A reason that the list has, where each side is looked at alone.
@@ -340,46 +345,71 @@ fn by_member(
     Ok(held(table, by_meet(alloc, table, pair, left)?))
 }
 
-// The pairs of one reason that the list has for a pair of these nodes.
+// The pairs of one reason that the list has for a pair of these nodes. The list shows the pair if there is one.
 fn reason_at(
     alloc: Global,
     table: &Table,
     pair: Pair,
     left: &Node,
     right: &Node,
-) -> Result<Pairs, Memory>
-    requires shown { IsShownAt table.now pair left.now right.now }
-    requires rising { HasRisingLabels left.now }
-    ensures { IfOk result (IsReasonFor table.now pair left.now right.now) }
+) -> Result<Option<Pairs>, Memory>
+    requires left { HasRisingLabels left.now }
+    requires right { HasRisingLabels right.now }
+    ensures { IfOk result (λ found. IfSome found (IsReasonFor table.now pair left.now right.now)) }
 {
     if pair.mode == Mode::Pp && pair.left == pair.right {
-        return Ok(Pairs::new(alloc));
-    }
-    if let Some(reason) = by_one(alloc, table, pair, left, right)? {
-        return Ok(reason);
+        return Ok(Some(Pairs::new(alloc)));
     }
     if let Some(reason) = held(table, by_both(alloc, pair, left, right)?) {
-        return Ok(reason);
+        return Ok(Some(reason));
+    }
+    if let Some(reason) = by_one(alloc, table, pair, left, right)? {
+        return Ok(Some(reason));
     }
     if let Some(reason) = by_member(alloc, table, pair, left, right)? {
-        return Ok(reason);
+        return Ok(Some(reason));
     }
     by_needs(alloc, table, pair, left, right)
 }
 
-// The pairs of one reason that the list has for a pair which it shows.
-fn reason_for(alloc: Global, book: &Book, table: &Table, pair: Pair) -> Result<Pairs, Memory>
-    requires { IsShownBy book.now table.now pair }
-    ensures { IfOk result (IsReasonOf book.now table.now pair) }
+// The pairs of one reason that the list has for a pair.
+fn reason_for(
+    alloc: Global,
+    book: &Book,
+    table: &Table,
+    pair: Pair,
+) -> Result<Option<Pairs>, Memory>
+    ensures { IfOk result (λ found. IfSome found (IsReasonOf book.now table.now pair)) }
 {
     let bot = Node::Bot;
     let left = node_of(book, NodeId(pair.left), &bot);
     let right = node_of(book, NodeId(pair.right), &bot);
-    let reason = reason_at(alloc, table, pair, left, right)?;
-    Ok(reason)
+    let found = reason_at(alloc, table, pair, left, right)?;
+    Ok(found)
 }
 
-/// The wanted pairs of a table that shows all of its pairs, and those of one reason for each pair that is left.
+// Adds the pairs of one reason for a pair, and answers whether there is one.
+fn add_reason(
+    chosen: &mut Found,
+    alloc: Global,
+    book: &Book,
+    table: &Table,
+    pair: Pair,
+) -> Result<bool, Memory>
+    requires { IsFound chosen.old }
+    ensures { IfOk result (λ is_there. IsTrue is_there
+        → AddsReason book.now table.now chosen.old chosen.new pair) }
+{
+    match reason_for(alloc, book, table, pair)? {
+        Some(reason) => {
+            chosen.add_all(reason.as_slice())?;
+            Ok(true)
+        }
+        None => Ok(false),
+    }
+}
+
+/// The wanted pairs of a table, and those of one reason for each pair that is chosen, if the table shows each of these.
 ///
 /// # Errors
 ///
@@ -389,9 +419,8 @@ pub(crate) fn chosen_of(
     book: &Book,
     table: &Table,
     wanted: &[Pair],
-) -> Result<Pairs, Memory>
-    requires { AreShown book.now table.now }
-    ensures { IfOk result (IsChosen book.now table.now wanted.now) }
+) -> Result<Option<Pairs>, Memory>
+    ensures { IfOk result (λ found. IfSome found (IsChosen book.now table.now wanted.now)) }
 {
     let held = those_held(alloc, table, wanted)?;
     let mut chosen = Found::new(alloc, &[])?;
@@ -399,9 +428,11 @@ pub(crate) fn chosen_of(
     let mut next = 0;
     while next < chosen.len() {
         let pair = chosen.at(next);
-        let reason = reason_for(alloc, book, table, pair)?;
-        chosen.add_all(reason.as_slice())?;
+        let is_there = add_reason(&mut chosen, alloc, book, table, pair)?;
+        if !is_there {
+            return Ok(None);
+        }
         next += 1;
     }
-    Ok(chosen.pairs)
+    Ok(Some(chosen.pairs))
 }

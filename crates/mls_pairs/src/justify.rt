@@ -138,7 +138,14 @@ fn by_both(table: &Table, mode: Mode, left: &Node, right: &Node) -> bool
 }
 
 /// Whether two nodes show that the one is below the other.
-fn by_nodes(table: &Table, mode: Mode, i: usize, j: usize, left: &Node, right: &Node) -> bool
+pub(crate) fn by_nodes(
+    table: &Table,
+    mode: Mode,
+    i: usize,
+    j: usize,
+    left: &Node,
+    right: &Node,
+) -> bool
     requires left { HasRisingLabels left.now }
     requires right { HasRisingLabels right.now }
     ensures { IsTrue result ↔ ByNodes (put_in table.now) (Holds table.now) mode i j left.now right.now }

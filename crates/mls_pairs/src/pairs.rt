@@ -67,7 +67,20 @@ pub fn pair_list(alloc: Global, book: &Book, puts: &[Put], wanted: &[Pair]) -> R
     Ok(listed.pairs)
 }
 
-/// The same pairs without those that no other one needs: each keeps one of its reasons.
+// What is chosen of the list of `pair_list`.
+fn chosen_of_all(alloc: Global, book: &Book, puts: &[Put], wanted: &[Pair]) -> Result<Pairs, Memory>
+    ensures list { IfOk result (IsPairList book.now puts.now wanted.now) }
+    ensures inside { IfOk result (StaysInside book.now (put_at puts.now) wanted.now) }
+{
+    let listed = listed(alloc, book, puts, wanted)?;
+    match chosen_of(alloc, book, &listed.table, wanted)? {
+        Some(pairs) => Ok(pairs),
+        None => Ok(listed.pairs),
+    }
+}
+
+/// The same pairs without those that no other one needs: each keeps one of its reasons. For the most part one sweep
+/// leaves nothing that is chosen and not shown; what is chosen then justifies itself, so no other sweep is needed.
 ///
 /// # Errors
 ///
@@ -76,7 +89,10 @@ pub fn pairs_for(alloc: Global, book: &Book, puts: &[Put], wanted: &[Pair]) -> R
     ensures list { IfOk result (IsPairList book.now puts.now wanted.now) }
     ensures inside { IfOk result (StaysInside book.now (put_at puts.now) wanted.now) }
 {
-    let listed = listed(alloc, book, puts, wanted)?;
-    let pairs = chosen_of(alloc, book, &listed.table, wanted)?;
-    Ok(pairs)
+    let mut found = gathered(alloc, book, puts, wanted)?;
+    sweep(book, &mut found.table, found.pairs.as_slice());
+    match chosen_of(alloc, book, &found.table, wanted)? {
+        Some(chosen) => Ok(chosen),
+        None => chosen_of_all(alloc, book, puts, wanted),
+    }
 }

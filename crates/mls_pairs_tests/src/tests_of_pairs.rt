@@ -6,7 +6,7 @@ use mls_book::name::Name;
 use mls_deriv::claim::{Pair, Put};
 use mls_deriv::derivation::Mode;
 use mls_pairs::laws::justified_is_not_refuted;
-use mls_pairs::pairs::pair_list;
+use mls_pairs::pairs::{pair_list, pairs_for};
 use std::alloc::Global;
 use std::test::Fail;
 
@@ -135,5 +135,44 @@ fn takes_out_a_chain_of_which_the_last_pair_fails(rt: HostRuntime) -> Result<(),
     assert_eq!(rt; listed_in(alloc, &fails, &[], pair)?, (1, false));
     let holds = chains(alloc, Node::Bool)?;
     assert_eq!(rt; listed_in(alloc, &holds, &[], pair)?, (10, true));
+    Ok(())
+}
+
+// The pair of two nodes that are read plainly.
+fn plain(left: usize, right: usize) -> Pair {
+    Pair {
+        mode: Mode::Pp,
+        left,
+        right,
+    }
+}
+
+// Whether just these pairs are chosen for wanted ones.
+fn chooses(alloc: Global, book: &Book, wanted: &[Pair], pairs: &[Pair]) -> Result<bool, Memory> {
+    let chosen = pairs_for(alloc, book, &[], wanted)?;
+    Ok(chosen.as_slice() == pairs)
+}
+
+#[test]
+fn chooses_one_reason_for_each_pair(rt: HostRuntime) -> Result<(), Fail> {
+    let alloc = rt.alloc();
+    let book = small_book(alloc)?;
+    assert!(rt;
+        chooses(
+            alloc,
+            &book,
+            &[plain(3, 4)],
+            &[plain(3, 4), plain(0, 2), plain(0, 0)]
+        )?
+    );
+    assert!(rt; chooses(alloc, &book, &[plain(4, 3)], &[])?);
+    // The second pair rests on the first one, which fails after the second one is looked at.
+    let mut book = Book::new(alloc);
+    push(&mut book, Node::Bool)?;
+    push(&mut book, Node::Int)?;
+    push(&mut book, Node::Arrow(NodeId(0), NodeId(0)))?;
+    push(&mut book, Node::Arrow(NodeId(0), NodeId(1)))?;
+    let wanted = [plain(0, 1), plain(2, 3), plain(2, 2)];
+    assert!(rt; chooses(alloc, &book, &wanted, &[plain(2, 2)])?);
     Ok(())
 }

@@ -1,14 +1,11 @@
 //! A head with one state for each of its sets.
-ghost use Rattle.std.specs.Prelude.{◌≡◌, ◌<◌, length, map, All, IfOk, OnOk};
-ghost use Rattle.mls_automaton.specs.Automata.{head_at};
-ghost use Rattle.mls_automaton.specs.Heads.{IsSameParts, combined, parts_of};
-ghost use Rattle.mls_automaton.specs.Models.{HasRisingLabels, IsClosed};
+ghost use Rattle.std.specs.Prelude.{◌≡◌, ◌<◌, IfOk, OnOk};
 ghost use Rattle.mls_shape.specs.steps.Registers.{IsRegister, sets_in};
 ghost use Rattle.mls_shape.specs.steps.NumberedHeads.{NumbersSet, NumbersArms, NumbersFunction, NumbersFields};
 ghost use Rattle.mls_shape.specs.steps.NumberedHeads.{NumbersRecord, NumbersHead};
 
 use crate::register::Register;
-use mls_automaton::automaton::{Arms, Automaton, FieldSet, FieldSets, Head, Polarity};
+use mls_automaton::automaton::{Arms, FieldSet, FieldSets, Head, Polarity};
 use mls_automaton::state_set::{StateId, StateSet};
 use mls_base::memory::Memory;
 use mls_book::name::Name;

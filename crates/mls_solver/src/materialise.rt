@@ -1,10 +1,10 @@
 //! The automaton that is solved by the relation of a room.
-ghost use Rattle.std.specs.Prelude.{◌≡◌, ℕ, ◌<◌, List, length, map, All, Contains, IfOk, OnOk};
+ghost use Rattle.std.specs.Prelude.{◌≡◌, ℕ, ◌<◌, List, length, All, Contains, IfOk, OnOk};
 ghost use Rattle.mls_automaton.specs.declared.automaton.Polarity.TheVariants.{Positive, Negative};
 ghost use Rattle.mls_automaton.specs.declared.automaton.State.{State};
-ghost use Rattle.mls_automaton.specs.Automata.{HasFlow, IsState, head_at, polarity_at, with_state};
-ghost use Rattle.mls_automaton.specs.Heads.{IsSameParts, combined, parts_of};
-ghost use Rattle.mls_automaton.specs.Models.{HasRisingLabels, IsClosed};
+ghost use Rattle.mls_automaton.specs.Automata.{HasFlow, IsState, polarity_at, with_state};
+ghost use Rattle.mls_automaton.specs.Heads.{combined};
+ghost use Rattle.mls_automaton.specs.Models.{IsClosed};
 ghost use Rattle.mls_solver.specs.declared.goal.Goal.{Goal};
 ghost use Rattle.mls_solver.specs.Relations.{IsGoal};
 ghost use Rattle.mls_solver.specs.Rooms.{Holds, HoldsStates};
@@ -17,7 +17,7 @@ ghost use Rattle.mls_solver.specs.steps.Solving.{IsTarget};
 use crate::cells::Cells;
 use crate::goal::is_state;
 use crate::room::Room;
-use mls_automaton::automaton::{Automaton, Head, Polarity};
+use mls_automaton::automaton::{Automaton, Polarity};
 use mls_automaton::combine::combined_head;
 use mls_automaton::state_set::StateId;
 use mls_base::memory::Memory;

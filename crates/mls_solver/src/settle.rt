@@ -1,7 +1,7 @@
 //! An automaton is solved in place, by the pairs that are related.
 ghost use Rattle.std.specs.Prelude.{◌≡◌, ◌↔◌, ◌⊎◌, ℕ, ◌<◌, List, [], length, All, Contains, IfOk, OnOk};
 ghost use Rattle.mls_automaton.specs.declared.automaton.Polarity.TheVariants.{Positive, Negative};
-ghost use Rattle.mls_automaton.specs.Automata.{HasFlow, IsPartner, IsState, polarity_at};
+ghost use Rattle.mls_automaton.specs.Automata.{IsState, polarity_at};
 ghost use Rattle.mls_automaton.specs.Models.{IsClosed};
 ghost use Rattle.mls_solver.specs.Rooms.{Holds, HoldsStates};
 ghost use Rattle.mls_solver.specs.Solved.{IsSolved, ReachesBy};

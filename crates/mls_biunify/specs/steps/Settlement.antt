@@ -1,10 +1,11 @@
 -- The heads and edges that settle a table.
-use Rattle.std.specs.Prelude.{◌≡◌, ◌↔◌, ◌⊎◌, ℕ, true, false, List, length, Contains, get_or}
+use Rattle.std.specs.Prelude.{◌≡◌, ◌↔◌, ◌⊎◌, ◌∷◌, ◌++◌, [], ℕ, true, false, List, length, map, Contains, get_or}
 use Rattle.mls_automaton.specs.declared.automaton.Head.{Head}
-use Rattle.mls_automaton.specs.Automata.{Automaton, HasFlow, polarity_at, state_at}
+use Rattle.mls_automaton.specs.Automata.{Automaton, HasFlow, head_at, polarity_at, state_at}
+use Rattle.mls_automaton.specs.Heads.{IsSameParts, combined, parts_of}
 use Rattle.mls_automaton.specs.Models.{HasRisingLabels, HasStatesIn}
 use Rattle.mls_solver.specs.Solved.{IsNewFlow}
-use Rattle.mls_solver.specs.steps.Solving.{IsSolvedState, IsSolvedFlow}
+use Rattle.mls_solver.specs.steps.Solving.{AreMembers, IsSolvedState, IsSolvedFlow}
 use Rattle.mls_biunify.specs.Live.{IsStateIn}
 use Rattle.mls_biunify.specs.steps.Tables.{Numbered}
 
@@ -19,12 +20,24 @@ TouchedBy a pair s = HasFlow a s pair.0 ⊎ HasFlow a pair.1 s
 abbrev pub IsTouched : Automaton → List (ℕ × ℕ) → ℕ → Type 0
 IsTouched a pairs s = GivenBy pairs (TouchedBy a) s
 
--- the new heads of these states
+-- the state has the head of the solved automaton already
+pub record KeepsHead (a : Automaton) (R : ℕ → ℕ → Type 0) (s : ℕ) : Type 0 where
+  pub members : List ℕ
+  pub are : AreMembers a R s members
+  pub parts : IsSameParts (parts_of (head_at a s)) (combined (polarity_at a s) (map (λ j. parts_of (head_at a j)) members))
+
+-- the state keeps its head, or its new one stands behind the others
+abbrev pub AddsHead : Numbered → (ℕ → ℕ → Type 0) → ℕ → List (ℕ × Head) → List (ℕ × Head) → Type 0
+AddsHead t R s old new =
+    ((new ≡ old) × KeepsHead t.automaton R s)
+    ⊎ ((h : Head) × (new ≡ old ++ (s, h) ∷ []) × IsSolvedState t.automaton R s (record { polarity = polarity_at t.automaton s; head = h }))
+
+-- the new heads of these states, but of those that keep theirs
 pub record AreNewHeads (t : Numbered) (R : ℕ → ℕ → Type 0) (states : List ℕ) (heads : List (ℕ × Head)) : Type 0 where
   pub each : (s : ℕ) (h : Head) → Contains heads (s, h)
       → (get_or t.there s false ≡ true)
       × IsSolvedState t.automaton R s (record { polarity = polarity_at t.automaton s; head = h })
-  pub all : (s : ℕ) → Contains states s → (h : Head) × Contains heads (s, h)
+  pub all : (s : ℕ) → Contains states s → ((h : Head) × Contains heads (s, h)) ⊎ KeepsHead t.automaton R s
 
 -- all new edges and no others but some old ones
 pub record AreNewEdges (a : Automaton) (R : ℕ → ℕ → Type 0) (edges : List (ℕ × ℕ)) : Type 0 where

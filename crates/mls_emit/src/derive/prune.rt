@@ -6,6 +6,7 @@ use mls_book::book::{Book, Field, Fields, Node, NodeId};
 use mls_deriv::derivation::{
     BinderNode, BinderNodes, SectionLine, SectionLines, StepLine, StepRule,
 };
+use mls_deriv::env::LONG;
 use std::alloc::Global;
 use std::mem;
 
@@ -15,9 +16,6 @@ pub(crate) struct Written {
     pub(crate) book: Book,
     pub(crate) lines: SectionLines,
 }
-
-// So many binders make an environment long.
-const LONG: usize = 8;
 
 // Which nodes serve, and those of them whose children are still to be marked.
 #[derive(Drop)]
@@ -118,9 +116,7 @@ fn serving(
         todo: Vec::new(alloc),
         last: None,
     };
-    for _ in 0..book.len() {
-        marks.serves.push(false)?;
-    }
+    marks.serves.resize(book.len(), false)?;
     for i in 0..fixed {
         marks.mark(NodeId(i))?;
     }
@@ -147,7 +143,7 @@ struct Numbers {
 impl Numbers {
     // The numbers of the nodes that serve follow each other.
     fn of(alloc: Global, serves: &[bool]) -> Result<Numbers, Memory> {
-        let mut numbers = Vec::new(alloc);
+        let mut numbers = Vec::with_capacity(alloc, serves.len())?;
         let mut count = 0usize;
         for is_kept in serves {
             numbers.push(count)?;
@@ -198,6 +194,9 @@ impl Numbers {
         env: &mut BinderNodes,
         last: &mut LastEnv,
     ) -> Result<(), Memory> {
+        if env.is_empty() {
+            return Ok(());
+        }
         if env.lies_with(&last.old) {
             *env = last.new.copy(alloc)?;
             return Ok(());

@@ -474,7 +474,7 @@ impl Draft {
         self.write_nodes(alloc, &mut writer, nodes, part, posing)?;
         let env = type_env(alloc, at)?;
         let type_root = at.places.node(at.scheme.root.0);
-        let step = writer.adapted(alloc, root, env.as_slice(), type_root)?;
+        let step = writer.adapted(alloc, root, &env, type_root)?;
         let laid = writer.laid;
         self.steps = writer.steps;
         self.book = laid.book;

@@ -62,10 +62,20 @@ AreKnown start end trees known =
 abbrev pub IsRoot : Planned → Polarity → List NodeId → ℕ → Type 0
 IsRoot plan p members i = IsRootIn plan.start plan.trees p members i
 
+-- node i is the one member
+abbrev pub IsOne : List NodeId → ℕ → Type 0
+IsOne [] i = ⊥
+IsOne (one ∷ []) i = i ≡ one.0
+IsOne (one ∷ other ∷ rest) i = ⊥
+
+-- node i is to be the tree of these members, or is the only one, which needs no tree
+abbrev pub IsPlaced : Planned → Polarity → List NodeId → ℕ → Type 0
+IsPlaced plan p members i = IsOne members i ⊎ IsRoot plan p members i
+
 -- node i is to be the tree of just such members
 pub record HasTree (plan : Planned) (p : Polarity) (IsMember : ℕ → Type 0) (i : ℕ) : Type 0 where
   pub members : List NodeId
-  pub root : IsRoot plan p members i
+  pub root : IsPlaced plan p members i
   pub low : i < end_of plan
   pub same : (j : ℕ) → IsNodeIn members j ↔ IsMember j
 

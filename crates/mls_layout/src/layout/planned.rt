@@ -1,7 +1,8 @@
 //! Trees whose numbers are known before they are pushed, so that nodes before them can name them.
-ghost use Rattle.std.specs.Prelude.{◌≡◌, ◌<◌, ◌+◌, [], length, All, IfOk, IfSome, IsTrue, OnOk};
+ghost use Rattle.std.specs.Prelude.{◌≡◌, ◌<◌, ◌+◌, ℕ, [], length, All, IfOk, IfSome, IsTrue, OnOk};
 ghost use Rattle.mls_layout.specs.Trees.{IsNodeIn, tree_root, tree_size};
-ghost use Rattle.mls_layout.specs.steps.Planned.{AddsPlanned, Extends, HasTree, IsRoot, end_of, planned_tree, with_tree};
+ghost use Rattle.mls_layout.specs.steps.Planned.{AddsPlanned, Extends, HasTree, IsOne, IsPlaced, IsRoot, end_of};
+ghost use Rattle.mls_layout.specs.steps.Planned.{planned_tree, with_tree};
 
 use crate::layout::distinct::distinct;
 use crate::tree::{NodeIds, PlannedTree, push_planned};
@@ -68,6 +69,16 @@ fn tree_root(start: usize, end: usize, members: &[NodeId]) -> NodeId
                 NodeId(end - 1)
             }
         }
+    }
+}
+
+// The only member.
+fn only_of(members: &[NodeId]) -> Option<NodeId>
+    ensures { IfSome result (λ id. IsOne members.now id.0) }
+{
+    match members.split_first() {
+        None => None,
+        Some((first, rest)) => { if rest.is_empty() { Some(*first) } else { None } }
     }
 }
 
@@ -154,14 +165,15 @@ impl PlannedTrees {
         Ok(root)
     }
 
-    // The number of the tree of these members. One of several members that is planned already is not planned again.
-    fn root_of(&mut self, polarity: Polarity, members: NodeIds) -> Result<NodeId, Memory>
+    // The number of the tree of these members, of which there is none or more than one. One that is planned already is
+    // not planned again.
+    fn tree_of(&mut self, polarity: Polarity, members: NodeIds) -> Result<NodeId, Memory>
         requires { All (λ id. id.0 < end_of self.old) members }
         ensures extends { OnOk result (Extends self.old self.new) }
         ensures root { IfOk result (λ id. IsRoot self.new polarity members id.0) }
         ensures low { IfOk result (λ id. id.0 < end_of self.new) }
     {
-        if members.len() < 2 {
+        if members.is_empty() {
             let root = self.add(polarity, members)?;
             return Ok(root);
         }
@@ -175,8 +187,25 @@ impl PlannedTrees {
         }
     }
 
-    /// Plans the tree of these members, each once and in the order of their numbers, unless it is planned already, and
-    /// answers its number.
+    // The number of the tree of these members. Of an only member it is the member, and no tree is planned: most sets have
+    // one.
+    fn root_of(&mut self, polarity: Polarity, members: NodeIds) -> Result<NodeId, Memory>
+        requires { All (λ id. id.0 < end_of self.old) members }
+        ensures extends { OnOk result (Extends self.old self.new) }
+        ensures root { IfOk result (λ id. IsPlaced self.new polarity members id.0) }
+        ensures low { IfOk result (λ id. id.0 < end_of self.new) }
+    {
+        match only_of(members.as_slice()) {
+            Some(only) => Ok(only),
+            None => {
+                let root = self.tree_of(polarity, members)?;
+                Ok(root)
+            }
+        }
+    }
+
+    /// Plans the tree of these members, each once and in the order of their numbers, unless it is planned already or has
+    /// one member, and answers its number.
     pub(crate) fn plan(
         &mut self,
         alloc: Global,

@@ -62,9 +62,9 @@ impl Writer {
         let truth = self.asked_type(condition)?;
         let parts = [(condition, truth), (first, into), (second, into)];
         let env = self.env_of_choice(alloc, view, node, parts)?;
-        let asked = self.adapted(alloc, condition, env.as_slice(), truth)?;
-        let yes = self.adapted(alloc, first, env.as_slice(), into)?;
-        let no = self.adapted(alloc, second, env.as_slice(), into)?;
+        let asked = self.reached(alloc, condition, &env, truth)?;
+        let yes = self.reached(alloc, first, &env, into)?;
+        let no = self.reached(alloc, second, &env, into)?;
         let rule = StepRule::If(asked, yes, no);
         self.steps.step(alloc, node, rule, env, into)
     }

@@ -40,7 +40,7 @@ impl Writer {
         let arrow = self.function(view.posing.root(node))?;
         let root = self.own_type(body, arrow.to)?;
         let own = self.offered(alloc, view, body, root)?;
-        let step = self.adapted(alloc, body, own.as_slice(), root)?;
+        let step = self.adapted(alloc, body, &own, root)?;
         let domain = match node_of(own.as_slice(), x) {
             Some(domain) => domain,
             None => self.greatest()?,
@@ -75,7 +75,7 @@ impl Writer {
         let root = self.place(view.posing.root(body));
         let offer = self.offered(alloc, view, body, root)?;
         let inner = with(alloc, offer.as_slice(), x, root)?;
-        let step = self.adapted(alloc, body, inner.as_slice(), root)?;
+        let step = self.adapted(alloc, body, &inner, root)?;
         let env = without(alloc, offer.as_slice(), x)?;
         let own = self
             .steps
@@ -121,8 +121,8 @@ impl Writer {
             (function, arrow.node),
             (argument, own),
         )?;
-        let is_there = is_own && self.has_env(function, arrow.node, env.as_slice());
-        if is_there || own == arrow.from || !self.has_env(argument, own, env.as_slice()) {
+        let is_there = is_own && self.has_env(function, arrow.node, &env);
+        if is_there || own == arrow.from || !self.has_env(argument, own, &env) {
             return Ok(Applied { arrow, env });
         }
         let arrow = ArrowNode {
@@ -148,8 +148,8 @@ impl Writer {
         ensures { OnOk result (Lengthens self.old.laid self.new.laid) }
     {
         let Applied { arrow, env } = self.met(alloc, view, node, function, argument)?;
-        let first = self.adapted(alloc, function, env.as_slice(), arrow.node)?;
-        let second = self.adapted(alloc, argument, env.as_slice(), arrow.from)?;
+        let first = self.reached(alloc, function, &env, arrow.node)?;
+        let second = self.reached(alloc, argument, &env, arrow.from)?;
         self.steps
             .step(alloc, node, StepRule::App(first, second), env, arrow.to)
     }

@@ -18,6 +18,11 @@ use mls_book::book::{Node, NodeId};
 use mls_deriv::derivation::{BinderNode, BinderNodes};
 use std::alloc::Global;
 
+// Whether both are the same environment. Long ones lie in one place for the most part.
+fn is_that(env: &BinderNodes, other: &BinderNodes) -> bool {
+    env.lies_with(other) || are_same(env.as_slice(), other.as_slice())
+}
+
 /// How many nodes the meet of a binder's nodes may have. What a step by pairs looks at grows with the square.
 pub const MEMBERS: usize = 8;
 
@@ -84,13 +89,13 @@ impl Writer {
     }
 
     /// Whether a node has this environment at this type without a step by pairs.
-    pub fn has_env(&self, node: usize, root: NodeId, env: &[BinderNode]) -> bool {
+    pub fn has_env(&self, node: usize, root: NodeId, env: &BinderNodes) -> bool {
         match self.concluded.get(node) {
-            Some(Concluded::Bound(x)) => match env {
+            Some(Concluded::Bound(x)) => match env.as_slice() {
                 [only] => only.binder == *x && only.node == root,
                 _ => false,
             },
-            Some(Concluded::Step(of)) => of.puts.is_empty() && are_same(of.env.as_slice(), env),
+            Some(Concluded::Step(of)) => of.puts.is_empty() && is_that(&of.env, env),
             None => false,
         }
     }

@@ -188,9 +188,7 @@ impl Writer {
         let env = self.placed(alloc, view, inner.env.as_slice())?;
         let root = self.place(view.posing.root(node));
         let book = &self.laid.book;
-        let own = self
-            .steps
-            .adapt(alloc, book, node, inner, env.as_slice(), root)?;
+        let own = self.steps.adapt(alloc, book, node, inner, &env, root)?;
         Ok(own)
     }
 

@@ -17,7 +17,7 @@ use crate::steps::Conclusion;
 use crate::writer::{Concluded, PartView, Writer};
 use mls_base::memory::Memory;
 use mls_book::book::{Node, NodeId};
-use mls_deriv::derivation::{BinderNode, StepRule};
+use mls_deriv::derivation::{BinderNodes, StepRule};
 use std::alloc::Global;
 
 /// A node that is a function, with its domain and its codomain.
@@ -254,7 +254,7 @@ impl Writer {
         &mut self,
         alloc: Global,
         node: usize,
-        env: &[BinderNode],
+        env: &BinderNodes,
         root: NodeId,
     ) -> Result<usize, Memory>
         ensures laid { OnOk result (self.new.laid ≡ self.old.laid) }
@@ -265,5 +265,42 @@ impl Writer {
         let book = &self.laid.book;
         let to = self.steps.adapt(alloc, book, node, from, env, root)?;
         Ok(to.step)
+    }
+
+    // The step of a node that has this type already, and its environment in this place.
+    fn step_there(&self, node: usize, env: &BinderNodes, root: NodeId) -> Option<usize> {
+        match self.concluded.get(node) {
+            Some(Concluded::Step(of)) => {
+                if of.puts.is_empty() && of.root == root && of.env.lies_with(env) {
+                    Some(of.step)
+                } else {
+                    None
+                }
+            }
+            _ => None,
+        }
+    }
+
+    /// The same for lines that are checked when all are written: long environments that lie in one place are not
+    /// compared, of which no contract tells.
+    ///
+    /// # Errors
+    ///
+    /// `Memory` where memory is wanting.
+    pub fn reached(
+        &mut self,
+        alloc: Global,
+        node: usize,
+        env: &BinderNodes,
+        root: NodeId,
+    ) -> Result<usize, Memory>
+        ensures { OnOk result (self.new.laid ≡ self.old.laid) }
+    {
+        if let Some(step) = self.step_there(node, env, root) {
+            self.take_concluded(node)?;
+            return Ok(step);
+        }
+        let step = self.adapted(alloc, node, env, root)?;
+        Ok(step)
     }
 }

@@ -15,7 +15,7 @@ use mls_base::list::List;
 use mls_base::memory::Memory;
 use mls_book::book::{Field, Fields, Node, NodeId};
 use mls_book::name::Name;
-use mls_deriv::derivation::{BinderNode, BinderNodes, StepRule};
+use mls_deriv::derivation::{BinderNodes, StepRule};
 use mls_layout::tree::NodeIds;
 use mls_pairs::labelled::labelled;
 use mls_term::term::Part;
@@ -179,7 +179,7 @@ impl Writer {
         &mut self,
         alloc: Global,
         fields: &[NodeId],
-        env: &[BinderNode],
+        env: &BinderNodes,
         parts: &[Part],
     ) -> Result<List<usize>, Memory>
         requires { length parts.now ≤ length fields.now }
@@ -240,7 +240,7 @@ impl Writer {
         let fields = self.fields(alloc, record, parts)?;
         let own = self.own_fields(alloc, fields.as_slice(), parts)?;
         let env = self.env_of_parts(alloc, view, own.as_slice(), parts)?;
-        let steps = self.parts(alloc, own.as_slice(), env.as_slice(), parts)?;
+        let steps = self.parts(alloc, own.as_slice(), &env, parts)?;
         let root = match own.as_slice() == fields.as_slice() {
             true => record,
             false => self.own_record(alloc, record, parts, own.as_slice())?,
@@ -284,7 +284,7 @@ impl Writer {
     {
         let (record, field) = self.projected(view, node, body, label)?;
         let env = self.offered(alloc, view, body, record)?;
-        let step = self.adapted(alloc, body, env.as_slice(), record)?;
+        let step = self.reached(alloc, body, &env, record)?;
         self.steps
             .step(alloc, node, StepRule::Proj(step), env, field)
     }

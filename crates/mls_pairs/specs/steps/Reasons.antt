@@ -8,19 +8,15 @@ use Rattle.mls_deriv.specs.declared.derivation.Mode.{Mode}
 use Rattle.mls_deriv.specs.declared.claim.Pair.{Pair}
 use Rattle.mls_deriv.specs.declared.table.Table.{Table}
 use Rattle.mls_deriv.specs.Pairs.{Claims, exchanged}
-use Rattle.mls_deriv.specs.inner.PairRules.{AllLabelsFit, ByBoth, ByLeft, ByNodes, ByRight, IsShown}
+use Rattle.mls_deriv.specs.inner.PairRules.{AllLabelsFit, ByBoth, ByLeft, ByNodes, ByRight}
 use Rattle.mls_deriv.specs.inner.Tables.{Holds, put_in}
 use Rattle.mls_pairs.specs.declared.found.Found.{Found}
 use Rattle.mls_pairs.specs.PairLists.{pair_of}
-use Rattle.mls_pairs.specs.steps.Growth.{IsFound}
+use Rattle.mls_pairs.specs.steps.Growth.{Finds, IsFound}
 
 -- the table has the pair
 abbrev pub IsHeld : Table → Pair → Type 0
 IsHeld table pair = Holds table pair.mode pair.left pair.right
-
--- the table shows all of its pairs
-abbrev pub AreShown : List Node → Table → Type 0
-AreShown book table = (pair : Pair) → IsHeld table pair → IsShown book (put_in table) (Holds table) pair.mode pair.left pair.right
 
 -- the table shows a pair of these nodes
 abbrev pub IsShownAt : Table → Pair → (left right : Node) → Type 0
@@ -60,6 +56,10 @@ pub record IsReasonFor (table : Table) (pair : Pair) (left right : Node) (reason
 
 abbrev pub IsReasonOf : List Node → Table → Pair → List Pair → Type 0
 IsReasonOf book table pair reason = IsReasonFor table pair (node_at book pair.left) (node_at book pair.right) reason
+
+-- the list has the pairs of one reason for this pair, behind those that it had
+abbrev pub AddsReason : List Node → Table → (old new : Found) → Pair → Type 0
+AddsReason book table old new pair = (reason : List Pair) × IsReasonOf book table pair reason × Finds old new reason
 
 -- the list shows its first pairs, up to this number
 abbrev pub AreReasoned : List Node → (ℕ → Option ℕ) → ℕ → List Pair → Type 0

@@ -6,7 +6,7 @@ use Rattle.mls_biunify.proofs.keep.unfound.Goals as goal
 
 pub loop-s-init : goal.loop-s-init
 loop-s-init c =
-    subst (λ (xs : List ℕ). (j : ℕ) → Contains xs j ↔ Contains [] j ⊎ ByOne (take 0 c.args.states.now) (λ s k. (k ≡ s) × (Contains c.args.found.now k → ⊥)) j) (sym c.new-gone.ensures.items)
+    subst (λ (xs : List ℕ). (j : ℕ) → Contains xs j ↔ Contains [] j ⊎ ByOne (take 0 c.args.states.now) (λ s k. (k ≡ s) × (Contains c.args.found.now k → ⊥)) j) (sym c.in_ok-gone.ensures.items)
     (grow-none (λ s k. (k ≡ s) × (Contains c.args.found.now k → ⊥)) [] c.args.states.now)
 
 pub loop-s-preserved : goal.loop-s-preserved

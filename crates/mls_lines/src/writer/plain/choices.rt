@@ -78,9 +78,9 @@ impl Writer {
         let truth = self.laid.boolean;
         let into = self.place(state);
         let env = self.env_of_parts_of_choice(alloc, view, condition, first, second, into)?;
-        let asked = self.adapted(alloc, condition, env.as_slice(), truth)?;
-        let yes = self.adapted(alloc, first, env.as_slice(), into)?;
-        let no = self.adapted(alloc, second, env.as_slice(), into)?;
+        let asked = self.adapted(alloc, condition, &env, truth)?;
+        let yes = self.adapted(alloc, first, &env, into)?;
+        let no = self.adapted(alloc, second, &env, into)?;
         let rule = StepRule::If(asked, yes, no);
         let own = self.steps.step(alloc, node, rule, env, into)?;
         Ok(own)

@@ -38,7 +38,7 @@ impl Writer {
         let arrow = self.function(view.posing.root(node))?;
         let offer = self.offered(alloc, view, body, arrow.to)?;
         let inner = with(alloc, offer.as_slice(), x, arrow.from)?;
-        let step = self.adapted(alloc, body, inner.as_slice(), arrow.to)?;
+        let step = self.adapted(alloc, body, &inner, arrow.to)?;
         let env = without(alloc, offer.as_slice(), x)?;
         let rule = StepRule::Fun(step);
         let own = self.steps.step(alloc, node, rule, env, arrow.node)?;
@@ -71,8 +71,8 @@ impl Writer {
         let left = self.offered(alloc, view, function, arrow.node)?;
         let right = self.offered(alloc, view, argument, arrow.from)?;
         let env = self.joined(alloc, view, left.as_slice(), right.as_slice())?;
-        let first = self.adapted(alloc, function, env.as_slice(), arrow.node)?;
-        let second = self.adapted(alloc, argument, env.as_slice(), arrow.from)?;
+        let first = self.adapted(alloc, function, &env, arrow.node)?;
+        let second = self.adapted(alloc, argument, &env, arrow.from)?;
         let rule = StepRule::App(first, second);
         let own = self.steps.step(alloc, node, rule, env, arrow.to)?;
         Ok(own)

@@ -38,7 +38,7 @@ impl Writer {
         let record = self.record(view.posing.root(node))?;
         let fields = self.fields(alloc, record, parts)?;
         let env = self.env_of_parts(alloc, view, fields.as_slice(), parts)?;
-        let steps = self.parts(alloc, fields.as_slice(), env.as_slice(), parts)?;
+        let steps = self.parts(alloc, fields.as_slice(), &env, parts)?;
         let rule = StepRule::Make(steps);
         let own = self.steps.step(alloc, node, rule, env, record)?;
         Ok(own)
@@ -69,7 +69,7 @@ impl Writer {
         let record = self.record(goal)?;
         let field = self.field(record, label)?;
         let env = self.offered(alloc, view, body, record)?;
-        let step = self.adapted(alloc, body, env.as_slice(), record)?;
+        let step = self.adapted(alloc, body, &env, record)?;
         let rule = StepRule::Proj(step);
         let own = self.steps.step(alloc, node, rule, env, field)?;
         Ok(own)

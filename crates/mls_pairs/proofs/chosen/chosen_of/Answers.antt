@@ -1,7 +1,7 @@
 use Rattle.std.proofs.Common.{◌<◌, ◌≤◌, List, length, rules, subst}
 use Rattle.mls_deriv.specs.declared.claim.Pair.{Pair}
 use Rattle.mls_pairs.specs.steps.Growth.{Finds}
-use Rattle.mls_pairs.proofs.Choosing.{choosing_first, choosing_next, choosing_shown, choosing_last}
+use Rattle.mls_pairs.proofs.Choosing.{choosing_first, choosing_next, choosing_last}
 use Rattle.mls_pairs.proofs.chosen.chosen_of.Goals as goal
 
 pub loop-next-init : goal.loop-next-init
@@ -9,17 +9,15 @@ loop-next-init c =
     choosing_first c.args.book.now c.args.table.now c.args.wanted.now c.in_ok-held.held c.in_ok-chosen.chosen c.add_all.new.self c.in_ok-chosen.ensures.empty c.in_ok-held.ensures
     (subst (λ (l : List Pair). Finds c.in_ok-chosen.chosen c.add_all.new.self l) c.as_slice.ensures c.in_ok-add_all.ensures)
 
-pub reason_for-requires : goal.reason_for-requires
-reason_for-requires c =
-    let low : c.loop-next.next < length c.loop-next.chosen.pairs = search rules in
-    choosing_shown c.args.book.now c.args.table.now c.args.wanted.now c.loop-next.next c.loop-next.chosen c.requires c.loop-next.invariant c.at-pair.result (c.loop-next.next, low, c.at-pair.ensures)
+pub add_reason-requires : goal.add_reason-requires
+add_reason-requires c = c.loop-next.invariant.is
 
 pub loop-next-preserved : goal.loop-next-preserved
 loop-next-preserved c =
     let low : c.loop-next.next < length c.loop-next.chosen.pairs = search rules in
-    choosing_next c.args.book.now c.args.table.now c.args.wanted.now c.in_ok-reason.reason c.loop-next.chosen c.add_all-in-loop-next.new.self c.loop-next.next c.at-pair.result low
-    c.at-pair.ensures c.loop-next.invariant c.in_ok-reason.ensures
-    (subst (λ (l : List Pair). Finds c.loop-next.chosen c.add_all-in-loop-next.new.self l) c.as_slice-in-loop-next.ensures c.in_ok-add_all-2.ensures)
+    let added = c.in_ok-is_there.ensures c.if-not-is_there.false in
+    choosing_next c.args.book.now c.args.table.now c.args.wanted.now added.0 c.loop-next.chosen c.add_reason.new.chosen c.loop-next.next c.at-pair.result low
+    c.at-pair.ensures c.loop-next.invariant added.1 added.2
 
 pub returns : goal.returns
 returns c =

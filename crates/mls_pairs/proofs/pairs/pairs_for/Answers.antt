@@ -1,16 +1,18 @@
-use Rattle.mls_pairs.proofs.Choosing.{chosen_list, chosen_inside, table_shown}
+use Rattle.std.proofs.Common.{List, subst}
+use Rattle.std.specs.Prelude.{IfSome, Option}
+use Rattle.mls_deriv.specs.declared.claim.Pair.{Pair}
+use Rattle.mls_pairs.specs.steps.Reasons.{IsChosen}
+use Rattle.mls_pairs.proofs.FirstChoice.{first_inside, first_list}
 use Rattle.mls_pairs.proofs.pairs.pairs_for.Goals as goal
 
-pub chosen_of-requires : goal.chosen_of-requires
-chosen_of-requires c =
-    table_shown c.args.book.now c.args.puts.now c.in_ok-listed.listed.pairs c.in_ok-listed.listed.table c.in_ok-listed.ensures.table c.in_ok-listed.ensures.pairs.justified
+pub returns-in-Some-clause-list : goal.returns-in-Some-clause-list
+returns-in-Some-clause-list c =
+    first_list c.args.book.now c.args.puts.now c.args.wanted.now c.in_ok-found.found.pairs c.in_ok-found.found.table c.sweep.new.table c.in_ok-found.ensures.whole c.in_ok-found.ensures.table
+    c.sweep.ensures.deletes c.in-Some.chosen
+    (subst (λ (o : Option (List Pair)). IfSome o (IsChosen c.args.book.now c.sweep.new.table c.args.wanted.now)) c.in-Some.is c.in_ok-chosen.ensures)
 
-pub returns-clause-list : goal.returns-clause-list
-returns-clause-list c =
-    chosen_list c.args.book.now c.args.puts.now c.in_ok-listed.listed.pairs c.in_ok-listed.listed.table c.in_ok-listed.ensures.table c.args.wanted.now c.in_ok-pairs.pairs
-    c.in_ok-listed.ensures.pairs c.in_ok-pairs.ensures
-
-pub returns-clause-inside : goal.returns-clause-inside
-returns-clause-inside c =
-    chosen_inside c.args.book.now c.args.puts.now c.in_ok-listed.listed.pairs c.in_ok-listed.listed.table c.in_ok-listed.ensures.table c.args.wanted.now c.in_ok-pairs.pairs
-    c.in_ok-listed.ensures.inside c.in_ok-pairs.ensures
+pub returns-in-Some-clause-inside : goal.returns-in-Some-clause-inside
+returns-in-Some-clause-inside c =
+    first_inside c.args.book.now c.args.puts.now c.args.wanted.now c.in_ok-found.found.pairs c.in_ok-found.found.table c.sweep.new.table c.in_ok-found.ensures.whole c.in_ok-found.ensures.table
+    c.sweep.ensures.deletes c.in-Some.chosen
+    (subst (λ (o : Option (List Pair)). IfSome o (IsChosen c.args.book.now c.sweep.new.table c.args.wanted.now)) c.in-Some.is c.in_ok-chosen.ensures)

@@ -9,7 +9,7 @@ pub returns-then-are_same : goal.returns-then-are_same
 returns-then-are_same c = λ rising counted stands.
     let same : c.args.from.root.0 ≡ c.args.root.0 = (Decides-eqb c.args.from.root.0 c.args.root.0).0 (sym c.eq.ensures ∙ c.if-eq.true) in
     stays_adapted c.args.book.now c.args.self.now c.args.node c.args.from c.args.env.now c.args.root counted
-    (c.is_empty.ensures.0 c.if-is_empty.true) (λ n. record { 0 = same n }) (sym c.as_slice.ensures ∙ c.are_same.ensures c.if-are_same.true)
+    (c.is_empty.ensures.0 c.if-is_empty.true) (λ n. record { 0 = same n }) (sym c.as_slice.ensures ∙ (c.are_same.ensures c.if-are_same.true ∙ c.as_slice-then-eq.ensures))
 
 pub returns : goal.returns
 returns c = λ rising counted stands.

@@ -1,4 +1,4 @@
-use Rattle.std.proofs.Common.{◌∙◌, List, [], ◌∷◌, ◌++◌, append_assoc, subst}
+use Rattle.std.proofs.Common.{◌∙◌, List, [], ◌∷◌, ◌++◌, append_assoc, subst, sym}
 use Rattle.mls_deriv.specs.declared.claim.Pair.{Pair}
 use Rattle.mls_deriv.specs.declared.claim.Put.{Put}
 use Rattle.mls_deriv.specs.declared.derivation.SectionLine.{SectionLine}
@@ -6,6 +6,7 @@ use Rattle.mls_deriv.specs.declared.derivation.SectionLine.TheVariants as line
 use Rattle.mls_deriv.specs.declared.derivation.StepLine.{StepLine}
 use Rattle.mls_deriv.specs.declared.derivation.StepRule.TheVariants as rule
 use Rattle.mls_deriv.specs.Pairs.{put_at}
+use Rattle.mls_deriv.specs.Steps.{IsRising}
 use Rattle.mls_lines.specs.Stepping.{pairs_over}
 use Rattle.mls_pairs.specs.Lines.{pair_lines, put_lines}
 use Rattle.mls_pairs.specs.PairLists.{IsPairList, StaysInside}
@@ -16,7 +17,8 @@ returns c = λ rising.
     let from = c.args.from.now in
     let book = c.args.book.now in
     let old : List SectionLine = c.args.self.now.lines in
-    let asked = c.as_slice.ensures ∙ c.in_ok-wanted.ensures rising in
+    let binders = c.as_slice-binders.ensures in
+    let asked = c.as_slice.ensures ∙ (c.in_ok-wanted.ensures (subst IsRising (sym binders) rising) ∙ (λ n. pairs_over from.env (binders n) from.root.0 c.args.root.0)) in
     let pairs : List Pair = c.in_ok-pairs.pairs in
     let wanted : List Pair = pairs_over from.env c.args.env.now from.root.0 c.args.root.0 in
     let to = c.in_ok-to.ensures in

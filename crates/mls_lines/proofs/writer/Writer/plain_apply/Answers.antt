@@ -3,7 +3,7 @@ use Rattle.mls_deriv.specs.declared.derivation.BinderNode.{BinderNode}
 use Rattle.mls_deriv.specs.Steps.{IsRising}
 use Rattle.mls_parts.specs.Posings.{root_in}
 use Rattle.mls_lines.specs.Conclusions.{IsJoined}
-use Rattle.mls_lines.specs.Writer.{BringsNode, HasLowEnv, own_node}
+use Rattle.mls_lines.specs.Writer.{HasLowEnv, own_node}
 use Rattle.mls_layout.specs.declared.layout.LaidOut.{LaidOut}
 use Rattle.mls_lines.proofs.LowNodes.{arrow_low, two_low, up}
 use Rattle.mls_lines.proofs.GoingOn.{sound_grown, sound_brought}
@@ -28,12 +28,10 @@ returns-clause-writes c = λ k parts sound have posed.
     let now = sound_grown w grown grows sound in
     let all = arrow_low w.laid.book sound.closed arrow.node.0 arrow.from arrow.to c.in_ok-arrow.ensures.node in
     let low = two_low w grown p sound grows c.args.function c.args.argument arrow.node.0 arrow.from.0 c.in_ok-left.left c.in_ok-right.right c.in_ok-env.env left right all.0 all.1 joins in
-    let it = subst (λ (d : List BinderNode). BringsNode grown once c.args.function d arrow.node c.in_ok-first.first) c.as_slice-3.ensures
-    (c.in_ok-first.ensures.brings (subst IsRising (sym c.as_slice-3.ensures) joins.rising) now (subst (HasLowEnv (length grown.laid.book)) (sym c.as_slice-3.ensures) low) (up w grown p sound grows arrow.node.0 all.0)) in
+    let it = c.in_ok-first.ensures.brings joins.rising now low (up w grown p sound grows arrow.node.0 all.0) in
     let then_now = sound_brought grown once c.args.function c.in_ok-env.env arrow.node c.in_ok-first.first it now in
-    let later = subst (λ (d : List BinderNode). BringsNode once twice c.args.argument d arrow.from c.in_ok-second.second) c.as_slice-4.ensures
-    (c.in_ok-second.ensures.brings (subst IsRising (sym c.as_slice-4.ensures) joins.rising) then_now (subst (HasLowEnv (length once.laid.book)) (sym c.as_slice-4.ensures) (subst (λ (l : LaidOut). HasLowEnv (length l.book) c.in_ok-env.env) (sym it.laid) low))
-    (subst (λ (l : LaidOut). arrow.from.0 < length l.book) (sym it.laid) (up w grown p sound grows arrow.from.0 all.1))) in
+    let later = c.in_ok-second.ensures.brings joins.rising then_now (subst (λ (l : LaidOut). HasLowEnv (length l.book) c.in_ok-env.env) (sym it.laid) low)
+    (subst (λ (l : LaidOut). arrow.from.0 < length l.book) (sym it.laid) (up w grown p sound grows arrow.from.0 all.1)) in
     let goal_is : c.in_ok-goal.goal ≡ suc (suc (root_in p c.args.node)) =
     let raised : c.in_ok-goal.goal ≡ 2 + c.root.result = c.in_ok-goal.ensures in
     let root : c.root.result ≡ root_in p c.args.node = c.root.ensures in

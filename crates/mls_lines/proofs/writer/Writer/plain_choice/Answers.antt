@@ -1,8 +1,6 @@
-use Rattle.std.proofs.Common.{◌∙◌, ◌<◌, List, length, refl, sym, ap, subst}
+use Rattle.std.proofs.Common.{◌∙◌, ◌<◌, length, refl, sym, ap, subst}
 use Rattle.mls_book.specs.declared.book.NodeId.{NodeId}
-use Rattle.mls_deriv.specs.declared.derivation.BinderNode.{BinderNode}
-use Rattle.mls_deriv.specs.Steps.{IsRising}
-use Rattle.mls_lines.specs.Writer.{BringsNode, HasLowEnv}
+use Rattle.mls_lines.specs.Writer.{HasLowEnv}
 use Rattle.mls_book.specs.declared.book.Node.TheVariants as node
 use Rattle.mls_layout.specs.declared.layout.LaidOut.{LaidOut}
 use Rattle.mls_lines.proofs.LowNodes.{there_low, three_low, up}
@@ -30,16 +28,13 @@ returns-clause-writes c = λ k parts sound have posed.
     let top_low : top.0 < length w.laid.book = subst (λ n. n < length w.laid.book) (sym place) (sound.places c.result_of-state.result) in
     let low = three_low w grown p sound grows c.args.condition c.args.first c.args.second truth.0 top.0 c.in_ok-env.env joins truth_low top_low in
     let top_up = up w grown p sound grows top.0 top_low in
-    let it = subst (λ (d : List BinderNode). BringsNode grown once c.args.condition d truth c.in_ok-asked.asked) c.as_slice.ensures
-    (c.in_ok-asked.ensures.brings (subst IsRising (sym c.as_slice.ensures) rising) now (subst (HasLowEnv (length grown.laid.book)) (sym c.as_slice.ensures) low) (up w grown p sound grows truth.0 truth_low)) in
+    let it = c.in_ok-asked.ensures.brings rising now low (up w grown p sound grows truth.0 truth_low) in
     let then_now = sound_brought grown once c.args.condition c.in_ok-env.env truth c.in_ok-asked.asked it now in
-    let later = subst (λ (d : List BinderNode). BringsNode once twice c.args.first d top c.in_ok-yes.yes) c.as_slice-2.ensures
-    (c.in_ok-yes.ensures.brings (subst IsRising (sym c.as_slice-2.ensures) rising) then_now (subst (HasLowEnv (length once.laid.book)) (sym c.as_slice-2.ensures) (subst (λ (l : LaidOut). HasLowEnv (length l.book) c.in_ok-env.env) (sym it.laid) low))
-    (subst (λ (l : LaidOut). top.0 < length l.book) (sym it.laid) top_up)) in
+    let later = c.in_ok-yes.ensures.brings rising then_now (subst (λ (l : LaidOut). HasLowEnv (length l.book) c.in_ok-env.env) (sym it.laid) low)
+    (subst (λ (l : LaidOut). top.0 < length l.book) (sym it.laid) top_up) in
     let last_now = sound_brought once twice c.args.first c.in_ok-env.env top c.in_ok-yes.yes later then_now in
-    let latest = subst (λ (d : List BinderNode). BringsNode twice thrice c.args.second d top c.in_ok-no.no) c.as_slice-3.ensures
-    (c.in_ok-no.ensures.brings (subst IsRising (sym c.as_slice-3.ensures) rising) last_now (subst (HasLowEnv (length twice.laid.book)) (sym c.as_slice-3.ensures) (subst (λ (l : LaidOut). HasLowEnv (length l.book) c.in_ok-env.env) (sym (later.laid ∙ it.laid)) low))
-    (subst (λ (l : LaidOut). top.0 < length l.book) (sym (later.laid ∙ it.laid)) top_up)) in
+    let latest = c.in_ok-no.ensures.brings rising last_now (subst (λ (l : LaidOut). HasLowEnv (length l.book) c.in_ok-env.env) (sym (later.laid ∙ it.laid)) low)
+    (subst (λ (l : LaidOut). top.0 < length l.book) (sym (later.laid ∙ it.laid)) top_up) in
     choice_writes c.args.view.now.globals.now c.args.view.now.firsts.now c.args.view.now.known.now.lets k p parts c.args.node w sound grown once twice thrice _ grows c.args.condition c.args.first c.args.second truth top c.in_ok-env.env
     c.in_ok-asked.asked c.in_ok-yes.yes c.in_ok-no.no it later latest c.in_ok-own.own refl refl c.result_of-state.result posed c.result_of-state.ensures have refl place joins c.in_ok-own.ensures
 

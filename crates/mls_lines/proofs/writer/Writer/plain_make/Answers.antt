@@ -1,11 +1,8 @@
 use Rattle.std.proofs.Common.{◌∙◌, ◌<◌, ◌≤◌, length, List, [], refl, sym, ap, subst, None, get_or}
-use Rattle.mls_deriv.specs.declared.derivation.BinderNode.{BinderNode}
-use Rattle.mls_deriv.specs.Steps.{IsRising}
 use Rattle.mls_parts.specs.Posings.{root_in}
 use Rattle.mls_book.specs.declared.book.Field.{Field}
 use Rattle.mls_book.specs.declared.book.NodeId.{NodeId}
-use Rattle.mls_lines.specs.PlainRecords.{AreFieldsOf, BringsParts}
-use Rattle.mls_lines.specs.Writer.{HasLowEnv}
+use Rattle.mls_lines.specs.PlainRecords.{AreFieldsOf}
 use Rattle.mls_lines.proofs.LowNodes.{fields_low, parts_low, up}
 use Rattle.std.specs.Prelude.{All}
 use Rattle.mls_lines.proofs.GoingOn.{sound_grown}
@@ -36,9 +33,7 @@ returns-clause-writes c = λ k places sound have.
     let low = parts_low w grown p sound grows id.0 fields c.args.parts.now c.in_ok-env.env is joined in
     let fields_are_low = fields_low w.laid.book sound.closed id.0 fields is in
     let all : All (λ (f : Field). f.node.0 < length grown.laid.book) fields = λ i d h. up w grown p sound grows (get_or fields i d).node.0 (fields_are_low i d h) in
-    let it = subst (λ (d : List BinderNode). BringsParts grown now d fields c.args.parts.now c.in_ok-steps.steps) c.as_slice-3.ensures
-    (c.in_ok-steps.ensures.brings fields (subst (AreFieldsOf fields c.args.parts.now) (sym c.as_slice-2.ensures) are) (sound_grown w grown grows sound) (subst IsRising (sym c.as_slice-3.ensures) rising)
-    (subst (HasLowEnv (length grown.laid.book)) (sym c.as_slice-3.ensures) low) all) in
+    let it = c.in_ok-steps.ensures.brings fields (subst (AreFieldsOf fields c.args.parts.now) (sym c.as_slice-2.ensures) are) (sound_grown w grown grows sound) rising low all in
     let there = have.records (root_in p c.args.node) id (ap (λ s. get_or w.laid.own.records s None) (sym c.root.ensures) ∙ c.in_ok-record.ensures) in
     make_writes c.args.view.now.globals.now c.args.view.now.firsts.now c.args.view.now.known.now.lets k p places c.args.node w grown now _ grows fields c.args.parts.now c.in_ok-env.env c.in_ok-steps.steps joined it c.in_ok-own.own refl refl id sound there is c.in_ok-own.ensures
 

@@ -1,8 +1,5 @@
-use Rattle.std.proofs.Common.{◌≡◌, ◌∙◌, ◌+◌, suc, arith, List, refl, sym, ap, subst, None, get_or, length}
-use Rattle.mls_deriv.specs.declared.derivation.BinderNode.{BinderNode}
-use Rattle.mls_deriv.specs.Steps.{IsRising}
+use Rattle.std.proofs.Common.{◌≡◌, ◌∙◌, ◌+◌, suc, arith, refl, sym, ap, None, get_or}
 use Rattle.mls_parts.specs.Posings.{root_in}
-use Rattle.mls_lines.specs.Writer.{BringsNode, HasLowEnv}
 use Rattle.mls_lines.proofs.LowNodes.{offers_low, there_low}
 use Rattle.mls_book.specs.declared.book.Node.TheVariants as node
 use Rattle.mls_lines.proofs.PlainForms.{project_writes}
@@ -16,8 +13,7 @@ returns-clause-writes c = λ k parts sound have posed.
     let offers = c.in_ok-env.ensures sound.rising in
     let record_low = there_low w.laid.book record_node.0 (node.Rcd c.in_ok-field.ensures.0) (λ no. absurd (cc)) c.in_ok-field.ensures.1 in
     let low = offers_low w p sound c.args.body record_node.0 c.in_ok-env.env record_low offers in
-    let it = subst (λ (d : List BinderNode). BringsNode w c.adapted.new.self c.args.body d record_node c.in_ok-step.step) c.as_slice.ensures
-    (c.in_ok-step.ensures.brings (subst IsRising (sym c.as_slice.ensures) offers.rising) sound (subst (HasLowEnv (length w.laid.book)) (sym c.as_slice.ensures) low) record_low) in
+    let it = c.in_ok-step.ensures.brings offers.rising sound low record_low in
     let goal_is : c.in_ok-goal.goal ≡ suc (suc (root_in p c.args.node)) =
     let raised : c.in_ok-goal.goal ≡ 2 + c.root.result = c.in_ok-goal.ensures in
     let root : c.root.result ≡ root_in p c.args.node = c.root.ensures in

@@ -6,7 +6,6 @@ use Rattle.mls_deriv.specs.Steps.{IsRising}
 use Rattle.mls_layout.specs.LaidOut.{place_of}
 use Rattle.mls_lines.specs.Conclusions.{IsPlaced}
 use Rattle.mls_lines.specs.Puts.{ShareVariable}
-use Rattle.mls_lines.specs.Stepping.{AddsAdapted}
 use Rattle.mls_lines.specs.Writer.{own_node}
 use Rattle.mls_lines.proofs.PlainLets.{settled_as_is, settled_put_in}
 use Rattle.mls_lines.proofs.PutLists.{not_shared}
@@ -34,6 +33,5 @@ returns-clause-settles c = λ x follow sound.
     let shared = subst (λ (l : List Put). ShareVariable l puts) c.as_slice.ensures ((c.share_variables.ensures x follow).0 c.if-not-share_variables.false) in
     let placed = subst (λ (d : List BinderNode). IsPlaced (own_node now p) d c.in_ok-env.env) c.as_slice-2.ensures (c.in_ok-env.ensures (subst IsRising (sym c.as_slice-2.ensures) it.rising)) in
     let place = ap (λ (n : NodeId). n.0) c.place-root.ensures ∙ ap (place_of now.laid.places) c.root.ensures in
-    let adapts = subst (λ (d : List BinderNode). AddsAdapted now.laid.book now.steps c.adapt.new.self c.args.node inner d c.place-root.result c.in_ok-own.own) c.as_slice-3.ensures
-    (c.in_ok-own.ensures (subst IsRising (sym c.as_slice-3.ensures) placed.rising) it.adds.counted it.stands) in
+    let adapts = c.in_ok-own.ensures placed.rising it.adds.counted it.stands in
     settled_put_in w now _ p c.args.node inner c.in_ok-own.own puts c.in_ok-env.env c.place-root.result sound it shared placed place adapts refl refl

@@ -52,7 +52,7 @@ returns-clause-lines c = λ k parts way can low.
     let within : length part - 1 < length part = (let some : 0 < length part = c.requires.part in omega (arith, some)) in
     let root_is : root ≡ get_or part (length part - 1) root = get_or_default part (length part - 1) 0 root within in
     let d : List BinderNode = type_binders c.args.at.now.scheme c.args.at.now.places in
-    let env_is : c.as_slice.result.now ≡ d = c.as_slice.ensures ∙ c.in_ok-env.ensures.env in
+    let env_is : c.in_ok-env.env ≡ d = c.in_ok-env.ensures.env in
     let rising : IsRising d = binders_rising c.args.at.now.places c.args.at.now.scheme c.in_ok-env.ensures.rise in
     let low_now : HaveLowPlaces (length last.laid.book) c.args.at.now.places =
     λ s. below_longer c.args.laid.book last.laid.book (place_of c.args.at.now.places s) (subst (λ (l : LaidOut). IsLonger l.book last.laid.book) c.writer-writer.ensures.laid writes.keeps.book) (low s) in
