@@ -16,7 +16,7 @@ use Rattle.mls_book.proofs.LongerBooks.{Holds, IsCopied, IsCopied-value, renamed
 use Rattle.mls_book.proofs.Subsumption.{Equivalent-moved}
 use Rattle.mls_term.specs.declared.term.Part.{Part}
 use Rattle.mls_term.specs.Terms.{TermTree, TermFields, no_field, a_field}
-use Rattle.mls_term.specs.Derivations.{Known, with_let, over, labels_of, HaveLabels, Derives, AllDerive, none, more}
+use Rattle.mls_term.specs.Derivations.{Known, with_let, over, labels_of, Derives, AllDerive, none, more}
 use Rattle.mls_term.specs.Derivations as rules
 use Rattle.mls_deriv.specs.declared.derivation.StepLine.{StepLine}
 use Rattle.mls_deriv.specs.Pairs.{Put, Pair}

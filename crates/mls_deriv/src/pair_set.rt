@@ -48,6 +48,9 @@ impl PairSet {
             return Ok(false);
         }
         if self.few.len() < FEW && self.others.is_empty() {
+            if self.few.is_empty() {
+                self.few.reserve(FEW)?;
+            }
             self.few.push((left, right))?;
             return Ok(true);
         }

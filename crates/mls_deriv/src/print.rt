@@ -88,10 +88,23 @@ fn add_nodes(text: &mut Vec<u8>, book: &Book) -> Result<(), Memory>
 fn add_node_line(text: &mut Vec<u8>, node: &Node) -> Result<(), Memory>
     ensures { OnOk result (text.new.items ≡ text.old.items ++ node_line node.now) }
 {
-    text.extend_from_slice(b"node")?;
-    add_node(text, node)?;
-    text.extend_from_slice(b"\n")?;
+    add_node_front(text, node)?;
+    text.push(b'\n')?;
     Ok(())
+}
+
+// What stands on the line of a node. The words of the commonest nodes are added at once.
+fn add_node_front(text: &mut Vec<u8>, node: &Node) -> Result<(), Memory>
+    ensures { OnOk result (text.new.items ≡ text.old.items ++ (codes "node" ++ node_words node.now)) }
+{
+    match node {
+        Node::Var(x) => add_one(text, b"node var", *x),
+        Node::Arrow(j, k) => add_pair(text, b"node fn", j.0, k.0),
+        _ => {
+            text.extend_from_slice(b"node")?;
+            add_node(text, node)
+        }
+    }
 }
 
 // What stands on the line of a node behind its first word.
@@ -206,22 +219,18 @@ pub(crate) fn add_words(text: &mut Vec<u8>, line: &SectionLine) -> Result<(), Me
         SectionLine::Let(k, s) => add_pair(text, b"let", *k, *s),
         SectionLine::Step(step) => add_step(text, step.get()),
         SectionLine::Put(x, n) => add_pair(text, b"put", *x, n.0),
-        SectionLine::Pair(mode, i, j) => {
-            text.extend_from_slice(b"pair")?;
-            text.extend_from_slice(mode_word(*mode))?;
-            add_two(text, i.0, j.0)
-        }
+        SectionLine::Pair(mode, i, j) => add_pair(text, pair_words(*mode), i.0, j.0),
     }
 }
 
-// The word of a mode.
-fn mode_word(mode: Mode) -> &'static [u8]
-    ensures { result.now ≡ mode_word mode }
+// The first words of the line of a pair.
+fn pair_words(mode: Mode) -> &'static [u8]
+    ensures { result.now ≡ codes "pair" ++ mode_word mode }
 {
     match mode {
-        Mode::Lr => b" lr",
-        Mode::Rl => b" rl",
-        Mode::Pp => b" pp",
+        Mode::Lr => b"pair lr",
+        Mode::Rl => b"pair rl",
+        Mode::Pp => b"pair pp",
     }
 }
 

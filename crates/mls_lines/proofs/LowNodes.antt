@@ -6,7 +6,7 @@
 --     offered_low, offers_low     what a part is offered
 --     up, grown_offers_low, grown_joined_low, two_low, three_low, parts_low       what several parts are offered
 --     puts_low, no_puts_own, step_low, with_puts_low, joins_put_low, first_puts_low, let_puts_low, puts_joined_low     conclusions
-use Rattle.std.proofs.Common.{◌≡◌, ◌≢◌, ◌⊎◌, inl, inr, ℕ, zero, suc, ◌+◌, ◌<◌, Bool, true, false, cond, List, [], ◌∷◌, ◌++◌, length, refl, sym, ap, ◌∙◌, subst, arith, length-append, Option, Some, None}
+use Rattle.std.proofs.Common.{◌≡◌, ◌≢◌, inl, inr, ℕ, zero, suc, ◌+◌, ◌<◌, Bool, true, false, cond, List, [], ◌∷◌, ◌++◌, length, refl, sym, ap, ◌∙◌, subst, arith, length-append, Option, Some, None}
 use Rattle.std.specs.Prelude.{All, find, option_map, ◌==◌}
 use Rattle.std.specs.List.{flat_map}
 use Rattle.std.specs.BTreeMap.{BTreeMap, get}
@@ -24,16 +24,15 @@ use Rattle.mls_book.specs.Books.{node_at, field_at, IsClosedBook}
 use Rattle.mls_book.proofs.Children.{HasChildrenIn, at_found, closed_children}
 use Rattle.mls_term.specs.declared.term.Part.{Part}
 use Rattle.mls_term.specs.Derivations.{IsMeetAt}
-use Rattle.mls_deriv.specs.declared.claim.Pair.{Pair}
 use Rattle.mls_deriv.specs.declared.claim.Put.{Put}
 use Rattle.mls_deriv.specs.declared.derivation.BinderNode.{BinderNode}
 use Rattle.mls_deriv.specs.declared.derivation.Mode.TheVariants.{Lr, Rl}
 use Rattle.mls_deriv.specs.declared.derivation.StepLine.{StepLine}
 use Rattle.mls_deriv.specs.Pairs.{put_at}
-use Rattle.mls_deriv.specs.Steps.{env_of, IsRising}
+use Rattle.mls_deriv.specs.Steps.{IsRising}
 use Rattle.mls_layout.specs.declared.layout.Places.{Places}
 use Rattle.mls_layout.specs.Emitted.{binder_pair, pair_with}
-use Rattle.mls_layout.specs.LaidOut.{IsLonger, place_of}
+use Rattle.mls_layout.specs.LaidOut.{IsLonger}
 use Rattle.mls_layout.specs.Plans.{HaveOwnVariables}
 use Rattle.mls_layout.specs.Scopes.{entry}
 use Rattle.mls_pairs.specs.PairLists.{IsInside, pair_of}
@@ -53,7 +52,7 @@ use Rattle.mls_lines.specs.Puts.{AreJoins, ArePutsOfFirst, IsJoinOf, IsNodeOfCop
 use Rattle.mls_lines.specs.Showing.{shown_by}
 use Rattle.mls_lines.specs.PlainRecords.{JoinsParts, OfferAll}
 use Rattle.mls_lines.specs.Stepping.{binder_node, conclusion_of, pairs_over, AddsStep}
-use Rattle.mls_lines.specs.Writer.{concluded_of, concluded_in, own_node, Grows, HasLowEnv, HasLowNodes, Offers}
+use Rattle.mls_lines.specs.Writer.{concluded_of, own_node, Grows, HasLowEnv, HasLowNodes, Offers}
 use Rattle.mls_lines.proofs.PutLists.{puts_hold}
 use Rattle.mls_lines.proofs.Scopes.{looked, got, same_key, itself_key}
 

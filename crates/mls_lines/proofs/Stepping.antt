@@ -3,13 +3,12 @@
 --     sub_adapted         a step by pairs
 --     step_adds           a step that asks for no pair
 --     adds_longer         lines that are added last in a longer book
-use Rattle.std.proofs.Common.{◌≡◌, ◌⊎◌, inl, inr, ℕ, suc, ◌+◌, ◌<◌, List, [], ◌∷◌, ◌++◌, length, refl, sym, ap, ◌∙◌, subst, arith, append-nil, append_assoc, get_or, length-append, Option}
-use Rattle.std.specs.Prelude.{All, Contains}
-use Rattle.std.proofs.lemmas.List.Elements.{All-nil, All-contains, Contains-append_right}
+use Rattle.std.proofs.Common.{◌≡◌, ℕ, suc, ◌+◌, ◌<◌, List, [], ◌∷◌, ◌++◌, length, refl, sym, ap, ◌∙◌, subst, arith, append-nil, append_assoc, get_or, length-append, Option}
+use Rattle.std.specs.Prelude.{All}
+use Rattle.std.proofs.lemmas.List.Elements.{All-nil}
 use Rattle.mls_book.specs.declared.book.Node.{Node}
 use Rattle.mls_book.specs.declared.book.NodeId.{NodeId}
 use Rattle.mls_deriv.specs.declared.derivation.BinderNode.{BinderNode}
-use Rattle.mls_deriv.specs.declared.derivation.SectionLine.{SectionLine}
 use Rattle.mls_deriv.specs.declared.derivation.SectionLine.TheVariants as line
 use Rattle.mls_deriv.specs.declared.derivation.StepLine.{StepLine}
 use Rattle.mls_deriv.specs.declared.derivation.StepRule.{StepRule}
@@ -22,9 +21,7 @@ use Rattle.mls_lines.specs.declared.steps.Conclusion as written
 use Rattle.mls_lines.specs.declared.steps.Steps.{Steps}
 use Rattle.mls_lines.specs.Conclusions.{IsAdapted, as_it_is, by_pairs}
 use Rattle.mls_layout.specs.Emitted.{asked_at, asked_after}
-use Rattle.mls_deriv.proofs.ScopedNames.{first_or_later}
-use Rattle.mls_pairs.specs.Lines.{pair_line, pair_lines, put_lines}
-use Rattle.mls_pairs.specs.PairLists.{pair_of, IsInside, IsPairList}
+use Rattle.mls_pairs.specs.PairLists.{IsInside, IsPairList}
 use Rattle.mls_layout.specs.Plans.{PlannedLine, AreLinesOf, StandBehind, a_step_with}
 use Rattle.mls_layout.specs.Runs.{a_step, lines_of}
 use Rattle.mls_lines.specs.Stepping.{conclusion_of, pairs_over, AddsStep, Adds, AddsSub, AreCounted, Stands, AddsAdapted}

@@ -55,7 +55,6 @@ use Rattle.mls_lines.proofs.Lengthening.{lengthens_itself, lengthens_kept, lengt
 use Rattle.mls_lines.specs.PlainParts.{ArePutInAt, CanWritePart, WritesPart}
 use Rattle.mls_lines.proofs.Bringing.{adds_none, adds_steps, adds_then, planned_append}
 use Rattle.mls_lines.proofs.GoingOn.{concluded_before}
-use Rattle.mls_lines.proofs.Growing.{longer_itself, longer_then}
 use Rattle.mls_lines.proofs.JoinedEnvironments.{meet_stays}
 use Rattle.mls_lines.proofs.JoinedPuts.{puts_at_kept}
 use Rattle.mls_lines.proofs.ToldForms.{told_stays}

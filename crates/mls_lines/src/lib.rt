@@ -5,6 +5,7 @@
 #![tactic(auto)]
 
 pub mod copies;
+pub mod ending;
 pub mod envs;
 pub mod known;
 pub mod puts;

@@ -17,6 +17,7 @@ mod nodes;
 mod plain;
 mod records;
 
+use crate::ending::Ending;
 use crate::known::{FirstParts, Globals};
 use crate::spines::Spines;
 use crate::steps::{Conclusion, Steps};
@@ -30,11 +31,13 @@ use mls_term::term::{TermForm, TermNode};
 use std::alloc::Global;
 use std::collections::BTreeMap;
 
-/// What is known of a part: its constraint, its chains of applications, and the types of names.
+/// What is known of a part: its constraint, its chains of applications, the applications that conclude its type, and the
+/// types of names.
 #[derive(Clone, Copy)]
 pub struct PartView<'a> {
     pub posing: &'a Posing,
     pub spines: &'a Spines,
+    pub ending: Option<Ending>,
     pub known: &'a KnownTypes,
     pub globals: &'a Globals,
     pub firsts: &'a FirstParts,

@@ -1,4 +1,4 @@
--- What is chosen of a table behind one sweep, before each of its pairs is known to be shown.
+-- What is chosen of a table, or of what a sweep leaves of it, before each of its pairs is known to be shown.
 --     first_list          it is a list for the wanted pairs
 --     first_inside        and has nodes of the book
 use Rattle.std.proofs.Common.{List}

@@ -10,7 +10,7 @@ ghost use Rattle.mls_pairs.specs.steps.Reasons.{RightVariable};
 ghost use Rattle.mls_pairs.specs.steps.Rounds.{AreThose};
 
 use crate::found::Found;
-use crate::justify::by_nodes;
+use crate::justify::{by_nodes, is_shown};
 use crate::needs::{exchanged, left_node, node_needs, node_of, push_fields, right_node};
 use crate::pairs::Pairs;
 use crate::thin::add_kept;
@@ -242,24 +242,42 @@ fn by_both(alloc: Global, pair: Pair, left: &Node, right: &Node) -> Result<Optio
     }
 }
 
-// The first of two pairs that the list has, or else the second one.
-fn either(table: &Table, first: Pair, second: Pair) -> Pair
+// Whether the list has a pair and shows it.
+fn is_good(book: &Book, table: &Table, pair: Pair) -> bool
+    ensures { IsTrue result → IsHeld table.now pair }
+{
+    let (left, right) = (NodeId(pair.left), NodeId(pair.right));
+    has(table, pair) && is_shown(book, table, pair.mode, left, right)
+}
+
+// The first of two pairs that the list has and shows, or else the second one.
+fn either(book: &Book, table: &Table, first: Pair, second: Pair) -> Pair
     ensures { (result ≡ first) ⊎ (result ≡ second) }
 {
-    if has(table, first) { first } else { second }
+    if is_good(book, table, first) {
+        first
+    } else {
+        second
+    }
 }
 
 // One member of a join on the right is higher.
-fn by_join(alloc: Global, table: &Table, pair: Pair, right: &Node) -> Result<Option<Pairs>, Memory>
+fn by_join(
+    alloc: Global,
+    book: &Book,
+    table: &Table,
+    pair: Pair,
+    right: &Node,
+) -> Result<Option<Pairs>, Memory>
     ensures { IfOk result (λ found. IfSome found (RightReason pair right.now)) }
 {
     match right {
         Node::Join(l, r) => {
             let (first, second) = (with_right(pair, *l), with_right(pair, *r));
             let one = if r.0 == pair.left {
-                either(table, second, first)
+                either(book, table, second, first)
             } else {
-                either(table, first, second)
+                either(book, table, first, second)
             };
             let reason = only(alloc, one)?;
             Ok(Some(reason))
@@ -269,16 +287,22 @@ fn by_join(alloc: Global, table: &Table, pair: Pair, right: &Node) -> Result<Opt
 }
 
 // One member of a meet on the left is lower.
-fn by_meet(alloc: Global, table: &Table, pair: Pair, left: &Node) -> Result<Option<Pairs>, Memory>
+fn by_meet(
+    alloc: Global,
+    book: &Book,
+    table: &Table,
+    pair: Pair,
+    left: &Node,
+) -> Result<Option<Pairs>, Memory>
     ensures { IfOk result (λ found. IfSome found (LeftReason pair left.now)) }
 {
     match left {
         Node::Meet(l, r) => {
             let (first, second) = (with_left(pair, *l), with_left(pair, *r));
             let one = if r.0 == pair.right {
-                either(table, second, first)
+                either(book, table, second, first)
             } else {
-                either(table, first, second)
+                either(book, table, first, second)
             };
             let reason = only(alloc, one)?;
             Ok(Some(reason))
@@ -332,6 +356,7 @@ fn by_one(
 // A reason that the list has, where one member of a join or a meet is chosen.
 fn by_member(
     alloc: Global,
+    book: &Book,
     table: &Table,
     pair: Pair,
     left: &Node,
@@ -339,15 +364,16 @@ fn by_member(
 ) -> Result<Option<Pairs>, Memory>
     ensures { IfOk result (λ found. IfSome found (IsReasonFor table.now pair left.now right.now)) }
 {
-    if let Some(reason) = held(table, by_join(alloc, table, pair, right)?) {
+    if let Some(reason) = held(table, by_join(alloc, book, table, pair, right)?) {
         return Ok(Some(reason));
     }
-    Ok(held(table, by_meet(alloc, table, pair, left)?))
+    Ok(held(table, by_meet(alloc, book, table, pair, left)?))
 }
 
 // The pairs of one reason that the list has for a pair of these nodes. The list shows the pair if there is one.
 fn reason_at(
     alloc: Global,
+    book: &Book,
     table: &Table,
     pair: Pair,
     left: &Node,
@@ -366,7 +392,7 @@ fn reason_at(
     if let Some(reason) = by_one(alloc, table, pair, left, right)? {
         return Ok(Some(reason));
     }
-    if let Some(reason) = by_member(alloc, table, pair, left, right)? {
+    if let Some(reason) = by_member(alloc, book, table, pair, left, right)? {
         return Ok(Some(reason));
     }
     by_needs(alloc, table, pair, left, right)
@@ -384,7 +410,7 @@ fn reason_for(
     let bot = Node::Bot;
     let left = node_of(book, NodeId(pair.left), &bot);
     let right = node_of(book, NodeId(pair.right), &bot);
-    let found = reason_at(alloc, table, pair, left, right)?;
+    let found = reason_at(alloc, book, table, pair, left, right)?;
     Ok(found)
 }
 

@@ -4,7 +4,7 @@ ghost use Rattle.mls_deriv.specs.Pairs.{put_at};
 ghost use Rattle.mls_pairs.specs.Lines.{IsTable};
 ghost use Rattle.mls_pairs.specs.PairLists.{IsPairList, StaysInside};
 ghost use Rattle.mls_pairs.specs.steps.Deleting.{Deletes, IsHeldBy};
-ghost use Rattle.mls_pairs.specs.steps.Rounds.{AreThose};
+ghost use Rattle.mls_pairs.specs.steps.Rounds.{AreThose, IsWhole};
 
 use crate::chosen::chosen_of;
 use crate::deleting::{delete_all, held, sweep};
@@ -79,8 +79,30 @@ fn chosen_of_all(alloc: Global, book: &Book, puts: &[Put], wanted: &[Pair]) -> R
     }
 }
 
-/// The same pairs without those that no other one needs: each keeps one of its reasons. For the most part one sweep
-/// leaves nothing that is chosen and not shown; what is chosen then justifies itself, so no other sweep is needed.
+// What is chosen of the pairs that are gathered, behind one sweep of them.
+fn chosen_behind_sweep(
+    alloc: Global,
+    book: &Book,
+    puts: &[Put],
+    wanted: &[Pair],
+    found: Found,
+) -> Result<Pairs, Memory>
+    requires whole { IsWhole book.now puts.now wanted.now found.pairs }
+    requires table { IsTable puts.now found.pairs found.table }
+    ensures list { IfOk result (IsPairList book.now puts.now wanted.now) }
+    ensures inside { IfOk result (StaysInside book.now (put_at puts.now) wanted.now) }
+{
+    let Found { pairs, table } = found;
+    let mut table = table;
+    sweep(book, &mut table, pairs.as_slice());
+    match chosen_of(alloc, book, &table, wanted)? {
+        Some(chosen) => Ok(chosen),
+        None => chosen_of_all(alloc, book, puts, wanted),
+    }
+}
+
+/// The same pairs without those that no other one needs: each keeps one of its reasons. For the most part nothing is
+/// chosen of what is gathered that is not shown; what is chosen then justifies itself, so no sweep is needed.
 ///
 /// # Errors
 ///
@@ -89,10 +111,9 @@ pub fn pairs_for(alloc: Global, book: &Book, puts: &[Put], wanted: &[Pair]) -> R
     ensures list { IfOk result (IsPairList book.now puts.now wanted.now) }
     ensures inside { IfOk result (StaysInside book.now (put_at puts.now) wanted.now) }
 {
-    let mut found = gathered(alloc, book, puts, wanted)?;
-    sweep(book, &mut found.table, found.pairs.as_slice());
+    let found = gathered(alloc, book, puts, wanted)?;
     match chosen_of(alloc, book, &found.table, wanted)? {
         Some(chosen) => Ok(chosen),
-        None => chosen_of_all(alloc, book, puts, wanted),
+        None => chosen_behind_sweep(alloc, book, puts, wanted, found),
     }
 }

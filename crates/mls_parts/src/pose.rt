@@ -37,6 +37,9 @@ use mls_term::term::{Part, TermForm, TermNode};
 use std::alloc::Global;
 use std::collections::BTreeMap;
 
+// So many states have room from the start: the constraint of a short expression has no more.
+const ROOM: usize = 64;
+
 /// What is asked of a binder around: the head of the type that a use of a let-bound name needs it to have.
 #[derive(Drop)]
 pub struct Need {
@@ -170,8 +173,9 @@ impl Posing {
     fn begun(alloc: Global, binders: &[usize]) -> Result<Posing, Memory>
         ensures { IfOk result (IsBegun binders.now) }
     {
+        let automaton = Automaton::with_room(alloc, ROOM)?;
         let mut posing = Posing {
-            automaton: Automaton::new(alloc),
+            automaton,
             goals: Goals::new(alloc),
             roots: NumberMap::new(alloc),
             binders: NumberMap::new(alloc),

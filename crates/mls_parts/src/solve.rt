@@ -1,5 +1,5 @@
 //! The solved automaton of a constraint, and the pairs of states that solving relates.
-ghost use Rattle.std.specs.Prelude.{All, IfOk};
+ghost use Rattle.std.specs.Prelude.{◌≡◌, All, IfOk};
 ghost use Rattle.mls_automaton.specs.Models.{IsClosed};
 ghost use Rattle.mls_solver.specs.Relations.{IsGoal, IsGoalOf, IsRelated};
 ghost use Rattle.mls_solver.specs.Rooms.{Holds, HoldsJust, HoldsStates};
@@ -20,6 +20,15 @@ pub struct Solution {
     pub automaton: Automaton,
 }
 
+// The same automaton once more, in room for just its states.
+fn copied(alloc: Global, a: &Automaton) -> Result<Automaton, Memory>
+    ensures { IfOk result (λ copy. copy ≡ a.now) }
+{
+    let mut copy = Automaton::with_room(alloc, a.len())?;
+    copy.append(a)?;
+    Ok(copy)
+}
+
 /// Relates the states of the goals and of all that follows from these, and solves a copy of the automaton by them.
 ///
 /// # Errors
@@ -34,7 +43,7 @@ pub fn solution_of(alloc: Global, a: &Automaton, goals: &[Goal]) -> Result<Solut
     ensures closed { IfOk result (λ s. IsClosed s.automaton) }
 {
     let found = search(alloc, a, goals)?;
-    let mut automaton = a.copy()?;
+    let mut automaton = copied(alloc, a)?;
     settle(alloc, &found, &mut automaton)?;
     Ok(Solution { found, automaton })
 }

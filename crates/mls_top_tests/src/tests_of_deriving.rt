@@ -179,6 +179,79 @@ fn derives_over_what_imports_declare(rt: HostRuntime) -> Result<(), Fail> {
     Ok(())
 }
 
+// Derivations of an application to one argument and to two, which end with it: no step by pairs stands behind it.
+const ONE: &str = "derivation 1
+val one : int
+node int
+node fn 2 3
+node var 0
+node var 0
+node int
+node fn 4 0
+step 0 name 1 env type 1
+step 1 lit env type 4
+step 0 sub 0 env type 5
+put 0 4
+pair lr 1 5
+pair rl 4 2
+pair lr 3 0
+pair pp 4 4
+pair pp 4 0
+step 2 app 2 1 env type 0
+end
+";
+
+const TWO: &str = "derivation 1
+val two : int
+node int
+node fn 2 3
+node var 0
+node fn 4 5
+node var 1
+node var 0
+node bool
+node int
+node fn 6 0
+node fn 7 8
+step 0 name 1 env type 1
+step 1 lit env type 7
+step 0 sub 0 env type 9
+put 0 7
+put 1 6
+pair lr 1 9
+pair rl 7 2
+pair lr 3 8
+pair pp 7 7
+pair rl 6 4
+pair lr 5 0
+pair pp 6 6
+pair pp 7 0
+step 2 app 2 1 env type 8
+step 3 lit env type 6
+step 4 app 3 4 env type 0
+end
+";
+
+#[test]
+fn an_application_has_the_type_of_its_binding_at_once(rt: HostRuntime) -> Result<(), Fail> {
+    let rows: [Row; 2] = [
+        (
+            "main.ml import k let one = id 1\nk.mli val id : a -> a",
+            ONE,
+            0,
+            2,
+        ),
+        (
+            "main.ml import k let two = const 1 true\nk.mli val const : a -> b -> a",
+            TWO,
+            0,
+            2,
+        ),
+    ];
+    are_answered(&rt, rt.alloc(), "derive", rows.as_slice())?;
+    Ok(())
+}
+
 #[test]
 fn derives_a_module_without_bindings(rt: HostRuntime) -> Result<(), Fail> {
     let rows: [Row; 3] = [

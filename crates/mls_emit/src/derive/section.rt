@@ -40,13 +40,14 @@ use crate::derive::prune::{Written, pruned};
 use mls_automaton::scheme::{Env, EnvEntry, Scheme};
 use mls_automaton::state_set::StateId;
 use mls_base::memory::Memory;
-use mls_book::book::{Book, Node};
+use mls_book::book::{Book, Node, NodeId};
 use mls_deriv::derivation::{BinderNode, BinderNodes};
 use mls_iface::signature::SigEntry;
 use mls_layout::layout::{LaidOut, Places, lay_out};
 use mls_layout::type_layout::lay_out_type;
 use mls_layout::walk::walk_of;
 use mls_lines::copies::push_book;
+use mls_lines::ending::ending_of;
 use mls_lines::known::{FirstPart, FirstParts, Globals, put_global};
 use mls_lines::spines::Spines;
 use mls_lines::steps::Steps;
@@ -423,6 +424,7 @@ impl Draft {
         nodes: &[TermNode],
         part: &[usize],
         posing: &Posing,
+        wanted: NodeId,
     ) -> Result<(), Memory>
         requires found { AreFound self.now.globals self.now.firsts self.now.known.lets posing.now nodes.now part.now }
         ensures lengthens { OnOk result (Lengthens writer.old.laid writer.new.laid) }
@@ -435,9 +437,14 @@ impl Draft {
             Way::Short => Spines::of(alloc, nodes, part, &self.known.lets)?,
             Way::Plain => Spines::new(alloc),
         };
+        let ending = match (self.way, part.last()) {
+            (Way::Short, Some(root)) => ending_of(nodes, *root, wanted),
+            _ => None,
+        };
         let view = PartView {
             posing,
             spines: &spines,
+            ending,
             known: &self.known,
             globals: &self.globals,
             firsts: &self.firsts,
@@ -471,9 +478,9 @@ impl Draft {
     {
         let root = part[part.len() - 1];
         let mut writer = self.writer(alloc, laid);
-        self.write_nodes(alloc, &mut writer, nodes, part, posing)?;
-        let env = type_env(alloc, at)?;
         let type_root = at.places.node(at.scheme.root.0);
+        self.write_nodes(alloc, &mut writer, nodes, part, posing, type_root)?;
+        let env = type_env(alloc, at)?;
         let step = writer.adapted(alloc, root, &env, type_root)?;
         let laid = writer.laid;
         self.steps = writer.steps;

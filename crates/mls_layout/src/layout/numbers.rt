@@ -18,15 +18,16 @@ pub struct Owned {
 }
 
 impl Owned {
-    // No state.
-    fn new(alloc: Global) -> Owned
-        ensures functions { result.functions ≡ [] }
-        ensures records { result.records ≡ [] }
+    // No state, and room for so many.
+    fn with_room(alloc: Global, states: usize) -> Result<Owned, Memory>
+        ensures functions { IfOk result (λ owned. owned.functions ≡ []) }
+        ensures records { IfOk result (λ owned. owned.records ≡ []) }
     {
-        Owned {
-            functions: List::new(alloc),
-            records: List::new(alloc),
-        }
+        let mut functions = List::new(alloc);
+        functions.reserve(states)?;
+        let mut records = List::new(alloc);
+        records.reserve(states)?;
+        Ok(Owned { functions, records })
     }
 
     // Adds those of a head, of which its own nodes have the numbers from this one on.
@@ -79,7 +80,7 @@ fn node_in(nodes: &[Option<NodeId>], s: usize) -> Option<NodeId>
 pub(crate) fn owned_of(alloc: Global, a: &Automaton, start: usize) -> Result<Owned, Memory>
     ensures { IfOk result (AreOwned a.now start) }
 {
-    let mut owned = Owned::new(alloc);
+    let mut owned = Owned::with_room(alloc, a.len())?;
     let mut end = start;
     for s in 0..a.len() {
         let head = a.head(StateId(s));

@@ -11,7 +11,7 @@ use crate::steps::{Conclusion, node_of};
 use crate::writer::nodes::{ArrowNode, behind};
 use crate::writer::{PartView, Writer};
 use mls_base::memory::Memory;
-use mls_book::book::Node;
+use mls_book::book::{Node, NodeId};
 use mls_deriv::derivation::{BinderNodes, StepRule};
 use std::alloc::Global;
 
@@ -23,6 +23,37 @@ struct Applied {
 }
 
 impl Writer {
+    // A function from one node to another.
+    fn arrow(&mut self, from: NodeId, to: NodeId) -> Result<ArrowNode, Memory>
+        ensures { OnOk result (Lengthens self.old.laid self.new.laid) }
+    {
+        let node = self.laid.book.push(Node::Arrow(from, to))?;
+        Ok(ArrowNode { node, from, to })
+    }
+
+    // The function with this codomain.
+    fn with_codomain(&mut self, arrow: ArrowNode, to: NodeId) -> Result<ArrowNode, Memory>
+        ensures { OnOk result (Lengthens self.old.laid self.new.laid) }
+    {
+        if arrow.to == to {
+            return Ok(arrow);
+        }
+        self.arrow(arrow.from, to)
+    }
+
+    // The function of two arguments with this codomain behind both. Where it is none, it stays.
+    fn with_last(&mut self, arrow: ArrowNode, to: NodeId) -> Result<ArrowNode, Memory>
+        ensures { OnOk result (Lengthens self.old.laid self.new.laid) }
+    {
+        match self.arrow_at(arrow.to) {
+            Some(second) => {
+                let inner = self.with_codomain(second, to)?;
+                self.with_codomain(arrow, inner.node)
+            }
+            None => Ok(arrow),
+        }
+    }
+
     ///
     /// # Errors
     ///
@@ -83,20 +114,40 @@ impl Writer {
         Ok(own)
     }
 
+    // The type of the function of an application that its goal asks for. Where the application concludes the type of the
+    // part, its codomain is that type, so that no step by pairs brings it there.
+    fn goal(&mut self, view: &PartView, node: usize) -> Result<ArrowNode, Memory>
+        ensures { OnOk result (Lengthens self.old.laid self.new.laid) }
+    {
+        let arrow = self.function(behind(view.posing.root(node), 2)?)?;
+        match view.ending {
+            Some(ending) if ending.first == node => {
+                if ending.is_function {
+                    self.with_last(arrow, ending.wanted)
+                } else {
+                    self.with_codomain(arrow, ending.wanted)
+                }
+            }
+            _ => Ok(arrow),
+        }
+    }
+
     // The type of the function of an application, and whether the function has it: that is so if its own type is one of
     // functions, and else it is that of the goal. A binder may have the type of its own node.
     fn applied(
-        &self,
+        &mut self,
         view: &PartView,
         node: usize,
         function: usize,
-    ) -> Result<(ArrowNode, bool), Memory> {
+    ) -> Result<(ArrowNode, bool), Memory>
+        ensures { OnOk result (Lengthens self.old.laid self.new.laid) }
+    {
         if let Some(root) = self.placed_type(view, function)? {
             if let Some(arrow) = self.arrow_at(root) {
                 return Ok((arrow, true));
             }
         }
-        Ok((self.function(behind(view.posing.root(node), 2)?)?, false))
+        Ok((self.goal(view, node)?, false))
     }
 
     // The type of the function of an application and the environment of both parts. Where a function of this type needs
@@ -125,11 +176,7 @@ impl Writer {
         if is_there || own == arrow.from || !self.has_env(argument, own, &env) {
             return Ok(Applied { arrow, env });
         }
-        let arrow = ArrowNode {
-            node: self.laid.book.push(Node::Arrow(own, arrow.to))?,
-            from: own,
-            to: arrow.to,
-        };
+        let arrow = self.arrow(own, arrow.to)?;
         Ok(Applied { arrow, env })
     }
 

@@ -281,8 +281,8 @@ impl Writer {
         }
     }
 
-    /// The same for lines that are checked when all are written: long environments that lie in one place are not
-    /// compared, of which no contract tells.
+    /// The step of a node that has this type and environment, as `adapted` gives it, for lines that are checked when all
+    /// are written: long environments that lie in one place are not compared, of which no contract tells.
     ///
     /// # Errors
     ///

@@ -3,7 +3,7 @@ use Rattle.mls_layout.proofs.OwnNumbers.{all_owned, numbers_next, numbers_none}
 use Rattle.mls_layout.proofs.layout.numbers.owned_of.Goals as goal
 
 pub loop-s-init : goal.loop-s-init
-loop-s-init c = numbers_none c.args.a.now c.args.start c.new-owned.result c.new-owned.ensures.functions c.new-owned.ensures.records
+loop-s-init c = numbers_none c.args.a.now c.args.start c.in_ok-owned.owned c.in_ok-owned.ensures.functions c.in_ok-owned.ensures.records
 
 pub loop-s-preserved : goal.loop-s-preserved
 loop-s-preserved c =

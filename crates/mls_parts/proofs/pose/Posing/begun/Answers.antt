@@ -5,7 +5,7 @@ use Rattle.mls_parts.proofs.BegunPosings.{begun_none, begun_next}
 use Rattle.mls_parts.proofs.pose.Posing.begun.Goals as goal
 
 pub loop-binder-init : goal.loop-binder-init
-loop-binder-init c = begun_none _ c.new.ensures c.new-2.ensures c.new-5.ensures c.new-3.ensures.empty c.new-4.ensures.empty c.new-6.ensures.empty c.new-7.ensures.empty
+loop-binder-init c = begun_none _ c.in_ok-automaton.ensures c.new.ensures c.new-4.ensures c.new-2.ensures.empty c.new-3.ensures.empty c.new-5.ensures.empty c.new-6.ensures.empty
 
 pub loop-binder-preserved : goal.loop-binder-preserved
 loop-binder-preserved c =
