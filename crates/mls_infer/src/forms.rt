@@ -41,6 +41,7 @@ pub(crate) fn bound(alloc: Global, live: &mut Live, binder: usize) -> Result<Pen
 {
     let mut region = Region::new(alloc);
     let (negative, positive) = region.add_passage(live)?;
+    region.size = region.size.reaching(2);
     let mut env = List::new(alloc);
     env.push(EnvEntry {
         binder,
@@ -71,7 +72,7 @@ pub(crate) fn bound_field(
     let (field, root) = region.add_passage(live)?;
     let head = field_head(alloc, label, field)?;
     let state = region.add(live, Polarity::Negative, head)?;
-    region.size = region.size.with(1);
+    region.size = region.size.with(1).reaching(4);
     let mut env = List::new(alloc);
     env.push(EnvEntry { binder, state })?;
     Ok(Pending { region, env, root })
@@ -97,6 +98,7 @@ pub(crate) fn bound_call(
     let domain = StateSet::one(alloc, argument.root)?;
     let head = function_head(alloc, domain, codomain)?;
     let state = region.add(live, Polarity::Negative, head)?;
+    region.size = region.size.reaching(3);
     let mut env = argument.env;
     env.push(EnvEntry { binder, state })?;
     Ok(Pending { region, env, root })
@@ -130,6 +132,7 @@ fn literal(alloc: Global, live: &mut Live, head: Head) -> Result<Pending, Memory
 {
     let mut region = Region::new(alloc);
     let root = region.add(live, Polarity::Positive, head)?;
+    region.size = region.size.reaching(1);
     Ok(Pending {
         region,
         env: List::new(alloc),
@@ -153,6 +156,7 @@ pub(crate) fn function(
     let env = without(alloc, body.env, binder)?;
     let mut region = body.region;
     let root = region.add(live, Polarity::Positive, head)?;
+    region.size = region.size.reaching(1);
     Ok(Pending { region, env, root })
 }
 
@@ -348,7 +352,8 @@ pub(crate) fn record(alloc: Global, live: &mut Live, rows: Rows) -> Result<Pendi
     let head = record_head(alloc, &rows.roots)?;
     let mut region = rows.region;
     let root = region.add(live, Polarity::Positive, head)?;
-    region.size = region.size.with(rows.roots.len());
+    let count = rows.roots.len();
+    region.size = region.size.with(count).reaching(count.saturating_add(1));
     Ok(Pending {
         region,
         env: rows.env,

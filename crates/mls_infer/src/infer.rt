@@ -41,13 +41,18 @@ use mls_shape::simplify::simplify;
 use mls_term::term::{Part, Term, TermForm, TermNode};
 pub use mls_typetext::scheme::Names;
 use std::alloc::Global;
-use std::collections::{BTreeMap, BTreeSet};
+use std::collections::BTreeMap;
 use std::rc::Rc;
 
-// Where the part of a node goes: up to the node above it, apart as the first part of a let, or out as the whole.
+// A record with so many parts is wide.
+const WIDE: usize = 32;
+
+// Where the part of a node goes: up to the node above it, where it waits beside many others if that is a wide record,
+// apart as the first part of a let, or out as the whole.
 #[derive(Clone, Copy, PartialEq, Eq)]
 enum Way {
     Up,
+    Beside,
     Apart,
     Out,
 }
@@ -143,10 +148,10 @@ fn infer_nodes(
         → HasKindIn (schemes_in names.now) t fault) }
 {
     let mut done = Done::with_room(alloc, nodes.len())?;
-    let named = named_parts(alloc, nodes)?;
+    let ways = ways_of(alloc, nodes)?;
     for i in 0..nodes.len() {
         let node = &nodes[i].form;
-        let way = way_of(&named, i, nodes.len());
+        let way = ways.get(i).copied().unwrap_or(Way::Up);
         match add_node(alloc, names, reads, firsts, &mut done, node, way) {
             Ok(()) => {}
             Err(NoSolution::Clash(kind)) => {
@@ -156,17 +161,6 @@ fn infer_nodes(
         }
     }
     Ok(done)
-}
-
-// The way of the part of a node among so many, where these are the roots of the first parts of lets.
-fn way_of(named: &BTreeSet<usize>, i: usize, count: usize) -> Way {
-    if i.saturating_add(1) == count {
-        Way::Out
-    } else if named.contains(&i) {
-        Way::Apart
-    } else {
-        Way::Up
-    }
 }
 
 // Adds the next node: a known name, which nothing is copied of yet, a binder, or what is built of the parts below it, which
@@ -282,22 +276,24 @@ fn part_of(alloc: Global, done: &mut Done, node: &TermForm, way: Way) -> Result<
     ensures stops { IfErr result (StopsAt node.now (finished_in done.old)) }
 {
     let part = built(alloc, done, node)?;
-    if way == Way::Up {
-        let fitting = fit(alloc, done, part)?;
-        return Ok(fitting);
-    }
-    Ok(part)
+    let fitting = fit(alloc, done, part, way)?;
+    Ok(fitting)
 }
 
 // The part, without the states that are not reached where these are many.
-fn fit(alloc: Global, done: &mut Done, part: Pending) -> Result<Pending, Memory>
+fn fit(alloc: Global, done: &mut Done, part: Pending, way: Way) -> Result<Pending, Memory>
     requires done { IsDone done.old }
     requires beside { IsBeside done.old (part_in part ∷ []) }
     ensures { IfOk result (λ other. (node : TermForm) (first : Finished)
         → IsBuiltIn node first done.old.live done.old.nodes.items (part_in part)
         → IsBuiltIn node first done.new.live done.new.nodes.items (part_in other)) }
 {
-    if part.region.size.is_due() {
+    let is_due = match way {
+        Way::Up => part.region.size.is_due(),
+        Way::Beside => part.region.size.is_loose(),
+        Way::Apart | Way::Out => false,
+    };
+    if is_due {
         let kept = trimmed(alloc, &mut done.live, part)?;
         return Ok(kept);
     }
@@ -515,13 +511,40 @@ fn rows_of(alloc: Global, done: &mut Done, parts: &[Part]) -> Result<Rows, Memor
     Ok(rows)
 }
 
-// The roots of the first parts of lets.
-fn named_parts(alloc: Global, nodes: &[TermNode]) -> Result<BTreeSet<usize>, Memory> {
-    let mut named = BTreeSet::new(alloc);
+// The way of the part of each node.
+fn ways_of(alloc: Global, nodes: &[TermNode]) -> Result<Vec<Way>, Memory> {
+    let mut ways = all_up(alloc, nodes.len())?;
     for node in nodes {
-        if let TermForm::Let(_, first, _) = &node.form {
-            named.insert(*first)?;
+        match &node.form {
+            TermForm::Let(_, first, _) => set_way(&mut ways, *first, Way::Apart),
+            TermForm::Make(parts) if parts.len() >= WIDE => set_beside(&mut ways, parts.as_slice()),
+            _ => {}
         }
     }
-    Ok(named)
+    if let Some(last) = ways.last_mut() {
+        *last = Way::Out;
+    }
+    Ok(ways)
+}
+
+// So many parts that go up.
+fn all_up(alloc: Global, count: usize) -> Result<Vec<Way>, Memory> {
+    let mut ways = Vec::with_capacity(alloc, count)?;
+    for _ in 0..count {
+        ways.push(Way::Up)?;
+    }
+    Ok(ways)
+}
+
+// The parts of a wide record wait beside each other.
+fn set_beside(ways: &mut Vec<Way>, parts: &[Part]) {
+    for part in parts {
+        set_way(ways, part.child, Way::Beside);
+    }
+}
+
+fn set_way(ways: &mut Vec<Way>, i: usize, way: Way) {
+    if let Some(place) = ways.get_mut(i) {
+        *place = way;
+    }
 }

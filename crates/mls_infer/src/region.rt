@@ -19,6 +19,8 @@ use std::alloc::Global;
 pub(crate) struct Size {
     /// How large it was when it was last gone through.
     kept: usize,
+    /// The same, with what was added since then and is reached.
+    reached: usize,
     /// How large it is now, with the states that are not reached.
     total: usize,
 }
@@ -26,18 +28,27 @@ pub(crate) struct Size {
 impl Size {
     /// Of a part that was never gone through.
     pub(crate) fn fresh(total: usize) -> Size {
-        Size { kept: 0, total }
+        Size {
+            kept: 0,
+            reached: 0,
+            total,
+        }
     }
 
     /// Of a part of which everything is reached.
     pub(crate) fn kept(total: usize) -> Size {
-        Size { kept: total, total }
+        Size {
+            kept: total,
+            reached: total,
+            total,
+        }
     }
 
     // Of two side by side.
     fn plus(self, other: Size) -> Size {
         Size {
             kept: self.kept.saturating_add(other.kept),
+            reached: self.reached.saturating_add(other.reached),
             total: self.total.saturating_add(other.total),
         }
     }
@@ -45,20 +56,29 @@ impl Size {
     /// With further states or fields.
     pub(crate) fn with(self, more: usize) -> Size {
         Size {
-            kept: self.kept,
             total: self.total.saturating_add(more),
+            ..self
         }
     }
 
-    /// Of a part of which it is not known what is reached.
-    pub(crate) fn unknown(self) -> Size {
-        Size::fresh(self.total)
+    /// Where so many of the last states and fields are reached.
+    pub(crate) fn reaching(self, more: usize) -> Size {
+        Size {
+            reached: self.reached.saturating_add(more),
+            ..self
+        }
     }
 
     /// Whether there is more than twice as much as when it was last gone through. So all walks together cost what was
     /// added.
     pub(crate) fn is_due(self) -> bool {
         self.total / 2 > self.kept.saturating_add(16)
+    }
+
+    /// Whether there is more than one and a half times as much as is known to be reached: asked of a part that waits
+    /// beside many others, where even a few states are worth a walk.
+    pub(crate) fn is_loose(self) -> bool {
+        self.total > self.reached.saturating_add(self.reached / 2)
     }
 }
 

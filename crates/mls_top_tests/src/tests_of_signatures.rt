@@ -126,3 +126,17 @@ fn infers_bindings_behind_others(rt: HostRuntime) -> Result<(), Fail> {
     are_signed(&rt, rt.alloc(), rows.as_slice())?;
     Ok(())
 }
+
+// A record of 32 parts, each of four kinds, which leave states behind or do not.
+const WIDE: &str =
+    "let r = fun x -> fun f -> {l10 = x + 1, l11 = f x, l12 = fun y -> x, l13 = if f x then 1 else true, l14 = x + 1, l15 = f x, l16 = fun y -> x, l17 = if f x then 1 else true, l18 = x + 1, l19 = f x, l20 = fun y -> x, l21 = if f x then 1 else true, l22 = x + 1, l23 = f x, l24 = fun y -> x, l25 = if f x then 1 else true, l26 = x + 1, l27 = f x, l28 = fun y -> x, l29 = if f x then 1 else true, l30 = x + 1, l31 = f x, l32 = fun y -> x, l33 = if f x then 1 else true, l34 = x + 1, l35 = f x, l36 = fun y -> x, l37 = if f x then 1 else true, l38 = x + 1, l39 = f x, l40 = fun y -> x, l41 = if f x then 1 else true}";
+
+const WIDE_SIGNATURE: &str =
+    "val r : a & int -> (a -> b & bool) -> {l10: int, l11: b, l12: top -> a, l13: bool | int, l14: int, l15: b, l16: top -> a, l17: bool | int, l18: int, l19: b, l20: top -> a, l21: bool | int, l22: int, l23: b, l24: top -> a, l25: bool | int, l26: int, l27: b, l28: top -> a, l29: bool | int, l30: int, l31: b, l32: top -> a, l33: bool | int, l34: int, l35: b, l36: top -> a, l37: bool | int, l38: int, l39: b, l40: top -> a, l41: bool | int}\n";
+
+#[test]
+fn parts_of_a_wide_record_have_their_types(rt: HostRuntime) -> Result<(), Fail> {
+    let rows = [(WIDE, WIDE_SIGNATURE)];
+    are_signed(&rt, rt.alloc(), rows.as_slice())?;
+    Ok(())
+}
