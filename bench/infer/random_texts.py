@@ -1,14 +1,16 @@
 """Compares a program that infers signatures with the plain Rust program on random texts of modules. It ends with 1
 where they differ.
 
-    python3 bench/infer/random_texts.py PROGRAM PLAIN SEED COUNT [forms | projects | pairs]
+    python3 bench/infer/random_texts.py PROGRAM PLAIN SEED COUNT [forms | wide | projects | pairs]
 
-Most of the texts have a fault; with the word `forms` none has one, every form stands in them, and some of them have no
-signature; with `projects` a module has imports, whose interfaces may have faults, and an interface of its own, which it
-keeps or not, and both `infer` and `check` are asked; with `pairs` the only binding is what an import declares, so that
-`check` says of two types whether the first subsumes the second. Status and output have to be the same, but for this: signatures may be equivalent line by line, as PLAIN says
-of them, and for a binding without scheme the kind of the clash, and for one that is not general enough the path, may be
-another one, which is counted and shown. Either program may have words behind it: "infer-bench --simplify".
+Most of the texts have a fault; with the word `forms` none has one, every form stands in them, and some of them have
+no signature; with `wide` the only binding has a record of 31 to 64 parts over some parameters; with `projects` a
+module has imports, whose interfaces may have faults, and an interface of its own, which it keeps or not, and both
+`infer` and `check` are asked; with `pairs` the only binding is what an import declares, so that `check` says of two
+types whether the first subsumes the second. Status and output have to be the same, but for this: signatures may be
+equivalent line by line, as PLAIN says of them, and for a binding without scheme the kind of the clash, and for one
+that is not general enough the path, may be another one, which is counted and shown. Either program may have words
+behind it: "infer-bench --simplify".
 """
 import collections
 import os
@@ -207,6 +209,18 @@ def module_of_forms(pick):
     return "".join(lines)
 
 
+def module_of_wide_record(pick):
+    forms = Forms(pick, 0)
+    names = pick.sample(NAMES, pick.randrange(1, 4))
+    scope = {name: "free" for name in names}
+    count = pick.choice([31, 32, 33, 64])
+    parts = [f"l{number} = {forms.of('any', scope, pick.choice([1, 1, 1, 3]))}" for number in range(count)]
+    record = "{" + ", ".join(parts) + "}"
+    if pick.random() < 0.3:
+        record = f"let r = {record} in {{m = r, n = r.l1}}"
+    return "let wide = " + "".join(f"fun {name} -> " for name in names) + record + "\n"
+
+
 class Types:
     """Types, each polar in its place but for slips."""
 
@@ -390,7 +404,7 @@ def main():
             write(files)
             compare(files, "check")
         else:
-            text = (module_of_forms if mode == "forms" else text_of)(pick)
+            text = {"forms": module_of_forms, "wide": module_of_wide_record}.get(mode, text_of)(pick)
             write({"main.ml": text})
             compare(text, "infer")
     for found, count in sorted(counts.items()):
