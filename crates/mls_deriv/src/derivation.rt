@@ -90,11 +90,11 @@ impl OwnStep {
         &mut self.step
     }
 
-    /// The step, out of its memory.
-    pub fn into_step(self) -> StepLine
-        ensures { result ≡ self }
+    /// Gives the step this environment.
+    pub fn set_env(&mut self, env: BinderNodes)
+        ensures { self.new ≡ record self.old { env = env } }
     {
-        Box::into_inner(self.step)
+        self.step.env = env;
     }
 }
 

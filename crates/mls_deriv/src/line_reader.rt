@@ -7,11 +7,12 @@ ghost use Rattle.mls_deriv.specs.Forms.{IsEntryForm, IsLineForm, IsStepForm};
 ghost use Rattle.mls_deriv.specs.Steps.{IsRising};
 ghost use Rattle.mls_deriv.specs.inner.Readings.{IsLineRead};
 
-use crate::derivation::{BinderNodes, OwnStep, SectionLine, StepLine};
+use crate::derivation::{BinderNodes, OwnStep, SectionLine};
 use crate::env::LONG;
 use crate::front::behind;
-use crate::print::{add_env, add_one};
+use crate::print::add_env;
 use crate::section_line::read_line;
+use itoa::Buffer;
 use mls_base::memory::Memory;
 use mls_book::book::NodeId;
 use std::alloc::Global;
@@ -23,6 +24,10 @@ use std::marker::Model;
 pub(crate) struct LineReader {
     env: BinderNodes,
     words: Vec<u8>,
+    // Room for a line without its environment.
+    short: Vec<u8>,
+    // Room for the words of what a line is read as.
+    text: Vec<u8>,
 }
 
 impl Model for LineReader {
@@ -48,6 +53,8 @@ impl LineReader {
         LineReader {
             env: BinderNodes::new(alloc),
             words: Vec::new(alloc),
+            short: Vec::new(alloc),
+            text: Vec::new(alloc),
         }
     }
 
@@ -60,9 +67,9 @@ impl LineReader {
         ensures { IfOk result (IsLineRead line.now) }
     {
         if let Some(step) = self.known(alloc, line)? {
-            return Ok(Some(SectionLine::Step(OwnStep::new(alloc, step)?)));
+            return Ok(Some(SectionLine::Step(step)));
         }
-        match read_line(alloc, line)? {
+        match read_line(alloc, &mut self.text, line)? {
             None => Ok(None),
             Some(found) => {
                 self.note(alloc, &found)?;
@@ -72,7 +79,7 @@ impl LineReader {
     }
 
     // The step that the line spells, if it has the environment that was read last.
-    fn known(&self, alloc: Global, line: &[u8]) -> Result<Option<StepLine>, Memory>
+    fn known(&mut self, alloc: Global, line: &[u8]) -> Result<Option<OwnStep>, Memory>
         ensures { IfOk result (λ found. IfSome found (λ step. IsStepForm step
             × (line.now ≡ line_words (Step step)))) }
     {
@@ -91,30 +98,26 @@ impl LineReader {
     // The step with that environment, between these two parts of its line: it is the step that the line without the
     // environment spells, with the environment put in.
     fn step_between(
-        &self,
+        &mut self,
         alloc: Global,
         front: &[u8],
         back: &[u8],
-    ) -> Result<Option<StepLine>, Memory>
+    ) -> Result<Option<OwnStep>, Memory>
         ensures { IfOk result (λ found. IfSome found (λ step. IsStepForm step
-            × (front.now ++ flat_map entry_words self.now ++ back.now ≡ line_words (Step step)))) }
+            × (front.now ++ flat_map entry_words self.old ++ back.now ≡ line_words (Step step)))) }
     {
-        let mut short = Vec::new(alloc);
-        short.extend_from_slice(front)?;
-        short.extend_from_slice(back)?;
-        let step = match read_line(alloc, short.as_slice())? {
-            Some(SectionLine::Step(step)) => step.into_step(),
+        self.short.clear();
+        self.short.extend_from_slice(front)?;
+        self.short.extend_from_slice(back)?;
+        let mut step = match read_line(alloc, &mut self.text, self.short.as_slice())? {
+            Some(SectionLine::Step(step)) => step,
             _ => return Ok(None),
         };
-        if !step.env.is_empty() || !is_type(alloc, back, step.root)? {
+        if !step.get().env.is_empty() || !is_type(back, step.get().root) {
             return Ok(None);
         }
-        Ok(Some(StepLine {
-            node: step.node,
-            rule: step.rule,
-            env: self.env.copy(alloc)?,
-            root: step.root,
-        }))
+        step.set_env(self.env.copy(alloc)?);
+        Ok(Some(step))
     }
 
     // Keeps the environment of a line, if it has a long one.
@@ -152,7 +155,7 @@ fn cut_at_env(line: &[u8]) -> Option<(&[u8], &[u8])>
     ensures { IfSome result (λ parts. line.now ≡ parts.0.now ++ parts.1.now) }
 {
     for at in 0..line.len() {
-        if line[at..].starts_with(b" env") {
+        if line[at] == b' ' && line[at..].starts_with(b" env") {
             return line.split_at_checked(at + 4);
         }
     }
@@ -160,10 +163,11 @@ fn cut_at_env(line: &[u8]) -> Option<(&[u8], &[u8])>
 }
 
 // Whether the bytes are the words of this type.
-fn is_type(alloc: Global, bytes: &[u8], root: NodeId) -> Result<bool, Memory>
-    ensures { IfOk result (λ same. IsTrue same ↔ (bytes.now ≡ codes " type" ++ number_word root.0)) }
+fn is_type(bytes: &[u8], root: NodeId) -> bool
+    ensures { IsTrue result ↔ (bytes.now ≡ codes " type" ++ number_word root.0) }
 {
-    let mut text = Vec::new(alloc);
-    add_one(&mut text, b" type", root.0)?;
-    Ok(text.as_slice() == bytes)
+    match behind(bytes, b" type ") {
+        None => false,
+        Some(word) => word == Buffer::new().format(root.0).as_bytes(),
+    }
 }

@@ -13,12 +13,12 @@ use mls_book::name::Name;
 use std::alloc::Global;
 
 /// The node that the line spells, if it is the line of a node. The words of the line tell which node it may be, and the
-/// line is the one that this node has.
+/// line is the one that this node has. What stands in `text` is lost: it is the room for the words of this node.
 ///
 /// # Errors
 ///
 /// `Memory` where memory is wanting.
-pub fn read_node(alloc: Global, line: &[u8]) -> Result<Option<Node>, Memory>
+pub fn read_node(alloc: Global, text: &mut Vec<u8>, line: &[u8]) -> Result<Option<Node>, Memory>
     ensures { IfOk result (IsNodeRead line.now) }
 {
     let words = Words::of(alloc, line)?;
@@ -26,20 +26,20 @@ pub fn read_node(alloc: Global, line: &[u8]) -> Result<Option<Node>, Memory>
     if !is_rising(&node) {
         return Ok(None);
     }
-    if is_spelled(alloc, &node, line)? {
+    if is_spelled(text, &node, line)? {
         Ok(Some(node))
     } else {
         Ok(None)
     }
 }
 
-// Whether the line spells the node.
-fn is_spelled(alloc: Global, node: &Node, line: &[u8]) -> Result<bool, Memory>
+// Whether the line spells the node, whose words are then in `text`.
+fn is_spelled(text: &mut Vec<u8>, node: &Node, line: &[u8]) -> Result<bool, Memory>
     ensures { IfOk result (λ same. IsTrue same ↔ (line.now ≡ codes "node" ++ node_words node.now)) }
 {
-    let mut text = Vec::new(alloc);
+    text.clear();
     text.extend_from_slice(b"node")?;
-    add_node(&mut text, node)?;
+    add_node(text, node)?;
     Ok(text.as_slice() == line)
 }
 

@@ -143,8 +143,9 @@ fn read_nodes(alloc: Global, text: &[u8]) -> Result<Run<'_>, Memory>
 {
     let mut rest = text;
     let mut nodes = Vec::new(alloc);
+    let mut words = Vec::new(alloc);
     while let Some(front) = front_of(rest) {
-        match read_node(alloc, front.line)? {
+        match read_node(alloc, &mut words, front.line)? {
             None => return Ok(Run { nodes, rest }),
             Some(node) => nodes.push(node)?,
         }

@@ -6,6 +6,7 @@ ghost use Rattle.mls_deriv.specs.inner.Guesses.{rule_word_of, rule_by};
 ghost use Rattle.mls_deriv.specs.inner.Readings.{IsLineRead, HasRisingBinders};
 
 use crate::derivation::{BinderNode, BinderNodes, Mode, OwnStep, SectionLine, StepLine, StepRule};
+use crate::env::LONG;
 use crate::print::add_words;
 use crate::steps::is_rising;
 use crate::words::Words;
@@ -15,12 +16,17 @@ use mls_book::book::NodeId;
 use std::alloc::Global;
 
 /// What the line spells, if it is a line that may stand behind the nodes of a section. The words of the line tell which
-/// it may be, and the line is the one that this has.
+/// it may be, and the line is the one that this has. What stands in `text` is lost: it is the room for the words of
+/// that one.
 ///
 /// # Errors
 ///
 /// `Memory` where memory is wanting.
-pub fn read_line(alloc: Global, line: &[u8]) -> Result<Option<SectionLine>, Memory>
+pub fn read_line(
+    alloc: Global,
+    text: &mut Vec<u8>,
+    line: &[u8],
+) -> Result<Option<SectionLine>, Memory>
     ensures { IfOk result (IsLineRead line.now) }
 {
     let words = Words::of(alloc, line)?;
@@ -28,19 +34,19 @@ pub fn read_line(alloc: Global, line: &[u8]) -> Result<Option<SectionLine>, Memo
     if !has_rising(&found) {
         return Ok(None);
     }
-    if is_spelled(alloc, &found, line)? {
+    if is_spelled(text, &found, line)? {
         Ok(Some(found))
     } else {
         Ok(None)
     }
 }
 
-// Whether the bytes are the words of the line.
-fn is_spelled(alloc: Global, found: &SectionLine, line: &[u8]) -> Result<bool, Memory>
+// Whether the bytes are the words of the line, which are then in `text`.
+fn is_spelled(text: &mut Vec<u8>, found: &SectionLine, line: &[u8]) -> Result<bool, Memory>
     ensures { IfOk result (λ same. IsTrue same ↔ (line.now ≡ line_words found.now)) }
 {
-    let mut text = Vec::with_capacity(alloc, line.len())?;
-    add_words(&mut text, found)?;
+    text.clear();
+    add_words(text, found)?;
     Ok(text.as_slice() == line)
 }
 
@@ -127,19 +133,30 @@ fn sum(first: usize, second: usize) -> Result<usize, Memory>
     first.checked_add(second).ok_or(Memory)
 }
 
-// The environment of these binders and nodes.
+// The environment of these binders and nodes, which is shared where it is long.
 fn env_of(alloc: Global, numbers: &[usize]) -> Result<BinderNodes, Memory>
     ensures { IfOk result (λ env. env ≡ env_guess numbers.now) }
 {
-    let mut env = BinderNodes::new(alloc);
+    let env = BinderNodes::of(entries_of(alloc, numbers)?);
+    if env.len() < LONG {
+        Ok(env)
+    } else {
+        env.share(alloc)
+    }
+}
+
+// These binders with their nodes.
+fn entries_of(alloc: Global, numbers: &[usize]) -> Result<Vec<BinderNode>, Memory>
+    ensures { IfOk result (λ entries. entries.items ≡ env_guess numbers.now) }
+{
+    let mut entries = Vec::with_capacity(alloc, numbers.len() / 2)?;
     for i in 0..numbers.len() / 2 {
-        env.push(BinderNode {
+        entries.push(BinderNode {
             binder: numbers[2 * i],
             node: NodeId(numbers[2 * i + 1]),
         })?;
     }
-    let shared = env.share(alloc)?;
-    Ok(shared)
+    Ok(entries)
 }
 
 // The kinds of rules, by their words. A word that is none of theirs counts as that of a record.

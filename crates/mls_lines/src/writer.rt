@@ -31,10 +31,11 @@ use mls_term::term::{TermForm, TermNode};
 use std::alloc::Global;
 use std::collections::BTreeMap;
 
-/// What is known of a part: its constraint, its chains of applications, the applications that conclude its type, and the
-/// types of names.
+/// What is known of a part: the nodes of its term, its constraint, its chains of applications, the applications that
+/// conclude its type, and the types of names.
 #[derive(Clone, Copy)]
 pub struct PartView<'a> {
+    pub nodes: &'a [TermNode],
     pub posing: &'a Posing,
     pub spines: &'a Spines,
     pub ending: Option<Ending>,
@@ -44,8 +45,9 @@ pub struct PartView<'a> {
 }
 
 /// The nodes of a part, the steps so far, what the nodes of the term conclude, the node of the greatest type, where a
-/// binder that is not used asked for one, how many nodes the meets of binders have, and the environment of each chain, by
-/// its first node, which has no binder where that of each node is its own.
+/// binder that is not used asked for one, how many nodes the meets of binders have, the environment of each chain, by
+/// its first node, which has no binder where that of each node is its own, and the functions that were made, by their
+/// domains and codomains.
 #[derive(Drop)]
 pub struct Writer {
     pub laid: LaidOut,
@@ -54,6 +56,7 @@ pub struct Writer {
     pub top: Option<NodeId>,
     pub widths: BTreeMap<usize, usize>,
     pub chains: BTreeMap<usize, BinderNodes>,
+    pub arrows: BTreeMap<(usize, usize), NodeId>,
 }
 
 /// What a node concludes: a binder may have any type, and another node has a step.
@@ -84,9 +87,9 @@ impl Writer {
         Ok(own)
     }
 
-    // The domain of what the node in front of this one has as its type: where this one is an argument without parts,
-    // that is the function. A binder has its own node.
-    fn domain_before(&self, view: &PartView, node: usize) -> Option<NodeId> {
+    /// The domain of what the node in front of this one has as its type: where this one is an argument without parts,
+    /// that is the function. A binder has its own node.
+    pub fn domain_before(&self, view: &PartView, node: usize) -> Option<NodeId> {
         let before = node.checked_sub(1)?;
         let root = match self.concluded.get(before)? {
             Concluded::Bound(x) => self.place(view.posing.binder(*x)),
@@ -96,8 +99,8 @@ impl Writer {
         Some(arrow.from)
     }
 
-    // Whether both nodes are `int`, or both are `bool`.
-    fn are_one_kind(&self, first: NodeId, second: NodeId) -> bool {
+    /// Whether both nodes are `int`, or both are `bool`.
+    pub fn are_one_kind(&self, first: NodeId, second: NodeId) -> bool {
         let book = &self.laid.book;
         if first.0 >= book.len() || second.0 >= book.len() {
             return false;

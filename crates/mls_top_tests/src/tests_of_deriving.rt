@@ -252,6 +252,105 @@ fn an_application_has_the_type_of_its_binding_at_once(rt: HostRuntime) -> Result
     Ok(())
 }
 
+// Derivations of a sum of one binder, which has one node in all of it and one function for two operators, and of a sum of
+// projections of a let, whose types are what the operator asks for.
+const SUM: &str = "derivation 1
+val sum : int -> int
+node fn 1 2
+node int
+node int
+node fn 4 5
+node int
+node fn 6 7
+node int
+node int
+node fn 4 7
+node fn 4 8
+node fn 7 8
+step 0 name 3 env type 3
+step 1 name 3 env type 3
+step 1 sub 1 env 0 4 type 9
+pair lr 3 9
+pair rl 4 4
+pair lr 5 8
+pair rl 4 6
+pair lr 7 7
+step 2 var env 0 4 type 4
+step 3 app 2 3 env 0 4 type 8
+step 4 var env 0 4 type 4
+step 5 app 4 5 env 0 4 type 7
+step 0 sub 0 env 0 4 type 10
+pair lr 3 10
+pair rl 7 4
+pair lr 5 8
+pair rl 4 6
+pair lr 7 7
+step 6 app 7 6 env 0 4 type 8
+step 7 var env 0 4 type 4
+step 8 app 8 9 env 0 4 type 7
+step 9 fun 10 env type 8
+step 9 sub 11 env type 0
+pair lr 8 0
+pair rl 1 4
+pair lr 7 2
+end
+";
+
+const PROJECTIONS: &str = "derivation 1
+val a : int
+node int
+node fn 2 3
+node int
+node fn 4 5
+node int
+node int
+node int
+node rcd p 6 q 6
+node int
+node rcd p 8 q 8
+node rcd p 2
+node rcd q 4
+step 0 lit env type 8
+step 1 lit env type 8
+step 2 make 0 1 env type 9
+step 2 sub 2 env type 7
+pair lr 9 7
+pair lr 8 6
+let 0 3
+step 3 name 1 env type 1
+step 4 use 3 env type 7
+step 4 sub 5 env type 10
+pair lr 7 10
+pair lr 6 2
+step 5 proj 6 env type 2
+step 6 app 4 7 env type 3
+step 7 use 3 env type 7
+step 7 sub 9 env type 11
+pair lr 7 11
+pair lr 6 4
+step 8 proj 10 env type 4
+step 9 app 8 11 env type 5
+step 10 let 3 12 env type 5
+step 10 sub 13 env type 0
+pair lr 5 0
+end
+";
+
+#[test]
+fn steps_by_pairs_go_to_what_saves_others(rt: HostRuntime) -> Result<(), Fail> {
+    let rows: [Row; 2] = [
+        ("main.ml let sum = fun x -> x + x + x", SUM, 0, 1),
+        (
+            "main.ml let a = let r = {p = 1, q = 2} in r.p + r.q",
+            PROJECTIONS,
+            0,
+            1,
+        ),
+    ];
+    are_answered(&rt, rt.alloc(), "derive", rows.as_slice())?;
+    Ok(())
+}
+
 #[test]
 fn derives_a_module_without_bindings(rt: HostRuntime) -> Result<(), Fail> {
     let rows: [Row; 3] = [

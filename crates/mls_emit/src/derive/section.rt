@@ -413,6 +413,7 @@ impl Draft {
             top: None,
             widths: BTreeMap::new(alloc),
             chains: BTreeMap::new(alloc),
+            arrows: BTreeMap::new(alloc),
         }
     }
 
@@ -442,6 +443,7 @@ impl Draft {
             _ => None,
         };
         let view = PartView {
+            nodes,
             posing,
             spines: &spines,
             ending,

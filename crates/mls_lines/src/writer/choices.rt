@@ -43,6 +43,7 @@ impl Writer {
         }
     }
 
+    /// The step of a conditional, behind those which bring its parts to one environment.
     ///
     /// # Errors
     ///

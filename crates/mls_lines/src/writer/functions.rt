@@ -13,6 +13,7 @@ use crate::writer::{PartView, Writer};
 use mls_base::memory::Memory;
 use mls_book::book::{Node, NodeId};
 use mls_deriv::derivation::{BinderNodes, StepRule};
+use mls_term::term::{TermForm, TermNode};
 use std::alloc::Global;
 
 // The type of the function of an application, and the environment of both parts.
@@ -22,23 +23,42 @@ struct Applied {
     env: BinderNodes,
 }
 
+// The binder that a node is applied to, if it is the function of an application to one.
+fn next_binder(nodes: &[TermNode], node: usize) -> Option<usize> {
+    let argument = node.checked_add(1)?;
+    let of = nodes.get(argument.checked_add(1)?)?;
+    let argument = nodes.get(argument)?;
+    match (&argument.form, &of.form) {
+        (TermForm::Bound(x), TermForm::Apply(function, _)) if *function == node => Some(*x),
+        _ => None,
+    }
+}
+
 impl Writer {
-    // A function from one node to another.
+    // A function from one node to another, which is made once.
     fn arrow(&mut self, from: NodeId, to: NodeId) -> Result<ArrowNode, Memory>
         ensures { OnOk result (Lengthens self.old.laid self.new.laid) }
     {
+        if let Some(node) = self.arrows.get(&(from.0, to.0)) {
+            return Ok(ArrowNode {
+                node: *node,
+                from,
+                to,
+            });
+        }
         let node = self.laid.book.push(Node::Arrow(from, to))?;
+        self.arrows.insert((from.0, to.0), node)?;
         Ok(ArrowNode { node, from, to })
     }
 
-    // The function with this codomain.
-    fn with_codomain(&mut self, arrow: ArrowNode, to: NodeId) -> Result<ArrowNode, Memory>
+    // The function with this domain and this codomain.
+    fn changed(&mut self, arrow: ArrowNode, from: NodeId, to: NodeId) -> Result<ArrowNode, Memory>
         ensures { OnOk result (Lengthens self.old.laid self.new.laid) }
     {
-        if arrow.to == to {
+        if arrow.from == from && arrow.to == to {
             return Ok(arrow);
         }
-        self.arrow(arrow.from, to)
+        self.arrow(from, to)
     }
 
     // The function of two arguments with this codomain behind both. Where it is none, it stays.
@@ -47,13 +67,14 @@ impl Writer {
     {
         match self.arrow_at(arrow.to) {
             Some(second) => {
-                let inner = self.with_codomain(second, to)?;
-                self.with_codomain(arrow, inner.node)
+                let inner = self.changed(second, second.from, to)?;
+                self.changed(arrow, arrow.from, inner.node)
             }
             None => Ok(arrow),
         }
     }
 
+    /// The step of a function, behind that which brings its body to its type.
     ///
     /// # Errors
     ///
@@ -76,15 +97,13 @@ impl Writer {
             Some(domain) => domain,
             None => self.greatest()?,
         };
-        let own_arrow = match domain == arrow.from && root == arrow.to {
-            true => arrow.node,
-            false => self.laid.book.push(Node::Arrow(domain, root))?,
-        };
+        let own_arrow = self.changed(arrow, domain, root)?;
         let env = without(alloc, own.as_slice(), x)?;
         self.steps
-            .step(alloc, node, StepRule::Fun(step), env, own_arrow)
+            .step(alloc, node, StepRule::Fun(step), env, own_arrow.node)
     }
 
+    /// The step of a recursion, whose binder has the type of its body.
     ///
     /// # Errors
     ///
@@ -125,7 +144,7 @@ impl Writer {
                 if ending.is_function {
                     self.with_last(arrow, ending.wanted)
                 } else {
-                    self.with_codomain(arrow, ending.wanted)
+                    self.changed(arrow, arrow.from, ending.wanted)
                 }
             }
             _ => Ok(arrow),
@@ -150,9 +169,45 @@ impl Writer {
         Ok((self.goal(view, node)?, false))
     }
 
+    // The domain of a function that is applied next. Where its argument is the only binder so far, which has a node of
+    // the same kind, that is this node, so that no step by pairs brings the binder to another one.
+    fn next_domain(
+        &self,
+        view: &PartView,
+        node: usize,
+        env: &BinderNodes,
+        domain: NodeId,
+    ) -> NodeId {
+        match (next_binder(view.nodes, node), env.as_slice()) {
+            (Some(x), [only]) if only.binder == x && self.are_one_kind(only.node, domain) => {
+                only.node
+            }
+            _ => domain,
+        }
+    }
+
+    // The codomain of the function of an application that has this environment.
+    fn codomain(
+        &mut self,
+        view: &PartView,
+        node: usize,
+        env: &BinderNodes,
+        to: NodeId,
+    ) -> Result<NodeId, Memory>
+        ensures { OnOk result (Lengthens self.old.laid self.new.laid) }
+    {
+        match self.arrow_at(to) {
+            Some(second) => {
+                let from = self.next_domain(view, node, env, second.from);
+                Ok(self.changed(second, from, second.to)?.node)
+            }
+            None => Ok(to),
+        }
+    }
+
     // The type of the function of an application and the environment of both parts. Where a function of this type needs
-    // a step by pairs in any case, and the argument has all binders, the function takes what the argument is, and the
-    // argument needs no step by pairs.
+    // a step by pairs in any case, it goes to what saves others: where the argument has all binders, the function takes
+    // what the argument is, and where its codomain is applied next to a binder, that takes what the binder is.
     fn met(
         &mut self,
         alloc: Global,
@@ -172,14 +227,19 @@ impl Writer {
             (function, arrow.node),
             (argument, own),
         )?;
-        let is_there = is_own && self.has_env(function, arrow.node, &env);
-        if is_there || own == arrow.from || !self.has_env(argument, own, &env) {
+        if is_own && self.has_env(function, arrow.node, &env) {
             return Ok(Applied { arrow, env });
         }
-        let arrow = self.arrow(own, arrow.to)?;
+        let from = match self.has_env(argument, own, &env) {
+            true => own,
+            false => arrow.from,
+        };
+        let to = self.codomain(view, node, &env, arrow.to)?;
+        let arrow = self.changed(arrow, from, to)?;
         Ok(Applied { arrow, env })
     }
 
+    /// The step of an application, behind those which bring its function and its argument to one environment.
     ///
     /// # Errors
     ///

@@ -10,7 +10,7 @@ ghost use Rattle.mls_lines.specs.Writer.{Grows, HasLowEnv, HaveRisingSteps, Leng
 
 use crate::steps::Conclusion;
 use crate::writer::nodes::behind;
-use crate::writer::{PartView, Writer};
+use crate::writer::{Concluded, PartView, Writer};
 use mls_base::list::List;
 use mls_base::memory::Memory;
 use mls_book::book::{Field, Fields, Node, NodeId};
@@ -223,6 +223,7 @@ impl Writer {
         Ok(env)
     }
 
+    /// The step of a record, behind those which bring its parts to one environment.
     ///
     /// # Errors
     ///
@@ -268,6 +269,53 @@ impl Writer {
         Ok((record, field))
     }
 
+    // Whether a node has a step that is not of this type, so that a step by pairs brings it there.
+    fn goes_over(&self, node: usize, root: NodeId) -> bool {
+        match self.concluded.get(node) {
+            Some(Concluded::Step(of)) => of.own_type() != Some(root),
+            _ => false,
+        }
+    }
+
+    // A record of this label alone.
+    fn one_field(&mut self, alloc: Global, label: &Name, field: NodeId) -> Result<NodeId, Memory>
+        ensures { OnOk result (Lengthens self.old.laid self.new.laid) }
+    {
+        let mut fields = Fields::new(alloc);
+        fields.push(Field {
+            label: label.clone()?,
+            node: field,
+        })?;
+        let id = self.laid.book.push(Node::Rcd(fields))?;
+        Ok(id)
+    }
+
+    // The type of the record of a projection, with its field. Where a record needs a step by pairs in any case, its field
+    // is what the function in front of it asks for, so that no step by pairs brings the field there.
+    fn projected_for(
+        &mut self,
+        alloc: Global,
+        view: &PartView,
+        node: usize,
+        body: usize,
+        label: &Name,
+    ) -> Result<(NodeId, NodeId), Memory>
+        ensures { OnOk result (Lengthens self.old.laid self.new.laid) }
+    {
+        let (record, field) = self.projected(view, node, body, label)?;
+        if !self.goes_over(body, record) {
+            return Ok((record, field));
+        }
+        match self.domain_before(view, body) {
+            Some(domain) if domain != field && self.are_one_kind(domain, field) => {
+                let own = self.one_field(alloc, label, domain)?;
+                Ok((own, domain))
+            }
+            _ => Ok((record, field)),
+        }
+    }
+
+    /// The step of a projection, behind that which brings its record to one with the field.
     ///
     /// # Errors
     ///
@@ -280,9 +328,9 @@ impl Writer {
         body: usize,
         label: &Name,
     ) -> Result<Conclusion, Memory>
-        ensures { OnOk result (self.new.laid ≡ self.old.laid) }
+        ensures { OnOk result (Lengthens self.old.laid self.new.laid) }
     {
-        let (record, field) = self.projected(view, node, body, label)?;
+        let (record, field) = self.projected_for(alloc, view, node, body, label)?;
         let env = self.offered(alloc, view, body, record)?;
         let step = self.reached(alloc, body, &env, record)?;
         self.steps

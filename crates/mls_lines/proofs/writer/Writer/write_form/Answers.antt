@@ -42,7 +42,7 @@ pub returns-in-Make : goal.returns-in-Make
 returns-in-Make c = stepped_long c.make.result c.stepped-in-Make.result c.stepped-in-Make.ensures c.args.self.now.laid c.make.new.self.laid c.make.ensures
 
 pub returns-in-Project : goal.returns-in-Project
-returns-in-Project c = stepped_kept c.project.result c.stepped-in-Project.result c.stepped-in-Project.ensures c.args.self.now.laid c.project.new.self.laid c.project.ensures
+returns-in-Project c = stepped_long c.project.result c.stepped-in-Project.result c.stepped-in-Project.ensures c.args.self.now.laid c.project.new.self.laid c.project.ensures
 
 pub returns-in-If : goal.returns-in-If
 returns-in-If c = stepped_long c.choice.result c.stepped-in-If.result c.stepped-in-If.ensures c.args.self.now.laid c.choice.new.self.laid c.choice.ensures
